@@ -346,6 +346,8 @@ fn exit_with(rt: &HostRuntime, verdict: Verdict) -> ExitCode {
     match verdict {
         Verdict::Alike => ExitCode::from(0),
         Verdict::Several => ExitCode::from(5),
+        Verdict::SearchedAlike => ExitCode::from(0),
+        Verdict::SearchedSeveral => ExitCode::from(5),
         Verdict::Open => ExitCode::from(6),
         Verdict::Ended(status) => exit(rt, status),
     }

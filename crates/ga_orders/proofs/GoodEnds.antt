@@ -15,7 +15,7 @@ use Rattle.ga_check.specs.Tallies.{AreAlike, IsTally}
 use Rattle.ga_check.specs.declared.tally.EndKind.{EndKind}
 use Rattle.ga_check.specs.declared.tally.Tally.{Tally}
 use Rattle.ga_check.specs.declared.tally.Fate.{Fate}
-use Rattle.ga_check.specs.declared.tally.Fate.TheVariants.{Quiet, Reads, Writes, Stopped}
+use Rattle.ga_check.specs.declared.tally.Fate.TheVariants.{Quiet, Reads, Writes, Polls, Stopped}
 use Rattle.ga_orders.specs.EveryOrder.{is_stop_fate, has_stop, is_faultless}
 
 -- ---- tests that fail
@@ -39,11 +39,12 @@ faultless_parts tally h =
 
 -- ---- kinds in which a node is stopped
 
-stop_code : (fate : Fate) → is_stop_fate fate ≡ nat_lt 2 (fate_code fate)
+stop_code : (fate : Fate) → is_stop_fate fate ≡ nat_lt 3 (fate_code fate)
 stop_code Quiet = refl
 stop_code Reads = refl
 stop_code Writes = refl
-stop_code (Stopped code) = sym (lt-ltb 2 (3 + code) (omega arith))
+stop_code Polls = refl
+stop_code (Stopped code) = sym (lt-ltb 3 (4 + code) (omega arith))
 
 same_stops : (ones others : List Fate) → are_same ones others ≡ true → list_any is_stop_fate ones ≡ list_any is_stop_fate others
 same_stops [] [] e = refl
@@ -51,7 +52,7 @@ same_stops [] (other ∷ others) e = absurd (cc)
 same_stops (one ∷ ones) [] e = absurd (cc)
 same_stops (one ∷ ones) (other ∷ others) e =
     let p = and_parts (fate_code one == fate_code other) (are_same ones others) e in
-    ap₂ (λ (a b : Bool). a || b) (stop_code one ∙ ap (nat_lt 2) (eqb-true (fate_code one) (fate_code other) p.0) ∙ sym (stop_code other)) (same_stops ones others p.1)
+    ap₂ (λ (a b : Bool). a || b) (stop_code one ∙ ap (nat_lt 3) (eqb-true (fate_code one) (fate_code other) p.0) ∙ sym (stop_code other)) (same_stops ones others p.1)
 
 order_stops : (nodes : List Fate) (number : ℕ) (kinds : List EndKind) → list_any has_stop (with_order nodes number kinds) ≡ false
     → (list_any has_stop kinds ≡ false) × (list_any is_stop_fate nodes ≡ false)

@@ -1,7 +1,7 @@
 -- What `ga144 check` may write, and how it may end (docs/REFERENCE.md, "Every order"; this project's own). Orders are those of
 -- Mazurkiewicz, "Trace theory", 1987; each is run once, and no list of them is kept: Flanagan and Godefroid, "Dynamic partial-order
 -- reduction for model checking software", 2005.
-use Rattle.std.specs.Prelude.{◌≡◌, ℕ, nat_lt, ◌⊎◌, Bool, true, false, not, ◌&&◌, ◌||◌, if◌then◌else◌, List, ◌++◌, Result, Ok, Err}
+use Rattle.std.specs.Prelude.{◌≡◌, ℕ, nat_lt, ◌⊎◌, Bool, true, false, not, ◌&&◌, ◌||◌, if◌then◌else◌, List, ◌++◌, All, Result, Ok, Err}
 use Rattle.std.specs.List.{list_any}
 use Rattle.ga_text.specs.Lines.{Bytes, Text}
 use Rattle.ga_event.specs.declared.event.Event.{Event}
@@ -9,11 +9,12 @@ use Rattle.ga_lab.specs.Machine.{State, chip_of}
 use Rattle.ga_lab.specs.declared.fault.LabFault.TheVariants as fault
 use Rattle.ga_check.specs.Every.{IsSomeOrders, IsEveryOrder, ends_of}
 use Rattle.ga_check.specs.Reached.{IsOrderReached}
+use Rattle.ga_check.specs.Runs.{Rests, IsRunReached}
 use Rattle.ga_check.specs.Tallies.{IsTally}
 use Rattle.ga_check.specs.declared.tally.Tally.{Tally}
 use Rattle.ga_check.specs.declared.tally.EndKind.{EndKind}
 use Rattle.ga_check.specs.declared.tally.Fate.{Fate}
-use Rattle.ga_check.specs.declared.tally.Fate.TheVariants.{Quiet, Reads, Writes, Stopped}
+use Rattle.ga_check.specs.declared.tally.Fate.TheVariants.{Quiet, Reads, Writes, Polls, Stopped}
 use Rattle.ga_check.specs.declared.tally.Stop.{Stop}
 use Rattle.ga_check.specs.declared.tally.Stop.TheVariants.{Reached, Memory}
 use Rattle.ga_text.specs.Output.{Begins}
@@ -26,7 +27,7 @@ use Rattle.ga_orders.specs.Settled.{begun_from}
 use Rattle.ga_answers.specs.Saved.{saved_text}
 use Rattle.ga_explorer.specs.Exploring.{Exploring}
 use Rattle.ga_orders.specs.declared.every_order.Verdict.{Verdict}
-use Rattle.ga_orders.specs.declared.every_order.Verdict.TheVariants.{Alike, Several, Open, Ended}
+use Rattle.ga_orders.specs.declared.every_order.Verdict.TheVariants.{Alike, Several, SearchedAlike, SearchedSeveral, Open, Ended}
 
 -- A tally tells orders of the machine's chip, and of all of them where it says so.
 abbrev pub IsTallyOf : State → Tally → Type 0
@@ -40,11 +41,22 @@ IsSearched asked s (Ok tally) last = IsTallyOf s tally
 IsSearched asked s (Err Reached) last = IsOrderReached s asked last
 IsSearched asked s (Err Memory) last = Unit {0}
 
+-- The same where a node looks: a tally of runs that come to rest. That they are all, and each once, is tested.
+abbrev pub IsLooked : ℕ → State → Result Tally Stop → State → Type 0
+IsLooked asked s (Ok tally) last = (runs : List (List Event)) × All (Rests (chip_of s)) runs × IsTally tally (ends_of (chip_of s) runs)
+IsLooked asked s (Err Reached) last = IsRunReached s asked last
+IsLooked asked s (Err Memory) last = Unit {0}
+
+abbrev pub IsFound : Bool → ℕ → State → Result Tally Stop → State → Type 0
+IsFound false asked s found last = IsSearched asked s found last
+IsFound true asked s found last = IsLooked asked s found last
+
 -- a node is stopped at such an end
 abbrev pub is_stop_fate : Fate → Bool
 is_stop_fate Quiet = false
 is_stop_fate Reads = false
 is_stop_fate Writes = false
+is_stop_fate Polls = false
 is_stop_fate (Stopped code) = true
 
 abbrev pub has_stop : EndKind → Bool
@@ -79,14 +91,35 @@ found_verdict asked (Ok tally) = tally_verdict asked tally
 found_verdict asked (Err Reached) = Alike
 found_verdict asked (Err Memory) = Ended ImageRefused
 
+-- the verdict where a node looks: that the orders are all is tested
+abbrev pub searched : Verdict → Verdict
+searched Alike = SearchedAlike
+searched Several = SearchedSeveral
+searched SearchedAlike = SearchedAlike
+searched SearchedSeveral = SearchedSeveral
+searched Open = Open
+searched (Ended status) = Ended status
+
+abbrev pub said_verdict : Bool → Verdict → Verdict
+said_verdict false verdict = verdict
+said_verdict true verdict = searched verdict
+
 -- a text was written whole, or that failed
 abbrev pub IsTextOut : Text → Verdict → Text → Verdict → Type 0
 IsTextOut whole verdict text end = ((text ≡ whole) × (end ≡ verdict)) ⊎ (Begins whole text × (end ≡ Ended StreamFault))
 
 pub record TellsOrders (asked : ℕ) (s : State) (text : Text) (verdict : Verdict) : Type 0 where
+  pub looks : Bool
   pub found : Result Tally Stop
   pub last : State
-  pub is_searched : IsSearched asked s found last
+  pub is_found : IsFound looks asked s found last
+  pub told : IsTextOut (found_text asked found last) (said_verdict looks (found_verdict asked found)) text verdict
+
+-- what is told where a node looks, before the verdict says so
+pub record TellsLooks (asked : ℕ) (s : State) (text : Text) (verdict : Verdict) : Type 0 where
+  pub found : Result Tally Stop
+  pub last : State
+  pub is_looked : IsLooked asked s found last
   pub told : IsTextOut (found_text asked found last) (found_verdict asked found) text verdict
 
 -- these are all orders of a machine's chip, and what they come to was told

@@ -5,7 +5,7 @@ use Rattle.ga_text.specs.Lines.{Text}
 use Rattle.ga_check.specs.declared.tally.Tally.{Tally}
 use Rattle.ga_check.specs.declared.tally.EndKind.{EndKind}
 use Rattle.ga_check.specs.declared.tally.Fate.{Fate}
-use Rattle.ga_check.specs.declared.tally.Fate.TheVariants.{Quiet, Reads, Writes, Stopped}
+use Rattle.ga_check.specs.declared.tally.Fate.TheVariants.{Quiet, Reads, Writes, Polls, Stopped}
 use Rattle.ga_answers.specs.Waiting.{name_text, each_node}
 
 -- so many of a thing
@@ -38,30 +38,39 @@ abbrev pub stop_item : Fate → ℕ → Text
 stop_item Quiet n = []
 stop_item Reads n = []
 stop_item Writes n = []
+stop_item Polls n = []
 stop_item (Stopped code) n = codes ", " ++ name_text n ++ codes " stop " ++ decimal code
 
--- a node that waits for a word, or for one to be taken
-abbrev pub waiting_item : Fate → ℕ → Text
-waiting_item Quiet n = []
-waiting_item Reads n = codes " " ++ name_text n
-waiting_item Writes n = codes " " ++ name_text n
-waiting_item (Stopped code) n = []
+-- a node that polls; or else one that waits for a word, or for one to be taken
+abbrev pub doing_item : Bool → Fate → ℕ → Text
+doing_item polls Quiet n = []
+doing_item polls Reads n = if polls then [] else codes " " ++ name_text n
+doing_item polls Writes n = if polls then [] else codes " " ++ name_text n
+doing_item polls Polls n = if polls then codes " " ++ name_text n else []
+doing_item polls (Stopped code) n = []
 
 abbrev pub stop_items : List Fate → Text
 stop_items nodes = each_node (λ n. stop_item (fate_at nodes n) n) 0 144
 
-abbrev pub waiting_items : List Fate → Text
-waiting_items nodes = each_node (λ n. waiting_item (fate_at nodes n) n) 0 144
+abbrev pub doing_items : Bool → List Fate → Text
+doing_items polls nodes = each_node (λ n. doing_item polls (fate_at nodes n) n) 0 144
 
--- the nodes that wait, behind this, where there are any
-abbrev pub waiting_tail : Text → Text → Text → Text
-waiting_tail none before [] = none
-waiting_tail none before (blank ∷ names) = before ++ (blank ∷ names) ++ codes " waiting"
+-- the nodes that wait or poll, behind this, where there are any
+abbrev pub doing_tail : Text → Text → Text → Text → Text
+doing_tail none before does [] = none
+doing_tail none before does (blank ∷ names) = before ++ (blank ∷ names) ++ does
 
--- what the nodes do, of which these stop and these wait; the first of those that stop has no comma before it
-abbrev pub end_text : Text → Text → Text
-end_text [] waiting = waiting_tail (codes "quiet") (codes "with") waiting
-end_text (comma ∷ stops) waiting = codes "with" ++ stops ++ waiting_tail [] (codes ",") waiting
+-- what nodes do of which none stops
+abbrev pub unstopped_text : Text → Text → Text
+unstopped_text [] polling = doing_tail (codes "quiet") (codes "with") (codes " polling") polling
+unstopped_text (blank ∷ names) polling =
+    codes "with" ++ (blank ∷ names) ++ codes " waiting" ++ doing_tail [] (codes ",") (codes " polling") polling
+
+-- what the nodes do, of which these stop, these wait and these poll; the first of those that stop has no comma before it
+abbrev pub end_text : Text → Text → Text → Text
+end_text [] waiting polling = unstopped_text waiting polling
+end_text (comma ∷ stops) waiting polling =
+    codes "with" ++ stops ++ doing_tail [] (codes ",") (codes " waiting") waiting ++ doing_tail [] (codes ",") (codes " polling") polling
 
 abbrev pub verb_text : ℕ → Text
 verb_text orders = if orders == 1 then codes " ends " else codes " end "
@@ -71,7 +80,8 @@ abbrev pub end_kind_line : ℕ → Text → ℕ → Text
 end_kind_line orders end first = decimal orders ++ verb_text orders ++ end ++ codes ": --session " ++ decimal first ++ codes "\n"
 
 abbrev pub end_kind_text : EndKind → Text
-end_kind_text kind = end_kind_line kind.orders (end_text (stop_items kind.nodes) (waiting_items kind.nodes)) kind.first
+end_kind_text kind =
+    end_kind_line kind.orders (end_text (stop_items kind.nodes) (doing_items false kind.nodes) (doing_items true kind.nodes)) kind.first
 
 -- a line of all, and one for each of these kinds
 abbrev pub orders_with : Tally → List EndKind → Text

@@ -9,13 +9,14 @@ ghost use Rattle.ga_display.specs.Texts.{refusal_text};
 ghost use Rattle.ga_orders.specs.Settled.{begun_from};
 ghost use Rattle.ga_answers.specs.Saved.{saved_text};
 ghost use Rattle.ga_orders.specs.OrderTexts.{orders_text, no_order_text};
-ghost use Rattle.ga_orders.specs.EveryOrder.{TellsOrders, ChecksOrders, IsTextOut, has_stop, is_faultless, is_stop_fate, verdict_of, no_order_verdict, tally_text, tally_verdict};
+ghost use Rattle.ga_orders.specs.EveryOrder.{TellsOrders, ChecksOrders, IsTextOut, has_stop, is_faultless, is_stop_fate, verdict_of, no_order_verdict, tally_text, tally_verdict, searched, TellsLooks};
 ghost use Rattle.ga_orders.specs.declared.every_order.Verdict.TheVariants.{Alike, Ended};
 ghost use Rattle.ga_console.specs.declared.run.Status.TheVariants.{ImageRefused};
 
 use crate::orders_text::{say_no_order, say_orders};
 use crate::settling::settle;
 use ga_answers::say_saved;
+use ga_check::looking::check_looks;
 use ga_check::orders::{Bounds, check_shared};
 use ga_check::tally::{EndKind, Fate, Stop, Tally};
 use ga_console::Status;
@@ -35,6 +36,10 @@ pub enum Verdict {
     Alike,
     /// They end on several chips, or with a node that is stopped.
     Several,
+    /// As `Alike`, where a node looks: that the orders are all is tested.
+    SearchedAlike,
+    /// As `Several`, where a node looks: that the orders are all is tested.
+    SearchedSeveral,
     /// There may be others than were met.
     Open,
     /// No orders were told, or a write failed.
@@ -118,10 +123,71 @@ fn tell_orders<S: Threads + Sync, W: Write>(
     ensures { (before : Bytes) → W.contents writer.old ≡ Some before →
         (text : Bytes) × (W.contents writer.new ≡ Some (before ++ text)) × TellsOrders asked lab.old text result }
 {
+    match check_shared(rt, alloc, lab, bounds, 0, workers, made) {
+        Ok(tally) => {
+            if tally.looks {
+                searched(tell_looks(alloc, lab, bounds, asked, made, writer))
+            } else if asked == 0 || is_missing(asked, &tally) {
+                tell_tally(asked, &tally, writer)
+            } else {
+                tell_asked(rt, alloc, lab, bounds, asked, workers, made, writer)
+            }
+        }
+        Err(_) => tell_no_memory(writer),
+    }
+}
+
+/// Tells the session of an order, where no node looks.
+fn tell_asked<S: Threads + Sync, W: Write>(
+    rt: &S,
+    alloc: Global,
+    lab: &mut Lab,
+    bounds: Bounds,
+    asked: u64,
+    workers: u32,
+    made: &AtomicU64,
+    writer: &mut W,
+) -> Verdict
+    ensures { (before : Bytes) → W.contents writer.old ≡ Some before →
+        (text : Bytes) × (W.contents writer.new ≡ Some (before ++ text)) × TellsOrders asked lab.old text result }
+{
     match check_shared(rt, alloc, lab, bounds, asked, workers, made) {
         Ok(tally) => tell_tally(asked, &tally, writer),
         Err(Stop::Reached) => tell_session(lab, writer),
-        Err(Stop::Memory) => tell_no_memory(writer),
+        Err(_) => tell_no_memory(writer),
+    }
+}
+
+/// Tells the same where a node looks.
+fn tell_looks<W: Write>(
+    alloc: Global,
+    lab: &mut Lab,
+    bounds: Bounds,
+    asked: u64,
+    made: &AtomicU64,
+    writer: &mut W,
+) -> Verdict
+    ensures { (before : Bytes) → W.contents writer.old ≡ Some before →
+        (text : Bytes) × (W.contents writer.new ≡ Some (before ++ text)) × TellsLooks asked lab.old text result }
+{
+    match check_looks(alloc, lab, bounds, asked, made) {
+        Ok(tally) => tell_tally(asked, &tally, writer),
+        Err(Stop::Reached) => tell_session(lab, writer),
+        Err(_) => tell_no_memory(writer),
+    }
+}
+
+/// The verdict where a node looks.
+fn searched(verdict: Verdict) -> Verdict
+    ensures { result ≡ searched verdict }
+{
+    match verdict {
+        Verdict::Alike => Verdict::SearchedAlike,
+        Verdict::Several => Verdict::SearchedSeveral,
+        Verdict::SearchedAlike => verdict,
+        Verdict::SearchedSeveral => verdict,
+        Verdict::Open => verdict,
+        Verdict::Ended(_) => verdict,
     }
 }
 
@@ -253,6 +319,7 @@ fn is_stop(fate: Fate) -> bool
         Fate::Quiet => false,
         Fate::Reads => false,
         Fate::Writes => false,
+        Fate::Polls => false,
         Fate::Stopped(_) => true,
     }
 }

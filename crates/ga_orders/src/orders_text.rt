@@ -1,11 +1,11 @@
 //! How the orders of a program end, told line by line.
 
-ghost use Rattle.std.specs.Prelude.{◌≡◌, ◌+◌, ◌≤◌, ◌++◌, length, codes};
+ghost use Rattle.std.specs.Prelude.{◌≡◌, ◌+◌, ◌≤◌, ◌++◌, length, codes, true, false, if◌then◌else◌, []};
 ghost use Rattle.arrayvec.specs.ArrayVec.{array_vec_len};
 ghost use Rattle.ga_text.specs.Lines.{Bytes};
 ghost use Rattle.ga_text.specs.Output.{IsSaid, IsSaidOrCut};
 ghost use Rattle.ga_text.specs.kept.Output.{Says};
-ghost use Rattle.ga_orders.specs.OrderTexts.{counted_text, alike_text, kinds_head, bound_text, orders_head, fate_at, stop_item, waiting_item, stop_items, waiting_items, waiting_tail, end_text, verb_text, end_kind_line, end_kind_text, orders_with, orders_text, no_order_text};
+ghost use Rattle.ga_orders.specs.OrderTexts.{counted_text, alike_text, kinds_head, bound_text, orders_head, fate_at, stop_item, doing_item, stop_items, doing_items, doing_tail, unstopped_text, end_text, verb_text, end_kind_line, end_kind_text, orders_with, orders_text, no_order_text};
 ghost use Rattle.ga_answers.specs.Waiting.{name_text};
 
 use arrayvec::ArrayVec;
@@ -29,7 +29,7 @@ const WAITING_ROOM: usize = b" 717".len();
 
 const ALL_WAITING_ROOM: usize = 144 * WAITING_ROOM;
 
-/// The nodes that wait.
+/// The nodes that wait, or those that poll.
 type AllWaiting = ArrayVec<u8, ALL_WAITING_ROOM>;
 
 /// The most bytes of what the nodes do at an end.
@@ -37,7 +37,10 @@ const END_ROOM: usize = b"with".len()
     + STOPS_ROOM
     + b",".len()
     + ALL_WAITING_ROOM
-    + b" waiting".len();
+    + b" waiting".len()
+    + b",".len()
+    + ALL_WAITING_ROOM
+    + b" polling".len();
 
 /// The most bytes of the line of a kind of end.
 const KIND_ROOM: usize = NUMBER_ROOM
@@ -190,25 +193,28 @@ fn kind_line(kind: &EndKind) -> KindLine
     ensures { result.items ≡ end_kind_text kind.now }
 {
     let stops = stops_among(&kind.nodes);
-    let waiting = waiting_among(&kind.nodes);
+    let waiting = doing_among(false, &kind.nodes);
+    let polling = doing_among(true, &kind.nodes);
     line_of_end(
         kind.orders,
         stops.as_slice(),
         waiting.as_slice(),
+        polling.as_slice(),
         kind.first,
     )
 }
 
-/// The line of so many orders that end so, where these nodes are stopped and these wait.
-fn line_of_end(orders: u64, stops: &[u8], waiting: &[u8], first: u64) -> KindLine
+/// The line of so many orders that end so, where these nodes are stopped, these wait and these poll.
+fn line_of_end(orders: u64, stops: &[u8], waiting: &[u8], polling: &[u8], first: u64) -> KindLine
     requires stops { length stops.now ≤ STOPS_ROOM }
     requires waiting { length waiting.now ≤ ALL_WAITING_ROOM }
-    ensures { result.items ≡ end_kind_line orders (end_text stops.now waiting.now) first }
+    requires polling { length polling.now ≤ ALL_WAITING_ROOM }
+    ensures { result.items ≡ end_kind_line orders (end_text stops.now waiting.now polling.now) first }
 {
     let mut out = ArrayVec::new();
     push_number(&mut out, orders);
     push_text(&mut out, verb_text(orders));
-    push_end(&mut out, stops, waiting);
+    push_end(&mut out, stops, waiting, polling);
     push_text(&mut out, b": --session ");
     push_number(&mut out, first);
     push_text(&mut out, b"\n");
@@ -222,36 +228,54 @@ fn verb_text(orders: u64) -> &'static [u8]
     if orders == 1 { b" ends " } else { b" end " }
 }
 
-/// Adds what the nodes do, of which these are stopped and these wait.
-fn push_end(out: &mut KindLine, stops: &[u8], waiting: &[u8])
+/// Adds what the nodes do, of which these are stopped, these wait and these poll.
+fn push_end(out: &mut KindLine, stops: &[u8], waiting: &[u8], polling: &[u8])
     requires room { array_vec_len out.old + END_ROOM ≤ KIND_ROOM }
     requires stops { length stops.now ≤ STOPS_ROOM }
     requires waiting { length waiting.now ≤ ALL_WAITING_ROOM }
-    ensures text { out.new.items ≡ out.old.items ++ end_text stops.now waiting.now }
+    requires polling { length polling.now ≤ ALL_WAITING_ROOM }
+    ensures text { out.new.items ≡ out.old.items ++ end_text stops.now waiting.now polling.now }
     ensures len { array_vec_len out.new ≤ array_vec_len out.old + END_ROOM }
 {
     match stops.split_first() {
-        None => push_waiting(out, b"quiet", b"with", waiting),
+        None => push_unstopped(out, waiting, polling),
         Some((_, named)) => {
             push_text(out, b"with");
             push_text(out, named);
-            push_waiting(out, b"", b",", waiting);
+            push_doing(out, b"", b",", b" waiting", waiting);
+            push_doing(out, b"", b",", b" polling", polling);
         }
     }
 }
 
-/// Adds the nodes that wait behind `before`, or `none` where there are none.
-fn push_waiting(out: &mut KindLine, none: &[u8], before: &[u8], waiting: &[u8])
-    requires { array_vec_len out.old + 8 + length none.now + length before.now + length waiting.now ≤ KIND_ROOM }
-    ensures text { out.new.items ≡ out.old.items ++ waiting_tail none.now before.now waiting.now }
-    ensures len { array_vec_len out.new ≤ array_vec_len out.old + 8 + length none.now + length before.now + length waiting.now }
+/// Adds what nodes do of which none is stopped.
+fn push_unstopped(out: &mut KindLine, waiting: &[u8], polling: &[u8])
+    requires { array_vec_len out.old + 40 + length waiting.now + length polling.now ≤ KIND_ROOM }
+    ensures text { out.new.items ≡ out.old.items ++ unstopped_text waiting.now polling.now }
+    ensures len { array_vec_len out.new ≤ array_vec_len out.old + 21 + length waiting.now + length polling.now }
 {
     if waiting.is_empty() {
+        push_doing(out, b"quiet", b"with", b" polling", polling);
+    } else {
+        push_text(out, b"with");
+        push_text(out, waiting);
+        push_text(out, b" waiting");
+        push_doing(out, b"", b",", b" polling", polling);
+    }
+}
+
+/// Adds the nodes that wait or poll behind `before`, or `none` where there are none.
+fn push_doing(out: &mut KindLine, none: &[u8], before: &[u8], does: &[u8], names: &[u8])
+    requires { array_vec_len out.old + length none.now + length before.now + length does.now + length names.now ≤ KIND_ROOM }
+    ensures text { out.new.items ≡ out.old.items ++ doing_tail none.now before.now does.now names.now }
+    ensures len { array_vec_len out.new ≤ array_vec_len out.old + length none.now + length before.now + length does.now + length names.now }
+{
+    if names.is_empty() {
         push_text(out, none);
     } else {
         push_text(out, before);
-        push_text(out, waiting);
-        push_text(out, b" waiting");
+        push_text(out, names);
+        push_text(out, does);
     }
 }
 
@@ -288,29 +312,41 @@ fn push_stop(out: &mut Stops, fate: Fate, node: NodeId)
     }
 }
 
-/// The nodes that wait, each behind a blank.
-fn waiting_among(nodes: &[Fate; 144]) -> AllWaiting
-    ensures { result.items ≡ waiting_items nodes.now }
+/// The nodes that poll, or those that wait, each behind a blank.
+fn doing_among(polls: bool, nodes: &[Fate; 144]) -> AllWaiting
+    ensures { result.items ≡ doing_items polls nodes.now }
 {
     let mut out = ArrayVec::new();
     'nodes: for number in 0..144u8 {
         let node = NodeId::new(number);
-        push_waiting_node(&mut out, fate_at(nodes, node), node);
+        push_doing_node(&mut out, polls, fate_at(nodes, node), node);
     }
     out
 }
 
-/// Adds a node that waits.
-fn push_waiting_node(out: &mut AllWaiting, fate: Fate, node: NodeId)
+/// Adds a node that polls, or one that waits.
+fn push_doing_node(out: &mut AllWaiting, polls: bool, fate: Fate, node: NodeId)
     requires { array_vec_len out.old + WAITING_ROOM ≤ ALL_WAITING_ROOM }
-    ensures text { out.new.items ≡ out.old.items ++ waiting_item fate node.number }
+    ensures text { out.new.items ≡ out.old.items ++ doing_item polls fate node.number }
     ensures len { array_vec_len out.new ≤ array_vec_len out.old + WAITING_ROOM }
 {
     match fate {
         Fate::Quiet => {}
-        Fate::Reads => push_blank_node(out, node),
-        Fate::Writes => push_blank_node(out, node),
+        Fate::Reads => push_node_if(out, !polls, node),
+        Fate::Writes => push_node_if(out, !polls, node),
+        Fate::Polls => push_node_if(out, polls, node),
         Fate::Stopped(_) => {}
+    }
+}
+
+/// Adds a blank and a node, if so.
+fn push_node_if(out: &mut AllWaiting, is_so: bool, node: NodeId)
+    requires { array_vec_len out.old + WAITING_ROOM ≤ ALL_WAITING_ROOM }
+    ensures text { out.new.items ≡ out.old.items ++ (if is_so then codes " " ++ name_text node.number else []) }
+    ensures len { array_vec_len out.new ≤ array_vec_len out.old + WAITING_ROOM }
+{
+    if is_so {
+        push_blank_node(out, node);
     }
 }
 

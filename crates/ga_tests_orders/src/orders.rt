@@ -1,12 +1,16 @@
 //! Every order of small programs: servers that take words from whoever comes first, and clients that send them.
 
+use ga_check::looking::check_looks;
 use ga_check::orders::{Bounds, check};
 use ga_check::tally::{EndKind, Fate, Stop, Tally};
 use ga_grid::NodeId;
 use ga_image::parse;
 use ga_lab::Lab;
+use ga_node::{Place, Wait};
+use ga_ports::Side;
 use std::alloc::Global;
 use std::process::Abort;
+use std::sync::atomic::AtomicU64;
 use std::test::Fail;
 
 /// As many events as a run may have.
@@ -55,6 +59,26 @@ const POLL_1X1: &[u8] =
 /// A node that looks three times, and gives up.
 const TIMEOUT_3: &[u8] =
     b"ga144 1\nnode 101\np 000000\nram 00 0048b2 000002 004b07 00015d 008000 03f30b 03acef 0001d5\nram 08 029f12 000115 02f5b2 03b002 005dbd 03ffff 000115\nnode 100\np 000000\nram 00 004b12 0001d5 000007 02e9b2 00427c 000003 005b12 000005\nram 08 000115 02f5b2\nend\n";
+
+/// Two words.
+const POLL_1X2: &[u8] =
+    b"ga144 1\nnode 101\np 000000\nram 00 005da2 000002 00003b 009daa 000020 004b03 00015d 0040b2\nram 08 000800 01800d 03a212 000175 01000f 03a2b2 010005 029f3f\nram 10 00003b 029f12 03ffff 03cd22 018016 03b705 03bdbd 000115\nnode 102\np 000000\nram 00 004b12 000175 000001 02e9b2 026dbf 000100 02c122 01e004\nram 08 004852 000115\nend\n";
+
+/// Two clients.
+const POLL_2X1: &[u8] =
+    b"ga144 1\nnode 101\np 000000\nram 00 005da2 000002 00003b 009daa 000020 004b03 00015d 0040b2\nram 08 000800 01800d 03a212 000175 010015 03ad12 008000 03f313\nram 10 03a212 0001d5 010015 03a2b2 010005 029f3f 00003b 029f12\nram 18 03ffff 03cd22 01801c 03b705 03bdbd 000115\nnode 102\np 000000\nram 00 004b12 000175 000000 02e9b2 026dbf 000100 02c122 01e004\nram 08 004852 000115\nnode 100\np 000000\nram 00 004b12 0001d5 000000 02e9b2 026dbf 000200 02c122 01e004\nram 08 004852 000115\nend\n";
+
+/// Ten times.
+const TIMEOUT_10: &[u8] =
+    b"ga144 1\nnode 101\np 000000\nram 00 0048b2 000009 004b07 00015d 008000 03f30b 03acef 0001d5\nram 08 029f12 000115 02f5b2 03b002 005dbd 03ffff 000115\nnode 100\np 000000\nram 00 004b12 0001d5 000007 02e9b2 00427c 000003 005b12 000005\nram 08 000115 02f5b2\nend\n";
+
+/// Three clients.
+const POLL_3X1: &[u8] =
+    b"ga144 1\nnode 101\np 000000\nram 00 005da2 000003 00003b 009daa 000020 004b03 00015d 0040b2\nram 08 000800 01800d 03a212 000175 01001b 03ad12 008000 03f313\nram 10 03a212 0001d5 01001b 03ad12 000200 03f319 03a212 000145\nram 18 01001b 03a2b2 010005 029f3f 00003b 029f12 03ffff 03cd22\nram 20 018022 03b705 03bdbd 000115\nnode 102\np 000000\nram 00 004b12 000175 000000 02e9b2 026dbf 000100 02c122 01e004\nram 08 004852 000115\nnode 100\np 000000\nram 00 004b12 0001d5 000000 02e9b2 026dbf 000200 02c122 01e004\nram 08 004852 000115\nnode 201\np 000000\nram 00 004b12 000145 000000 02e9b2 026dbf 000300 02c122 01e004\nram 08 004852 000115\nend\n";
+
+/// An arbiter that looks for somebody who never comes.
+const POLL_NOBODY: &[u8] =
+    b"ga144 1\nnode 101\np 000000\nram 00 004bb2 00015d 0002b2 010002\nend\n";
 
 /// A node that jumps without end.
 const ENDLESS: &[u8] = b"ga144 1\nnode 000\np 000000\nram 00 010000\nend\n";
@@ -234,12 +258,101 @@ fn a_bound_is_told(rt: HostRuntime) -> Result<(), Fail> {
     Ok(())
 }
 
+// A lab on which the idle nodes of a program have come to rest.
+fn settled(alloc: Global, image: &[u8]) -> Result<Lab, Fail> {
+    let chip = parse(alloc, image)?;
+    let mut lab = Lab::new(alloc, chip, LIMIT)?;
+    'nodes: for number in 0..144u8 {
+        let node = NodeId::new(number);
+        if lab.node(node).get(Place::P) >= 0x100 {
+            let _made = lab.step(node);
+        }
+    }
+    Ok(lab)
+}
+
+// What is met from there of a program whose nodes look.
+fn looked(alloc: Global, image: &[u8], runs: u64) -> Result<Tally, Fail> {
+    let mut lab = settled(alloc, image)?;
+    let tally = check_looks(alloc, &mut lab, bounds(runs), 0, &AtomicU64::new(0))?;
+    Ok(tally)
+}
+
 #[test]
-fn programs_that_look_are_not_whole(rt: HostRuntime) -> Result<(), Fail> {
+fn a_look_is_told(rt: HostRuntime) -> Result<(), Fail> {
     let alloc = rt.alloc();
     for image in [POLL_1X1, TIMEOUT_3] {
-        let tally = orders(alloc, image, 1000)?;
+        let chip = parse(alloc, image)?;
+        let mut lab = Lab::new(alloc, chip, LIMIT)?;
+        let tally = check(alloc, &mut lab, bounds(1000), 0)?;
+        assert!(&rt; tally.looks);
         assert!(&rt; !tally.whole);
+        assert_eq!(&rt; lab.counts().kept, 0u32);
     }
+    Ok(())
+}
+
+// An arbiter may look in vain before each word and behind the last one: the numbers were found by all interleavings. A node that looks
+// n times sees the word at one of them, or at none.
+#[test]
+fn looks_are_choices(rt: HostRuntime) -> Result<(), Fail> {
+    let alloc = rt.alloc();
+    for (image, orders, is_alike) in [
+        (POLL_1X1, 3u64, true),
+        (POLL_1X2, 9, true),
+        (POLL_2X1, 21, false),
+        (POLL_3X1, 102, false),
+        (TIMEOUT_3, 4, false),
+        (TIMEOUT_10, 11, false),
+    ] {
+        let tally = looked(alloc, image, 10_000)?;
+        assert!(&rt; tally.whole);
+        assert_eq!(&rt; (tally.orders, tally.alike), (orders, is_alike));
+    }
+    let tally = looked(alloc, TIMEOUT_10, 10_000)?;
+    assert_eq!(&rt; ended(&tally, 18, Fate::Writes), 1u64);
+    Ok(())
+}
+
+#[test]
+fn a_node_that_polls_stands_still(rt: HostRuntime) -> Result<(), Fail> {
+    let alloc = rt.alloc();
+    let tally = looked(alloc, POLL_NOBODY, 1000)?;
+    assert_eq!(&rt; tally.orders, 1u64);
+    assert!(&rt; tally.whole);
+    assert_eq!(&rt; ended(&tally, 19, Fate::Polls), 1u64);
+    assert_eq!(&rt; ended(&tally, 19, Fate::Quiet), 0u64);
+    Ok(())
+}
+
+#[test]
+fn a_bound_is_told_where_nodes_look(rt: HostRuntime) -> Result<(), Fail> {
+    let alloc = rt.alloc();
+    let tally = looked(alloc, POLL_3X1, 50)?;
+    assert!(&rt; !tally.whole);
+    assert!(&rt; tally.orders <= 50);
+    Ok(())
+}
+
+// Each order of a program whose nodes look is reached, and no one behind the last.
+#[test]
+fn an_order_with_looks_is_reached(rt: HostRuntime) -> Result<(), Fail> {
+    let alloc = rt.alloc();
+    let mut quiet = 0u32;
+    for asked in 1..5u64 {
+        let mut lab = settled(alloc, TIMEOUT_3)?;
+        let kept = lab.counts().kept;
+        let found = check_looks(alloc, &mut lab, bounds(1000), asked, &AtomicU64::new(0));
+        assert_eq!(&rt; found.err(), Some(Stop::Reached));
+        assert!(&rt; lab.counts().kept > kept);
+        if lab.node(NodeId::new(18)).wait() != Wait::Write(Side::Right) {
+            quiet = quiet.saturating_add(1);
+        }
+    }
+    assert_eq!(&rt; quiet, 3u32);
+    let mut lab = settled(alloc, TIMEOUT_3)?;
+    let kept = lab.counts().kept;
+    let tally = check_looks(alloc, &mut lab, bounds(1000), 5, &AtomicU64::new(0))?;
+    assert_eq!(&rt; (tally.orders, lab.counts().kept), (4u64, kept));
     Ok(())
 }

@@ -1,19 +1,31 @@
-use Rattle.std.proofs.Common.{Ok, Err}
+use Rattle.std.proofs.Common.{Ok, Err, false, sym, subst}
 use Rattle.ga_check.specs.declared.tally.Stop.TheVariants.{Reached, Memory}
+use Rattle.ga_lab.specs.Machine.{State}
+use Rattle.ga_orders.specs.EveryOrder.{TellsOrders, searched}
+use Rattle.ga_orders.specs.declared.every_order.Verdict.{Verdict}
+use Rattle.ga_orders.proofs.Verdicts.{looks_told, tells_back}
 use Rattle.ga_orders.proofs.every_order.tell_orders.Goals as goal
+
+pub returns-in-Ok-then-asked-eq0 : goal.returns-in-Ok-then-asked-eq0
+returns-in-Ok-then-asked-eq0 g c = λ before held.
+    let sent = c.tell_tally.ensures before held in
+    (sent.0, sent.1, record { looks = false; found = Ok c.in-Ok.tally; last = c.check_shared.new.lab; is_found = c.in-Ok.ensures.once; told = sent.2 })
 
 pub returns-in-Ok : goal.returns-in-Ok
 returns-in-Ok g c = λ before held.
-    let sent = c.tell_tally.ensures before held in
-    (sent.0, sent.1, record { found = Ok c.in-Ok.tally; last = c.check_shared.new.lab; is_searched = c.in-Ok.ensures.once; told = sent.2 })
+    let sent = c.tell_asked.ensures before held in
+    (sent.0, sent.1, tells_back c.args.asked c.args.lab.now c.check_shared.new.lab sent.0 c.tell_asked.result c.in-Ok.ensures.back sent.2)
 
-pub returns-in-Err-Reached : goal.returns-in-Err-Reached
-returns-in-Err-Reached g c = λ before held.
-    let sent = c.tell_session.ensures before held in
-    let reached = c.in-Err-Reached.ensures.reached c.in-Err-Reached.field-0-is in
-    (sent.0, sent.1, record { found = Err Reached; last = c.check_shared.new.lab; is_searched = reached; told = sent.2 })
+pub returns-in-Ok-then-tally : goal.returns-in-Ok-then-tally
+returns-in-Ok-then-tally g c = λ before held.
+    let sent = c.tell_looks.ensures before held in (
+      sent.0,
+      sent.1,
+      subst (λ (v : Verdict). TellsOrders c.args.asked c.args.lab.now sent.0 v) (sym c.searched.ensures)
+          (looks_told c.args.asked c.args.lab.now c.check_shared.new.lab sent.0 c.tell_looks.result c.in-Ok.ensures.back sent.2),
+    )
 
-pub returns-in-Err-Memory : goal.returns-in-Err-Memory
-returns-in-Err-Memory g c = λ before held.
+pub returns-in-Err : goal.returns-in-Err
+returns-in-Err g c = λ before held.
     let sent = c.tell_no_memory.ensures before held in
-    (sent.0, sent.1, record { found = Err Memory; last = c.check_shared.new.lab; is_searched = tt; told = sent.2 })
+    (sent.0, sent.1, record { looks = false; found = Err Memory; last = c.check_shared.new.lab; is_found = tt; told = sent.2 })

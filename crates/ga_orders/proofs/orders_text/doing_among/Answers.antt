@@ -1,0 +1,16 @@
+use Rattle.std.proofs.Common.{◌-◌, ◌++◌, ◌∙◌, ap, arith}
+use Rattle.ga_check.specs.declared.tally.Fate.{Fate}
+use Rattle.ga_orders.specs.OrderTexts.{fate_at, doing_item}
+use Rattle.ga_answers.proofs.WaitingLines.{next_added, all_added}
+use Rattle.ga_orders.proofs.orders_text.doing_among.Goals as goal
+
+pub nodes-preserved : goal.nodes-preserved
+nodes-preserved c = record {
+  len = omega (arith, c.push_doing_node.ensures.len, c.nodes.invariant.len);
+  text = next_added (λ n. doing_item c.args.polls (fate_at c.args.nodes.now n) n) c.nodes.number c.new-node.result.number c.nodes.out.items c.push_doing_node.new.out.items _
+      (omega arith) c.new-node.ensures
+      (c.push_doing_node.ensures.text ∙ ap (λ (f : Fate). c.nodes.out.items ++ doing_item c.args.polls f c.new-node.result.number) c.fate_at.ensures) c.nodes.invariant.text;
+}
+
+pub returns : goal.returns
+returns c = all_added (λ n. doing_item c.args.polls (fate_at c.args.nodes.now n) n) c.nodes.number (144 - c.nodes.number) c.nodes.out.items _ (omega arith) c.nodes.invariant.text
