@@ -13,4 +13,4 @@ returns-in-Ok g c = λ before held.
 pub returns-in-Err : goal.returns-in-Err
 returns-in-Err g c = λ before held.
     let sent = c.tell_no_memory.ensures before held in
-    (sent.0, sent.1, record { found = Err Memory; last = c.settle.new.lab; is_searched = tt; told = sent.2 })
+    (sent.0, sent.1, record { looks = false; found = Err Memory; last = c.settle.new.lab; is_found = tt; told = sent.2 })
