@@ -143,32 +143,32 @@ def wrong_inputs(room):
 
 # ---- refused growths of memory
 
-# A session of which each growth is refused in turn, and its requests behind which the chip stands again.
+# A session of which each growth is refused in turn, with a message that is no request, and its requests behind which the chip stands again.
 REFUSED = [
-    ("initialize", {"adapterID": "ga144"}), ("launch", {"program": PROGRAM, "limit": 3000}), ("setBreakpoints", LINES | {"breakpoints": [{"line": 6}, {"line": 4}]}),
+    ("initialize", {"adapterID": "ga144"}), (None, {}), ("launch", {"program": PROGRAM, "limit": 3000}), ("setBreakpoints", LINES | {"breakpoints": [{"line": 6}, {"line": 4}]}),
     ("setDataBreakpoints", {"breakpoints": [{"dataId": "0x001005"}]}), ("configurationDone", {}), ("threads", {}), ("continue", {"threadId": 1000}), ("stackTrace", {"threadId": 1000}),
     ("scopes", {"frameId": 1}), ("variables", {"variablesReference": 1}), ("disassemble", {"memoryReference": "0x000000", "instructionCount": 3}), ("exceptionInfo", {"threadId": 1001}),
     ("next", {"threadId": 1200}), ("stepBack", {"threadId": 1000}), ("reverseContinue", {"threadId": 1200}), ("evaluate", {"expression": "whence 000 last", "context": "repl"}),
     ("evaluate", {"expression": "back", "context": "repl"}), ("evaluate", {"expression": "t", "context": "hover"}), ("evaluate", {"expression": "count", "context": "repl"}),
 ]
 MOVES = ("configurationDone", "continue", "next", "stepBack", "reverseContinue")
-CAN_REFUSE = ('"result":"no 4 memory', "memory was refused to the next event")
+NO_ANSWER, NO_EVENT = '"result":"no 4 memory', "memory was refused to the next event"
 
 
 class Growths:
     """What comes of a session where a growth is refused: the same messages; or those without a request, which was refused, in the place of its
-    own; or the end, with status 1, behind some of these. A run may end by it, and an answer of `explore` may say so; the command line may be
-    refused."""
+    own, and so too where the growth behind it is refused, since the refusal was made before. Or one says so: an answer of `explore`, and all others are the same, or the end of a run, and each request behind it is answered. Before
+    the first message the program may end with status 1, and the command line may be refused. No session ends by it."""
 
     def __init__(self, words, library):
         self.words, self.library = words, library
         self.asked = [(number, command, given) for number, (command, given) in enumerate(REFUSED, 1)]
         self.whole = self.run(self.asked, 0)[2]
-        self.without = [self.refused(place) for place in range(len(REFUSED))]
+        self.without = [self.refused(place) for place, (command, _) in enumerate(REFUSED) if command]
 
-    def run(self, asked, growth, told=""):
+    def run(self, asked, growth, told="", many=1):
         """The status of a session, what standard error says, and the messages without their numbers, which have to be in order."""
-        env = {**os.environ, "LD_PRELOAD": self.library, "REFUSED": str(growth)} | ({"REFUSED_TOLD": told} if told else {})
+        env = {**os.environ, "LD_PRELOAD": self.library, "REFUSED": str(growth), "REFUSED_MANY": str(many)} | ({"REFUSED_TOLD": told} if told else {})
         server = subprocess.Popen(self.words, stdin=subprocess.PIPE, stdout=subprocess.PIPE, stderr=subprocess.PIPE, env=env, cwd=ROOT)
         came = []
         try:
@@ -177,7 +177,7 @@ class Growths:
                 server.stdin.flush()
                 while (message := self.message(server.stdout, len(came) + 1)) is not None:
                     came.append(text_of(message))
-                    if message.get("event") == "stopped" or message.get("request_seq") == number and not (message["success"] and command in MOVES):
+                    if not command or message.get("event") == "stopped" or message.get("request_seq") == number and not (message["success"] and command in MOVES):
                         break
             server.stdin.close()
         except BrokenPipeError:
@@ -205,19 +205,26 @@ class Growths:
         body = {"body": {"error": {"format": why, "id": 1}}, "command": command, "message": why, "request_seq": place + 1, "success": False, "type": "response"}
         return [*before, text_of(body), *left[len(before) :]]
 
+    def says_so(self, came):
+        """Whether one message says that memory was refused, and the others are as they have to be."""
+        at = next((at for at, it in enumerate(came) if NO_ANSWER in it or NO_EVENT in it), len(came))
+        rest = came[at + 1 :] == self.whole[at + 1 :] if at < len(came) and NO_ANSWER in came[at] else at < len(came)
+        answered = [json.loads(it).get("request_seq") for it in came]
+        return came[:at] == self.whole[:at] and rest and [it for it in answered if it is not None] == [number for number, command, _ in self.asked if command]
+
     def fault(self, growth, room):
         """What is wrong where a growth is refused; None where there is none so late."""
         mark = f"{room}/refused-{growth}"
         status, said, came = self.run(self.asked, growth, mark)
         if not os.path.exists(mark):
             return None
+        if came in self.without:
+            status, said, came = self.run(self.asked, growth, mark, 2)
         # (where a file's bytes have no room, the file is named)
         came = [it.replace(f"launch: {PROGRAM}: out of memory", "out of memory") for it in came]
-        can_be = [self.whole, *self.without]
-        changed = next((at for at, it in enumerate(came) if any(word in it for word in CAN_REFUSE)), None)
         is_well = {
-            (0, b""): came in can_be or changed is not None and came[:changed] == self.whole[:changed],
-            (1, b"ga144: out of memory\n"): any(it[: len(came)] == came for it in can_be),
+            (0, b""): came == self.whole or came in self.without or self.says_so(came),
+            (1, b"ga144: out of memory\n"): not came,
         }.get((status, said), status == 3 and not came and said.startswith(b"ga144: command line refused\n"))
         parts = next((at for at, it in enumerate(came) if it not in self.whole[at : at + 1]), len(came))
         return "" if is_well else f"dap: growth {growth} refused: status {status}, {said!r}, message {parts + 1}: {came[parts : parts + 1]}"

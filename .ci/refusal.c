@@ -1,4 +1,5 @@
-/* Loaded before a program (LD_PRELOAD), this refuses the growth of its memory whose number is REFUSED, and makes the file REFUSED_TOLD then.
+/* Loaded before a program (LD_PRELOAD), this refuses the growth of its memory whose number is REFUSED, or so many from it on as REFUSED_MANY
+   says, and makes the file REFUSED_TOLD then.
    Counted is what the program itself asks for, from its first growth on, or from the first of so many bytes as REFUSED_FROM says: with one
    of one byte crates/ga_growths begins to count. What the C library asks for, as where it starts a thread, isn't counted. Nothing else is
    changed. */
@@ -30,7 +31,8 @@ static int is_refused(void *caller, size_t size) {
     if (!is_own(caller)) return 0;
     if (!from || size == from) __atomic_store_n(&begun, 1, __ATOMIC_SEQ_CST);
     if (!__atomic_load_n(&begun, __ATOMIC_SEQ_CST)) return 0;
-    if (__atomic_add_fetch(&grown, 1, __ATOMIC_SEQ_CST) != number("REFUSED")) return 0;
+    unsigned many = number("REFUSED_MANY"), at = __atomic_add_fetch(&grown, 1, __ATOMIC_SEQ_CST), first = number("REFUSED");
+    if (at < first || at >= first + (many ? many : 1)) return 0;
     if (getenv("REFUSED_TOLD")) close(open(getenv("REFUSED_TOLD"), O_CREAT | O_WRONLY, 0600));
     return 1;
 }

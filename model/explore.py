@@ -21,68 +21,17 @@ CONDITION = re.compile(
 MOST_CONDITIONS = 8
 RUN = re.compile(rf"run(?: (greedy|random ({NUMBER})))?(?: ({NUMBER}))?(?: until (.+))?")
 BACK = re.compile(rf"back (?:({NODE}) )?until (.+)")
-# The commands in the order of `help`: the form of each, what `help` says of it, and what `help` of this one says besides: what it
-# answers, and an example. The method `answer_NAME` answers a command of exploring.
-COMMANDS = (
-    ("run [greedy|random SEED] [N] [until COND]",
-     "make up to N events, in rounds or in this order\n"
-     "COND: pass NNN MMM = W, pass NNN MMM J, step NNN K, stop, stop NNN, wait NNN,\n"
-     "      mem NNN HH = W, p NNN X, reach NNN X, change NNN HH [= W], COND or COND\n"
-     "X: an address, a label, line N",
-     "reached M EVENT, made M, quiet M or full M: how many events, and why no more", "run 1000 until stop or reach 001 000012"),
-    ("chip", "what each node does",
-     "rows 7 to 0 of nodes: . made no step, * runs, x stopped, @ waits for code, ? reads, ! writes", "chip"),
-    ("who", "who waits for whom, and which nodes can never go on",
-     "for each that waits what it does, and the nodes that it awaits; then stuck, ring and idle", "who"),
-    ("effects NNN K", "what rewind NNN K would take",
-     "effects X N, and for each of N nodes its first step that would go, and how many would", "effects 001 last"),
-    ("words NNN MMM", "the words that went from NNN to MMM",
-     "words NNN MMM C, and for each of C words its number, the steps of both nodes and the word", "words 000 001"),
-    ("writes NNN HH", "the steps that wrote the cell HH of NNN, the newest first",
-     "for each the step, the opcode and the word that stood there then", "writes 001 20"),
-    ("at NNN K [N]", "N steps before and behind step K of NNN, with registers",
-     "for each the step, what it did, and the registers t, s, r, a, b and p behind it", "at 001 last 5"),
-    ("whence NNN K", "the steps whose values went into what step K of NNN made",
-     "a tree: below each step, two blanks deeper, the steps that made the values it used", "whence 001 last"),
-    ("because NNN K [N]",
-     "N steps before step K at which a value decided where NNN went on\n"
-     "K of effects, at, whence, because: a step's number, or last",
-     "for each the step and the word that it tested, and below it the step that made that word", "because 001 last"),
-    ("races [NNN]", "steps that could have come out otherwise, and how",
-     "races N, and for each of N steps what else it could have got, and two commands that lead there", "races 001"),
-    ("save", "the kept events as lines of debug",
-     "step NNN for each kept event, the oldest first", "save"),
-    ("help [COMMAND]", "these lines, or more of one command",
-     "the command's form and what it does, what it answers, and an example", "help why"),
-    ("step NNN", "make the next event of NNN",
-     "NNN K and what the step did, or pass WWW K RRR J W: the word W went from WWW to RRR", "step 001"),
-    ("back [[NNN] until COND]",
-     "take the newest event back; or that behind which COND held last,\n"
-     "                      with all since; or such a step of NNN, with what depends on it",
-     "removed X kept M: X events went, and M are left; or none, and nothing changes, where COND held behind no event", "back until change 001 20"),
-    ("rewind NNN K", "take step K of NNN back, with all that depends on it",
-     "removed X kept M: X events went, and M are left", "rewind 001 4"),
-    ("node NNN", "what NNN holds",
-     "the state, the registers and both stacks, the top first", "node 001"),
-    ("mem NNN HH", "the word at HH of the memory of NNN",
-     "mem NNN HH W: RAM below 80, ROM from there on", "mem 001 20"),
-    ("trace NNN", "the steps of NNN",
-     "trace NNN C, and C events, the oldest first", "trace 001"),
-    ("why NNN K MMM J", "by which events step K of NNN led to step J of MMM",
-     "chain C, and C events from the cause to what came of it; or independent",
-     "why 000 3 001 7, the cause first: did step 3 of 000 lead to step 7 of 001?"),
-    ("count", "how many events are kept and were made",
-     "kept K made M limit L", "count"),
-    ("dump", "the chip as an image",
-     "an image of format 2, which every command reads", "dump"),
-    ("quit", "end",
-     "nothing", "quit"),
-)  # fmt: skip
-FORMS = {form.split(" ")[0]: form for form, *_ in COMMANDS}
-# what `help` says of each command, by its name
-ROWS = {name: f"{form:22}{does}" if len(form) < 22 else f"{form}\n{'':22}{does}" for name, (form, does, _, _) in zip(FORMS, COMMANDS)}
-MORE = {name: f"{row}\nanswers: {answers}\nexample: {example}" for (name, row), (*_, answers, example) in zip(ROWS.items(), COMMANDS)}
-HELP = "\n".join(ROWS.values())
+# The commands in the order of `help`: the form of each, what `help` says of it, and what `help` of this one says besides: what it answers,
+# and an example. One of exploring has how often it comes in generated sessions, of about 1000 lines.
+COMMANDS = []
+
+
+def command(*row):
+    """The row of the command that is answered by the method below, `answer_NAME` if its form alone spells it."""
+    COMMANDS.append(row)
+    return lambda method: method
+
+
 # what the words of a form stand for; one in brackets may be missing
 KINDS = {"NNN": NODE, "MMM": NODE, "K": STEP, "HH": HH, "N": "[1-9]?[0-9]", "COMMAND": ".+"}
 FEW = 3
@@ -140,7 +89,6 @@ def mixed(state):
     word = (word ^ word >> 27) * 0x94D049BB133111EB % (1 << 64)
     return word ^ word >> 31, state
 
-
 class Explorer(Machine):
     notes = Notes()
 
@@ -177,12 +125,6 @@ class Explorer(Machine):
                 given.append(number_of(word) if word and kind != "COMMAND" else word)
         return given
 
-    def answer_help(self, command):
-        return MORE.get(command) if command else HELP
-
-    def answer_save(self):
-        return "\n".join(f"step {name(event[0])}" for event in self.events)
-
     def is_condition(self, text):
         kind, *words = text.split(" ")
         return bool(CONDITION.fullmatch(text)) and (kind not in ("p", "reach") or self.address(*words) is not None)
@@ -192,25 +134,14 @@ class Explorer(Machine):
         """The nodes whose writes some conditions ask for."""
         return [number_of(condition.split(" ")[1]) for condition in conditions if condition.startswith("change ")]
 
-    def back_until(self, only, conditions):
-        """Takes back up to right before the newest event, of one node where that is asked, behind which one of the conditions held."""
-        again, newest = Explorer(self.load, self.limit), None
-        again.notes = self.notes
-        for place, event in enumerate(self.events):
-            again.events.append(event)
-            before = {it: again.chip[it].copy() for it in self.written(conditions)}
-            again.apply(event)
-            if only in (None, *event) and any(again.holds(it, again.told[-1], before) for it in conditions):
-                newest = place
-        if newest is None:
-            return "none"
-        if only is not None:
-            return self.rewind(only, sum(only in event for event in self.events[: newest + 1]))
-        gone = len(self.events) - newest
-        self.events = self.events[:newest]
-        self.replay()
-        return f"removed {gone} kept {newest}"
-
+    @command(
+        "run [greedy|random SEED] [N] [until COND]",
+        "make up to N events, in rounds or in this order\n"
+        "COND: pass NNN MMM = W, pass NNN MMM J, step NNN K, stop, stop NNN, wait NNN,\n"
+        "      mem NNN HH = W, p NNN X, reach NNN X, change NNN HH [= W], COND or COND\n"
+        "X: an address, a label, line N",
+        "reached M EVENT, made M, quiet M or full M: how many events, and why no more", "run 1000 until stop or reach 001 000012", 230,
+    )  # fmt: skip
     def run(self, order, seed, most, conditions):
         turn, state = 0, seed
         written = self.written(conditions)
@@ -276,6 +207,25 @@ class Explorer(Machine):
             return self.notes.begun(number_of(node), int(line))
         return int(word, 16) if re.fullmatch(W, word) else self.notes.address(number_of(node), word)
 
+    def back_until(self, only, conditions):
+        """Takes back up to right before the newest event, of one node where that is asked, behind which one of the conditions held."""
+        again, newest = Explorer(self.load, self.limit), None
+        again.notes = self.notes
+        for place, event in enumerate(self.events):
+            again.events.append(event)
+            before = {it: again.chip[it].copy() for it in self.written(conditions)}
+            again.apply(event)
+            if only in (None, *event) and any(again.holds(it, again.told[-1], before) for it in conditions):
+                newest = place
+        if newest is None:
+            return "none"
+        if only is not None:
+            return self.rewind(only, sum(only in event for event in self.events[: newest + 1]))
+        gone = len(self.events) - newest
+        self.events = self.events[:newest]
+        self.replay()
+        return f"removed {gone} kept {newest}"
+
     def doing(self, node):
         it = self.chip[node]
         if not self.steps[node]:
@@ -286,9 +236,75 @@ class Explorer(Machine):
             return "  *"
         return " " + {"fetch": "@", "read": "?", "write": "!"}[it.wait[0]] + (it.wait[1] if len(it.wait[1]) == 1 else "+")
 
+    @command(
+        "chip", "what each node does",
+        "rows 7 to 0 of nodes: . made no step, * runs, x stopped, @ waits for code, ? reads, ! writes", "chip", 20,
+    )  # fmt: skip
     def answer_chip(self):
         return "\n".join(f"{row}" + "".join(self.doing(18 * row + column) for column in range(18)) for row in range(7, -1, -1))
 
+    def does(self, node):
+        it = self.chip[node]
+        if it.wait:
+            return {"fetch": "fetches", "read": "reads", "write": "writes"}[it.wait[0]]
+        return "stopped" if it.stop else "runs"
+
+    def awaited(self, node):
+        """The sides on which a node awaits a neighbour, with that one."""
+        beside = [(side, neighbour(node, side)) for side in (self.chip[node].wait or ("", ""))[1]]
+        return [(side, other) for side, other in beside if other is not None]
+
+    def stuck(self):
+        """The greatest set of nodes that wait or are stopped, await none but these and can pass one another no word."""
+        marked = {node for node in range(NODES) if self.chip[node].wait or self.chip[node].stop}
+        while True:
+            ready = {event for event in map(self.next, marked) if event and set(event) <= marked}
+            freed = {node for node in marked if any(other not in marked for side, other in self.awaited(node))}
+            freed |= {event[0] for event in ready}
+            if not freed:
+                return sorted(marked)
+            marked -= freed
+
+    def idle(self):
+        """The nodes into which nothing was loaded, and which kept nothing but the event by which they came to wait for code."""
+        waits = [event[0] for event, told in zip(self.events, self.told) if told.endswith(" 1 wait")]
+        return {node for node in waits if self.steps[node] == 1 and vars(self.load[node]) == vars(Node(node))}
+
+    @command(
+        "who", "who waits for whom, and which nodes can never go on",
+        "for each that waits what it does, and the nodes that it awaits; then stuck, ring and idle", "who", 30,
+    )  # fmt: skip
+    def answer_who(self):
+        return "\n".join(self.waiting())
+
+    def waiting(self):
+        idle, stuck = self.idle(), self.stuck()
+        for node in range(NODES):
+            if self.chip[node].wait and node not in idle:
+                beside = "".join(f" {side} {name(other)} {self.does(other)}" for side, other in self.awaited(node))
+                yield f"{name(node)} {self.does(node)}{beside}"
+        busy = [name(node) for node in stuck if node not in idle]
+        if busy:
+            yield " ".join(["stuck", *busy] + ([f"and {len(stuck) - len(busy)} idle"] if len(busy) < len(stuck) else []))
+        yield from (" ".join(["ring", *map(name, ring)]) for ring in self.rings(stuck))
+        if idle:
+            yield f"idle {len(idle)}"
+
+    def rings(self, stuck):
+        """The rings among some nodes, each of which awaits the next alone: each from its node of the lowest number on."""
+        awaited = {node: [other for _, other in self.awaited(node)] for node in stuck}
+        after = {node: others[0] for node, others in awaited.items() if len(others) == 1}
+        for first in stuck:
+            ring = [first]
+            while after.get(ring[-1]) not in (None, *ring):
+                ring.append(after[ring[-1]])
+            if after.get(ring[-1]) == first and min(ring) == first:
+                yield ring
+
+    @command(
+        "effects NNN K", "what rewind NNN K would take",
+        "effects X N, and for each of N nodes its first step that would go, and how many would", "effects 001 last", 50,
+    )  # fmt: skip
     def answer_effects(self, node, step):
         place = self.place(node, step)
         if place is None:
@@ -302,6 +318,10 @@ class Explorer(Machine):
         """What is told of the events by which words went from one node to another."""
         return [told for event, told in zip(self.events, self.told) if event == (writer, reader)]
 
+    @command(
+        "words NNN MMM", "the words that went from NNN to MMM",
+        "words NNN MMM C, and for each of C words its number, the steps of both nodes and the word", "words 000 001", 60,
+    )  # fmt: skip
     def answer_words(self, writer, reader):
         if all(neighbour(writer, side) != reader for side in SIDES):
             return "no 34 nolink"
@@ -318,6 +338,10 @@ class Explorer(Machine):
             if node in event:
                 yield again.told[-1], before, again.chip[node].copy()
 
+    @command(
+        "writes NNN HH", "the steps that wrote the cell HH of NNN, the newest first",
+        "for each the step, the opcode and the word that stood there then", "writes 001 20", 70,
+    )  # fmt: skip
     def answer_writes(self, node, address):
         """The steps by which a node wrote a cell of its RAM: one of four opcodes, at an address that names the cell."""
         lines = []
@@ -345,6 +369,10 @@ class Explorer(Machine):
             return f"takes {word} from {writer} {step}" if reader == name(node) else f"sends {word} to {reader} {its}"
         return NAMES[int(words[3], 16)] if words[2] == "run" else " ".join(words[2:])
 
+    @command(
+        "at NNN K [N]", "N steps before and behind step K of NNN, with registers",
+        "for each the step, what it did, and the registers t, s, r, a, b and p behind it", "at 001 last 5", 80,
+    )  # fmt: skip
     def answer_at(self, node, step, around):
         if not 1 <= step <= self.steps[node]:
             return "no 6 nostep"
@@ -356,6 +384,67 @@ class Explorer(Machine):
                 registers = "".join(f" {register} {word:06x}" for register, word in seen.items())
                 lines.append(f"{name(node)} {number} {self.deed(node, told)}{registers}{tails[node, number]}")
         return "\n".join(lines)
+
+    def followed(self):
+        """The events with what is told of each and its nodes before it; and of each step of a node what it did."""
+        again, passed, deeds = Explorer(self.load, self.limit), [], {}
+        for event in self.events:
+            before = [again.chip[it].copy() for it in event]
+            again.apply(event)
+            passed.append((event, again.told[-1], before))
+            deeds.update({(it, again.steps[it]): self.deed(it, again.told[-1]) for it in event})
+        return passed, deeds
+
+    def made_line(self, tag, deeds, tails):
+        """The step that made a word, by its tag, or that it was loaded."""
+        node, number, part = tag
+        mark = f" {part}" if part in LOADED + ("r",) and part != "i" else ""
+        told = f"{number} {deeds[node, number]}{mark}{tails[node, number]}" if number else f"load {part}{self.notes.tail(node, cell_of(part))}"
+        return f"{name(node)} {told}"
+
+    @command(
+        "whence NNN K", "the steps whose values went into what step K of NNN made",
+        "a tree: below each step, two blanks deeper, the steps that made the values it used", "whence 001 last", 160,
+    )  # fmt: skip
+    def answer_whence(self, node, step):
+        if not 1 <= step <= self.steps[node]:
+            return "no 6 nostep"
+        passed, deeds = self.followed()
+        asked, made = asked_of(passed, NODES)
+        tails = self.tails(passed)
+        first = asked[node, step]
+        head = f"{name(node)} {step} {deeds[node, step]}{tails[node, step]}"
+        if first is None:
+            return head
+        rows, whole = rows_of(first, made)
+        deeper = first[:2] != (node, step)
+        lines = [head] if deeper else []
+        lines += ["  " * (depth + deeper) + self.made_line(tag, deeds, tails) for tag, depth in rows.items()]
+        return "\n".join(lines + ([] if whole else ["more"]))
+
+    @command(
+        "because NNN K [N]",
+        "N steps before step K at which a value decided where NNN went on\n"
+        "K of effects, at, whence, because: a step's number, or last",
+        "for each the step and the word that it tested, and below it the step that made that word", "because 001 last", 100,
+    )  # fmt: skip
+    def answer_because(self, node, step, most):
+        if not 1 <= step <= self.steps[node]:
+            return "no 6 nostep"
+        passed, deeds = self.followed()
+        asked, made = asked_of(passed, NODES)
+        tails, lines = self.tails(passed), []
+        own = [(told, before[event.index(node)], event[-1] == node) for event, told, before in passed if node in event]
+        came = {at for at, (told, before, taken) in enumerate(own, 1) if told[0] == "p" and taken and before.wait[0] == "fetch"}
+        for number in range(1, step):
+            told, before, _ = own[number - 1]
+            tested = asked[node, number] and tested_by(told, before, asked[node, number], made, came)
+            if tested:
+                tag, register, word = tested
+                mark = f" {register} {word:06x}" if register else ""
+                head = f"{name(node)} {number} {deeds[node, number]}{mark}{tails[node, number]}"
+                lines.append(f"{head}\n  {self.made_line(tag, deeds, tails)}")
+        return "\n".join(reversed(lines[-most:] if most else []))
 
     def offers(self, node, step):
         """The neighbours that a step of each would make give a node a word, were a step of it taken back, with that word."""
@@ -437,6 +526,10 @@ class Explorer(Machine):
         words, pairs = self.near()
         return [line for look, change in pairs if only is None or self.events[look] == (only,) for line in self.reading(words[look], look, change)]
 
+    @command(
+        "races [NNN]", "steps that could have come out otherwise, and how",
+        "races N, and for each of N steps what else it could have got, and two commands that lead there", "races 001", 40,
+    )  # fmt: skip
     def answer_races(self, only):
         """The steps that could have come out otherwise, of a node or of all, and what holds of other orders."""
         lines = []
@@ -455,107 +548,51 @@ class Explorer(Machine):
             last = ["every order ends on this chip" if ended else "no other order, as long as no node makes more steps"]
         return "\n".join([f"races {len(lines)}"] + lines + last)
 
-    def followed(self):
-        """The events with what is told of each and its nodes before it; and of each step of a node what it did."""
-        again, passed, deeds = Explorer(self.load, self.limit), [], {}
-        for event in self.events:
-            before = [again.chip[it].copy() for it in event]
-            again.apply(event)
-            passed.append((event, again.told[-1], before))
-            deeds.update({(it, again.steps[it]): self.deed(it, again.told[-1]) for it in event})
-        return passed, deeds
+    @command(
+        "save", "the kept events as lines of debug",
+        "step NNN for each kept event, the oldest first", "save", 10,
+    )  # fmt: skip
+    def answer_save(self):
+        return "\n".join(f"step {name(event[0])}" for event in self.events)
 
-    def made_line(self, tag, deeds, tails):
-        """The step that made a word, by its tag, or that it was loaded."""
-        node, number, part = tag
-        mark = f" {part}" if part in LOADED + ("r",) and part != "i" else ""
-        told = f"{number} {deeds[node, number]}{mark}{tails[node, number]}" if number else f"load {part}{self.notes.tail(node, cell_of(part))}"
-        return f"{name(node)} {told}"
+    @command(
+        "help [COMMAND]", "these lines, or more of one command",
+        "the command's form and what it does, what it answers, and an example", "help why", 6,
+    )  # fmt: skip
+    def answer_help(self, command):
+        return MORE.get(command) if command else HELP
 
-    def answer_because(self, node, step, most):
-        if not 1 <= step <= self.steps[node]:
-            return "no 6 nostep"
-        passed, deeds = self.followed()
-        asked, made = asked_of(passed, NODES)
-        tails, lines = self.tails(passed), []
-        own = [(told, before[event.index(node)], event[-1] == node) for event, told, before in passed if node in event]
-        came = {at for at, (told, before, taken) in enumerate(own, 1) if told[0] == "p" and taken and before.wait[0] == "fetch"}
-        for number in range(1, step):
-            told, before, _ = own[number - 1]
-            tested = asked[node, number] and tested_by(told, before, asked[node, number], made, came)
-            if tested:
-                tag, register, word = tested
-                mark = f" {register} {word:06x}" if register else ""
-                head = f"{name(node)} {number} {deeds[node, number]}{mark}{tails[node, number]}"
-                lines.append(f"{head}\n  {self.made_line(tag, deeds, tails)}")
-        return "\n".join(reversed(lines[-most:] if most else []))
 
-    def answer_whence(self, node, step):
-        if not 1 <= step <= self.steps[node]:
-            return "no 6 nostep"
-        passed, deeds = self.followed()
-        asked, made = asked_of(passed, NODES)
-        tails = self.tails(passed)
-        first = asked[node, step]
-        head = f"{name(node)} {step} {deeds[node, step]}{tails[node, step]}"
-        if first is None:
-            return head
-        rows, whole = rows_of(first, made)
-        deeper = first[:2] != (node, step)
-        lines = [head] if deeper else []
-        lines += ["  " * (depth + deeper) + self.made_line(tag, deeds, tails) for tag, depth in rows.items()]
-        return "\n".join(lines + ([] if whole else ["more"]))
-
-    def does(self, node):
-        it = self.chip[node]
-        if it.wait:
-            return {"fetch": "fetches", "read": "reads", "write": "writes"}[it.wait[0]]
-        return "stopped" if it.stop else "runs"
-
-    def awaited(self, node):
-        """The sides on which a node awaits a neighbour, with that one."""
-        beside = [(side, neighbour(node, side)) for side in (self.chip[node].wait or ("", ""))[1]]
-        return [(side, other) for side, other in beside if other is not None]
-
-    def stuck(self):
-        """The greatest set of nodes that wait or are stopped, await none but these and can pass one another no word."""
-        marked = {node for node in range(NODES) if self.chip[node].wait or self.chip[node].stop}
-        while True:
-            ready = {event for event in map(self.next, marked) if event and set(event) <= marked}
-            freed = {node for node in marked if any(other not in marked for side, other in self.awaited(node))}
-            freed |= {event[0] for event in ready}
-            if not freed:
-                return sorted(marked)
-            marked -= freed
-
-    def idle(self):
-        """The nodes into which nothing was loaded, and which kept nothing but the event by which they came to wait for code."""
-        waits = [event[0] for event, told in zip(self.events, self.told) if told.endswith(" 1 wait")]
-        return {node for node in waits if self.steps[node] == 1 and vars(self.load[node]) == vars(Node(node))}
-
-    def answer_who(self):
-        return "\n".join(self.waiting())
-
-    def waiting(self):
-        idle, stuck = self.idle(), self.stuck()
-        for node in range(NODES):
-            if self.chip[node].wait and node not in idle:
-                beside = "".join(f" {side} {name(other)} {self.does(other)}" for side, other in self.awaited(node))
-                yield f"{name(node)} {self.does(node)}{beside}"
-        busy = [name(node) for node in stuck if node not in idle]
-        if busy:
-            yield " ".join(["stuck", *busy] + ([f"and {len(stuck) - len(busy)} idle"] if len(busy) < len(stuck) else []))
-        yield from (" ".join(["ring", *map(name, ring)]) for ring in self.rings(stuck))
-        if idle:
-            yield f"idle {len(idle)}"
-
-    def rings(self, stuck):
-        """The rings among some nodes, each of which awaits the next alone: each from its node of the lowest number on."""
-        awaited = {node: [other for _, other in self.awaited(node)] for node in stuck}
-        after = {node: others[0] for node, others in awaited.items() if len(others) == 1}
-        for first in stuck:
-            ring = [first]
-            while after.get(ring[-1]) not in (None, *ring):
-                ring.append(after[ring[-1]])
-            if after.get(ring[-1]) == first and min(ring) == first:
-                yield ring
+# Those of the debugger, of which `back until` is one of exploring.
+COMMANDS += [
+    ("step NNN", "make the next event of NNN",
+     "NNN K and what the step did, or pass WWW K RRR J W: the word W went from WWW to RRR", "step 001"),
+    ("back [[NNN] until COND]",
+     "take the newest event back; or that behind which COND held last,\n"
+     "                      with all since; or such a step of NNN, with what depends on it",
+     "removed X kept M: X events went, and M are left; or none, and nothing changes, where COND held behind no event", "back until change 001 20", 40),
+    ("rewind NNN K", "take step K of NNN back, with all that depends on it",
+     "removed X kept M: X events went, and M are left", "rewind 001 4"),
+    ("node NNN", "what NNN holds",
+     "the state, the registers and both stacks, the top first", "node 001"),
+    ("mem NNN HH", "the word at HH of the memory of NNN",
+     "mem NNN HH W: RAM below 80, ROM from there on", "mem 001 20"),
+    ("trace NNN", "the steps of NNN",
+     "trace NNN C, and C events, the oldest first", "trace 001"),
+    ("why NNN K MMM J", "by which events step K of NNN led to step J of MMM",
+     "chain C, and C events from the cause to what came of it; or independent",
+     "why 000 3 001 7, the cause first: did step 3 of 000 lead to step 7 of 001?"),
+    ("count", "how many events are kept and were made",
+     "kept K made M limit L", "count"),
+    ("dump", "the chip as an image",
+     "an image of format 2, which every command reads", "dump"),
+    ("quit", "end",
+     "nothing", "quit"),
+]  # fmt: skip
+FORMS = {form.split(" ")[0]: form for form, *_ in COMMANDS}
+# how often one comes in generated sessions
+OFTEN = {name: often for name, (_, _, _, _, *given) in zip(FORMS, COMMANDS) for often in given}
+# what `help` says of each command, by its name
+ROWS = {name: f"{form:22}{does}" if len(form) < 22 else f"{form}\n{'':22}{does}" for name, (form, does, *_) in zip(FORMS, COMMANDS)}
+MORE = {name: f"{row}\nanswers: {answers}\nexample: {example}" for (name, row), (_, _, answers, example, *_) in zip(ROWS.items(), COMMANDS)}
+HELP = "\n".join(ROWS.values())

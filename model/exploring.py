@@ -12,15 +12,15 @@ import subprocess
 import sys
 from itertools import zip_longest
 
-from explore import NODE, ROWS, STORES, Explorer, number_of
+from explore import FORMS, NODE, OFTEN, ROWS, STORES, Explorer, number_of
 from files import answer, load_of
 from machine import name
 from notes import Notes
 from sessions import DEFAULT_LIMIT, SECONDS, Generator
 from source import asm
 
-# How often each command comes, of 1000. The others are those of the debugger.
-COMMANDS = {"run": 230, "whence": 160, "because": 100, "at": 80, "races": 40, "writes": 70, "words": 60, "effects": 50, "who": 30, "chip": 20, "save": 10, "help": 6, "wrong": 28, "debug": 76, "back": 40}
+# How often each command comes: one of exploring by its row, one of the debugger, or a line that is none.
+COMMANDS = OFTEN | {"debug": 76, "wrong": 28}
 WORDS = "dup drop over + and or @ ! @b !b a! pop push 2* 2/ - +* @+ !+ a . 1 5 0x20 0x15555 0x3ffff right left down up".split()
 CALLS = ["x", "'y a!", "'y b!", "0x22 a! !", "0x84 a! @", "io b!", "for x next", "1 for x next", "for +* unext", "2 for . unext", "if dup then", "0 if dup then", "'y push ex", "-if a else over then", "begin dup -until", "+cy + -cy"]
 PARTS = ["\\ a remark", "( and ) ", "  ", "\t", ".."]
@@ -178,20 +178,24 @@ class Session:
         return f"back {draw.choice(('', f'{name(self.node())} ', f'{named[0]} ' if named else ''))}until {until}"
 
     def command(self):
-        node, number = self.node(), self.random.randrange
         chosen = self.random.choices(list(COMMANDS), list(COMMANDS.values()))[0]
         if chosen in ("run", "back"):
             return self.run() if chosen == "run" else self.back()
-        if chosen in ("at", "because"):
-            return f"{chosen} {name(node)} {self.step(node)}" + self.random.choice(("", f" {number(4)}", f" {number(100)}"))
-        return {
-            "whence": f"whence {name(node)} {self.step(node)}",
-            "effects": f"effects {name(node)} {self.step(node)}",
-            "writes": f"writes {name(node)} {self.address():02x}",
-            "words": "words " + " ".join(map(name, self.link())),
-            "help": "help" + self.random.choice(("", " " + self.random.choice([*ROWS, "cond"]))),
-            "races": "races" + self.random.choice(("", f" {name(node)}", f" {name(self.link()[1])}")),
-        }.get(chosen, chosen)
+        return self.line_of(FORMS[chosen]) if chosen in FORMS else chosen
+
+    def line_of(self, form):
+        """A line of a form. What may be left out of it is, one time of three."""
+        command, *words = form.split(" ")
+        draw, line = self.random, [command]
+        first, second = self.link() if "MMM" in form else (self.node(), None)
+        for word in words:
+            if word.startswith("[") and draw.randrange(3) == 0:
+                break
+            line.append({
+                "NNN": lambda: name(first), "MMM": lambda: name(second), "K": lambda: f"{self.step(first)}", "HH": lambda: f"{self.address():02x}",
+                "N": lambda: f"{draw.randrange(draw.choice((4, 100)))}", "COMMAND": lambda: draw.choice([*ROWS, "cond"]),
+            }[word.strip("[]")]())  # fmt: skip
+        return " ".join(line)
 
     def wrong(self):
         """A line that is a command but for one thing, mostly in its first word."""

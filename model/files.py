@@ -14,7 +14,7 @@ from itertools import zip_longest
 
 from explore import LONGEST, Explorer, cure
 from machine import Machine, NODES, name
-from node import Node, SIDES, WORD
+from node import FETCH_DUE, Node, SIDES, WORD, target_of
 from notes import Notes
 from sessions import DEFAULT_LIMIT
 from source import asm
@@ -100,8 +100,15 @@ def answer(machine, line):
     return getattr(machine, command)(*arguments)
 
 
+def settle(machine):
+    """Makes the first event of each node that comes to wait for code by it."""
+    for number, it in enumerate(machine.chip):
+        if not it.stop and not it.wait and it.slot == FETCH_DUE and target_of(it.p)[0] == "ports":
+            machine.step(number)
+
+
 def opened(path):
-    """The machine of a session at its load, and the commands up to `quit`, or Unread."""
+    """The machine of a session at its load, where the folder is `settled` at rest, and the commands up to `quit`, or Unread."""
     folder = os.path.basename(os.path.dirname(path))
     limit = int(folder[6:]) if folder.startswith("limit-") else DEFAULT_LIMIT
     with open(path, encoding="latin-1", newline="") as file:
@@ -114,6 +121,8 @@ def opened(path):
         load, notes = asm(source)[0].splitlines(), Notes(source)
     machine = kind(load_of(load), limit)
     machine.notes = notes
+    if folder == "settled":
+        settle(machine)
     commands = lines[past:]
     return machine, commands[: commands.index("quit")] if "quit" in commands else commands
 

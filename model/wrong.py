@@ -3,7 +3,8 @@
 
 wrong.py PROGRAM COUNT: each wrong definition has to be told within so many sessions, by an answer that differs or by a
 replay that can't go on; one of source within so many sources and as many that are cut or changed, one of pictures within so many of
-these. A definition is wrong in one place: its file, a text that stands there once, and what takes its place.
+these, one of orders within so many programs that look. A definition is wrong in one place: its file, a text that stands there once, and
+what takes its place.
 
 The file `told` beside this says which session told a definition when `wrong.py --write PROGRAM COUNT` wrote it, by a sum of the
 definition. That one is tried first; where it tells nothing, or a definition has no line there, all are.
@@ -19,9 +20,9 @@ import tempfile
 from concurrent.futures import ThreadPoolExecutor
 
 NODE, MACHINE, WORDS, SOURCE, LISTING = "node.py", "machine.py", "words.py", "source.py", "listing.py"
-EXPLORE, WHENCE, NOTES, PICTURES = "explore.py", "whence.py", "notes.py", "pictures.py"
+EXPLORE, WHENCE, NOTES, PICTURES, ORDERS = "explore.py", "whence.py", "notes.py", "pictures.py", "every_order.py"
 # Which generator tells a wrong definition in a file; the others `sessions`.
-GENERATORS = {WORDS: "sources", SOURCE: "sources", LISTING: "sources", EXPLORE: "exploring", WHENCE: "exploring", NOTES: "exploring", PICTURES: "pictures"}
+GENERATORS = {WORDS: "sources", SOURCE: "sources", LISTING: "sources", EXPLORE: "exploring", WHENCE: "exploring", NOTES: "exploring", PICTURES: "pictures", ORDERS: "every_order --looks"}
 WRONG = (
     # the grid
     (NODE, '(column % 2 == 0) == (side == "r")', '(column % 2 == 0) == (side == "l")'),
@@ -394,6 +395,16 @@ WRONG = (
     (PICTURES, "races.get(at, [])", "races.get(at + 1, [])"),
     (PICTURES, "if view.races else []:", "if not view.races else []:"),
     (PICTURES, 'self.text += "quit\\nrun 5\\n"', 'self.obey("quit")\n            self.obey("run 5")'),
+    # orders of nodes that look and poll
+    (ORDERS, "            if read != word:\n                return False\n", ""),
+    (ORDERS, "            there.looks.update(dict.fromkeys(nodes, ()))\n", ""),
+    (ORDERS, "if vars(record) == vars(self.chip[node]):", "if record.p == self.chip[node].p:"),
+    (ORDERS, "if vars(record) == vars(self.chip[node]):", "if record.d[0] == self.chip[node].d[0]:"),
+    (ORDERS, "return it.waits(READS, side), it", 'return it.waits(("read",), side), it'),
+    (ORDERS, 'return ("looks", word, *(self.changes.get((neighbour(node, side), side)) for side in SIDES))', 'return ("looks", word)'),
+    (ORDERS, "return [node for node in running if not self.is_parked(node)] +", "return [node for node in running if not self.is_parked(node)][:1] +"),
+    (ORDERS, "polling = [name(node) for node, it in enumerate(chip) if not it.wait and not it.stop]", "polling = [name(node) for node, it in enumerate(chip) if not it.wait]"),
+    (ORDERS, 'its, does in ((waiting, " waiting"), (polling, " polling")) if its', 'its, does in ((polling, " polling"), (waiting, " waiting")) if its'),
 )
 
 
@@ -414,12 +425,13 @@ def told_before():
 
 def run(folder, wrong, program, first, count):
     """How so many sessions tell a wrong definition that is planted in a folder ('answer' or 'replay'), or what they say, and which does."""
-    words = [sys.executable, "-B", f"{folder}/{GENERATORS.get(wrong[0], 'sessions')}.py", program, str(first), str(count)]
+    generator, *options = GENERATORS.get(wrong[0], "sessions").split()
+    words = [sys.executable, "-B", f"{folder}/{generator}.py", *options, program, str(first), str(count)]
     ran = subprocess.run(words, capture_output=True, text=True)
     said = (ran.stdout + ran.stderr).strip().split("\n")[-1]
     if ran.returncode != 1:
         return f"not told: {said}", None
-    number = re.match(r"(?:session|source|picture) (\d+): ", said)
+    number = re.match(r"(?:session|source|picture|program) (\d+): ", said)
     return "answer" if number else "replay", number and number[1]
 
 

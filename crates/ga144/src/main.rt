@@ -74,6 +74,7 @@ fn main(rt: HostRuntime) -> ExitCode {
         Ok(
             Settings::Check {
                 most,
+                settled,
                 session,
                 workers,
                 progress,
@@ -82,6 +83,7 @@ fn main(rt: HostRuntime) -> ExitCode {
         ) => {
             let runs = Runs {
                 most,
+                settled,
                 asked: session.unwrap_or(0),
                 workers,
             };
@@ -255,10 +257,12 @@ fn served(rt: &HostRuntime, work: Work, file: &Option<String>) -> ExitCode {
     exit(rt, status)
 }
 
-/// How many runs of a program are made at most, which order is asked for by its number, if it isn't 0, and how many workers there are.
+/// How many runs of a program are made at most, whether its idle nodes come to rest first, which order is asked for by its number, if it
+/// isn't 0, and how many workers there are.
 #[derive(Clone, Copy)]
 struct Runs {
     most: u32,
+    settled: bool,
     asked: u32,
     workers: u32,
 }
@@ -315,6 +319,7 @@ fn verdict_on<T: Threads + Sync>(
         &mut writer,
         &mut errors,
         RUN_LIMIT,
+        runs.settled,
         bounds,
         u64::from(runs.asked),
         runs.workers,

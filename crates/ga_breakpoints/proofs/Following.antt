@@ -155,11 +155,11 @@ begun_by notes s node k before behind there spot stands op begins there_is spot_
 
 -- ---- a machine with one event more: what its nodes did before stays
 
-record More (s t : State) : Type 0 where
-  event : Event
-  load : t.load ≡ s.load
-  kept : t.kept ≡ s.kept ++ event ∷ []
-  told : (n : ℕ) → history_of t n ≡ history_of s n ++ cond (touches event n) (told_next s event ∷ []) []
+pub record More (s t : State) : Type 0 where
+  pub event : Event
+  pub load : t.load ≡ s.load
+  pub kept : t.kept ≡ s.kept ++ event ∷ []
+  pub told : (n : ℕ) → history_of t n ≡ history_of s n ++ cond (touches event n) (told_next s event ∷ []) []
 
 steps-cons : (n : ℕ) (e : Event) (es : List Event) → steps_of n (e ∷ es) ≡ cond (touches e n) 1 0 + steps_of n es
 steps-cons n e es = sum_by-cons (λ (x : Event). cond (touches x n) 1 0) e es
@@ -179,7 +179,7 @@ place_stays (x ∷ es) e n (suc k) l = go (touches x n) (λ j m. place_stays es 
 abbrev node_by : List NodeRecord → List Event → ℕ → ℕ → NodeRecord
 node_by load es n k = record_at (unwrap_or (replay load (take (place_after es n k) es)) []) n
 
-node_stays : (s t : State) (more : More s t) (n k : ℕ) → k ≤ steps_of n s.kept → node_after t n k ≡ node_after s n k
+pub node_stays : (s t : State) (more : More s t) (n k : ℕ) → k ≤ steps_of n s.kept → node_after t n k ≡ node_after s n k
 node_stays s t more n k l =
     let stays = place_stays s.kept more.event n k l in
     ap (λ (z : List NodeRecord). node_by z t.kept n k) more.load
@@ -187,7 +187,7 @@ node_stays s t more n k l =
     ∙ ap (λ (z : ℕ). record_at (unwrap_or (replay s.load (take z (s.kept ++ more.event ∷ []))) []) n) stays.0
     ∙ ap (λ (z : List Event). record_at (unwrap_or (replay s.load z) []) n) (take-append-le (place_after s.kept n k) s.kept (more.event ∷ []) stays.1)
 
-told_stays : (xs ys : List Made) (k : ℕ) → k < length xs → slice_get (xs ++ ys) k ≡ slice_get xs k
+pub told_stays : (xs ys : List Made) (k : ℕ) → k < length xs → slice_get (xs ++ ys) k ≡ slice_get xs k
 told_stays [] ys k l = absurd (omega (arith, l))
 told_stays (x ∷ xs) ys zero l = refl
 told_stays (x ∷ xs) ys (suc k) l = told_stays xs ys k (omega (arith, l))
@@ -226,7 +226,7 @@ cell_stays : (s t : State) (more : More s t) (n k : ℕ) → k ≤ steps_of n s.
 cell_stays s t more n zero l = refl
 cell_stays s t more n (suc k) l = ap (λ (z : NodeRecord). cell_of_target (classified z.p)) (node_stays s t more n k (omega (arith, l)))
 
-fetched_stays : (s t : State) (more : More s t) (node : NodeId) → IsCounted s node.number → (k : ℕ) → k ≤ steps_of node.number s.kept → fetched_cell t node k ≡ fetched_cell s node k
+pub fetched_stays : (s t : State) (more : More s t) (node : NodeId) → IsCounted s node.number → (k : ℕ) → k ≤ steps_of node.number s.kept → fetched_cell t node k ≡ fetched_cell s node k
 fetched_stays s t more node counted k l =
     ap (λ (z : Value). fetched_by t node.number z.step) (origin_stays s t more node counted k l part.I)
     ∙ cell_stays s t more node.number (origin_from s node k part.I).step (omega (arith, l, origin_within s node k part.I))
@@ -261,11 +261,12 @@ pub record IsWell (s : State) (n : ℕ) : Type 0 where
   pub counted : IsCounted s n
 
 -- and one behind a step
-record Step (s : State) (m : NodeId) (told : Made) : Type 0 where
-  more : More s (stepped s m)
-  touch : (n : ℕ) → touches more.event n ≡ is_step_of n told
+pub record Step (s : State) (m : NodeId) (told : Made) : Type 0 where
+  pub more : More s (stepped s m)
+  pub same : told_next s more.event ≡ told
+  pub touch : (n : ℕ) → touches more.event n ≡ is_step_of n told
 
-step_of : (s : State) (m : NodeId) (told : Made) → IsSome (replay s.load s.kept) → step_answer s m ≡ Ok told → Step s m told
+pub step_of : (s : State) (m : NodeId) (told : Made) → IsSome (replay s.load s.kept) → step_answer s m ≡ Ok told → Step s m told
 step_of s m told some h =
     let i : StepIs s m told = step_is s m told h in
     let is : stepped s m ≡ with_event s (Ok i.what) = stepped_is s m told i.what h i.is in
@@ -276,10 +277,11 @@ step_of s m told some h =
         kept = ap (λ (z : State). z.kept) is;
         told = λ n. ap (λ (z : State). history_of z n) is ∙ history_with s i.what n some (next_can (chip_of s) m i.what i.is);
       };
+      same = i.told;
       touch = λ n. of_made s.kept i.what (after (chip_of s) i.what).1 told n (told_after s i.what ∙ ap Some i.told);
     }
 
-steps_more : (s : State) (m : NodeId) (told : Made) (by : Step s m told) (n : ℕ) → steps_of n (stepped s m).kept ≡ steps_of n s.kept + cond (is_step_of n told) 1 0
+pub steps_more : (s : State) (m : NodeId) (told : Made) (by : Step s m told) (n : ℕ) → steps_of n (stepped s m).kept ≡ steps_of n s.kept + cond (is_step_of n told) 1 0
 steps_more s m told by n =
     ap (steps_of n) by.more.kept
     ∙ sum_by-append (λ (e : Event). cond (touches e n) 1 0) s.kept (by.more.event ∷ [])
@@ -298,7 +300,7 @@ counted_more s m told by n counted =
     ∙ sym (ap length (by.more.told n) ∙ length-append (history_of s n) (cond (touches by.more.event n) (told_next s by.more.event ∷ []) [])
     ∙ ap (λ (z : ℕ). length (history_of s n) + z) (one_told (touches by.more.event n) (told_next s by.more.event)))
 
-well_more : (s : State) (m : NodeId) (told : Made) (n : ℕ) → step_answer s m ≡ Ok told → IsWell s n → IsWell (stepped s m) n
+pub well_more : (s : State) (m : NodeId) (told : Made) (n : ℕ) → step_answer s m ≡ Ok told → IsWell s n → IsWell (stepped s m) n
 well_more s m told n h well =
     record { replays = runs_some (stepped s m) (call_runs s (call_step m) (runs_of s well.replays)); counted = counted_more s m told (step_of s m told well.replays h) n well.counted }
 
@@ -310,7 +312,7 @@ before_more : (s : State) (m : NodeId) (told : Made) (by : Step s m told) (node 
     → word ≡ fetched_cell (stepped s m) node (steps_of node.number s.kept)
 before_more s m told by node word counted is = is ∙ sym (fetched_stays s (stepped s m) by.more node counted (steps_of node.number s.kept) (omega arith))
 
-word_more : (s : State) (m : NodeId) (told : Made) (by : Step s m told) (node : NodeId) (word : Option ℕ) → IsCounted s node.number → IsWord s node word
+pub word_more : (s : State) (m : NodeId) (told : Made) (by : Step s m told) (node : NodeId) (word : Option ℕ) → IsCounted s node.number → IsWord s node word
     → IsWord (stepped s m) node (word_seen node word told (stepped s m))
 word_more s m told by node word counted is = go (is_step_of node.number told) (steps_more s m told by node.number)
   where
@@ -357,7 +359,7 @@ abbrev pub word_told : NodeId → Option ℕ → Option Made → State → Optio
 word_told node word None s = word
 word_told node word (Some told) s = word_seen node word told s
 
-refused_stays : (s : State) (m : NodeId) (why : LabFault) → step_answer s m ≡ Err why → s ≡ stepped s m
+pub refused_stays : (s : State) (m : NodeId) (why : LabFault) → step_answer s m ≡ Err why → s ≡ stepped s m
 refused_stays s m why is = sym (ap (λ (a : Result Made LabFault). unless_refused s a (with_event s (next (chip_of s) m))) is)
 
 pub well_next : (r : Running) (o : Option NodeId) (n : ℕ) → IsWell r.state n → IsWell (moved_by r o).state n

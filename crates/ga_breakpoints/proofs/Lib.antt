@@ -2,5 +2,7 @@ pub mod Beginnings
 pub mod NodesNow
 pub mod Halting
 pub mod Following
+pub mod Cells
 pub mod Moving
 pub mod Reversals
+pub mod Tallies

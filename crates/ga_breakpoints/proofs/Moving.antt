@@ -1,73 +1,138 @@
 -- The watches of the moves end a run where the moves halt.
-use Rattle.std.proofs.Common.{◌≡◌, ℕ, zero, suc, Bool, true, false, ◌||◌, cond, Option, Some, None, refl, sym, subst, ◌∙◌, ap}
+use Rattle.std.proofs.Common.{◌≡◌, ℕ, zero, suc, Bool, true, false, ◌||◌, cond, List, Option, Some, None, IsSome, refl, sym, subst, ◌∙◌, ap}
+use Rattle.std.specs.Prelude.{is_some, replicate}
 use Rattle.ga_grid.specs.declared.node_id.NodeId.{NodeId}
 use Rattle.ga_event.specs.declared.made.Made.{Made}
 use Rattle.ga_lab.specs.Machine.{State}
 use Rattle.ga_search.specs.Conditions.{is_step_of}
 use Rattle.ga_search.specs.Running.{Running}
 use Rattle.ga_search.specs.Watched.{chosen_first, told_first, first_moved, after_first, Watching, watching, seen_told, ends_told, watch_after}
+use Rattle.ga_event.specs.Apply.{replay}
+use Rattle.ga_breakpoints.specs.declared.breakpoint.Breakpoint.{Breakpoint}
 use Rattle.ga_breakpoints.specs.declared.halts.Halts.{Halts}
+use Rattle.ga_breakpoints.specs.declared.halts.Halting.{Halting}
 use Rattle.ga_breakpoints.specs.declared.hits.HitTally.{HitTally}
 use Rattle.ga_breakpoints.specs.declared.moves.Steps.{Steps}
 use Rattle.ga_breakpoints.specs.declared.stepping.Stepping.{Stepping}
-use Rattle.ga_breakpoints.specs.Breakpoints.{ends_early}
+use Rattle.ga_breakpoints.specs.Breakpoints.{is_stopping, ends_early}
 use Rattle.ga_breakpoints.specs.declared.stepping.Grain.TheVariants.{Line}
 use Rattle.ga_breakpoints.specs.Stepping.{call_behind, step_seen, step_told, stepped_on}
 use Rattle.ga_breakpoints.specs.Going.{tally_told, tally_on, halts_told, going_on, stepping_on}
 use Rattle.ga_breakpoints.specs.kept.Halting.{with_hits}
+use Rattle.ga_breakpoints.specs.kept.Cells.{Cells, ends_by}
 use Rattle.ga_breakpoints.specs.kept.Words.{word_seen, is_moved_by}
 use Rattle.ga_breakpoints.proofs.Halting.{AreAlike}
 use Rattle.ga_breakpoints.proofs.Following.{IsWell, IsWord, word_told, well_next, word_next, moved_alike}
+use Rattle.ga_breakpoints.proofs.Cells.{IsKnown, cells_told, tally_told_by, known_next, tally_next, replays_next, well_of}
+
+abbrev pub Replays : State → Type 0
+Replays s = IsSome (replay s.load s.kept)
+
+-- ---- along a run, however a node goes first
+
+-- the cells after so many events
+abbrev pub cells_on : Option NodeId → List Breakpoint → Cells → Running → ℕ → Cells
+cells_on first breakpoints cells r zero = cells
+cells_on first breakpoints cells r (suc k) =
+    cells_told breakpoints (told_first first (after_first first r k)) (first_moved first (after_first first r k)).state (cells_on first breakpoints cells r k)
+
+replays_on : (first : Option NodeId) (r : Running) (k : ℕ) → Replays r.state → Replays (after_first first r k).state
+replays_on first r zero some = some
+replays_on first r (suc k) some = replays_next (after_first first r k) (chosen_first first (after_first first r k)) (replays_on first r k some)
+
+known_on : (first : Option NodeId) (breakpoints : List Breakpoint) (cells : Cells) (r : Running) (k : ℕ) → Replays r.state → IsKnown r.state cells
+    → IsKnown (after_first first r k).state (cells_on first breakpoints cells r k)
+known_on first breakpoints cells r zero some known = known
+known_on first breakpoints cells r (suc k) some known =
+    known_next (after_first first r k) (chosen_first first (after_first first r k)) breakpoints (cells_on first breakpoints cells r k) (replays_on first r k some)
+    (known_on first breakpoints cells r k some known)
+
+-- the hits by the cells, behind the event after so many
+tally_alike : (first : Option NodeId) (breakpoints : List Breakpoint) (cells : Cells) (tally : HitTally) (r : Running) (k : ℕ) (o : Option Made) → Replays r.state → IsKnown r.state cells
+    → told_first first (after_first first r k) ≡ o
+    → tally_told_by breakpoints tally (cells_on first breakpoints cells r k) o (first_moved first (after_first first r k)).state
+    ≡ tally_told breakpoints tally o (first_moved first (after_first first r k)).state
+tally_alike first breakpoints cells tally r k o some known is =
+    let at : Running = after_first first r k in
+    let s : State = (first_moved first at).state in
+    let then : Cells = cells_on first breakpoints cells r k in
+    sym (ap (λ (z : Option Made). tally_told_by breakpoints tally then z s) is)
+    ∙ tally_next at (chosen_first first at) breakpoints then tally (replays_on first r k some) (known_on first breakpoints cells r k some known)
+    ∙ ap (λ (z : Option Made). tally_told breakpoints tally z s) is
 
 -- ---- `continue`
 
-abbrev pub by_halts : Watching Halts
-by_halts = watching None (λ (w : Halts) (told : Made) (s : State). ends_early w.breakpoints.now w.tally w.stops None told s) (λ (w : Halts) (told : Made) (s : State). with_hits w told s)
+-- no cell is known at first
+abbrev pub halting_by : Halts → Halting
+halting_by halts = record { halts = halts; cells = replicate 144 None }
 
-abbrev pub with_tally : Halts → HitTally → Halts
-with_tally w tally = record w { tally = tally }
+abbrev pub by_halts : Watching Halting
+by_halts =
+    watching None (λ (w : Halting) (told : Made) (s : State). ends_by w.halts.breakpoints.now w.cells w.halts.tally w.halts.stops None told s)
+    (λ (w : Halting) (told : Made) (s : State). with_hits w told s)
 
-counts_told : (w : Halts) (tally : HitTally) (o : Option Made) (s : State)
-    → seen_told by_halts (with_tally w tally) o s ≡ with_tally w (tally_told w.breakpoints.now tally o s)
-counts_told w tally None s = refl
-counts_told w tally (Some told) s = refl
+abbrev pub with_found : Halting → HitTally → Cells → Halting
+with_found w tally cells = record w { halts = record w.halts { tally = tally }; cells = cells }
 
-pub hits_after : (w : Halts) (r : Running) (k : ℕ) → watch_after by_halts w r k ≡ with_tally w (tally_on None w.breakpoints.now w.tally r k)
-hits_after w r zero = refl
-hits_after w r (suc k) =
+-- a watch that begins with cells that are known rightly
+abbrev pub BeginsKnown : Halting → Running → Type 0
+BeginsKnown w r = Replays r.state × IsKnown r.state w.cells
+
+counts_told : (w : Halting) (tally : HitTally) (cells : Cells) (o : Option Made) (s : State)
+    → seen_told by_halts (with_found w tally cells) o s ≡ with_found w (tally_told_by w.halts.breakpoints.now tally cells o s) (cells_told w.halts.breakpoints.now o s cells)
+counts_told w tally cells None s = refl
+counts_told w tally cells (Some told) s = refl
+
+pub hits_after : (w : Halting) (r : Running) (k : ℕ) → BeginsKnown w r
+    → watch_after by_halts w r k ≡ with_found w (tally_on None w.halts.breakpoints.now w.halts.tally r k) (cells_on None w.halts.breakpoints.now w.cells r k)
+hits_after w r zero begins = refl
+hits_after w r (suc k) begins =
     let o : Option Made = told_first None (after_first None r k) in
     let s : State = (first_moved None (after_first None r k)).state in
-    ap (λ (z : Halts). seen_told by_halts z o s) (hits_after w r k) ∙ counts_told w (tally_on None w.breakpoints.now w.tally r k) o s
+    let breakpoints : List Breakpoint = w.halts.breakpoints.now in
+    let tally : HitTally = tally_on None breakpoints w.halts.tally r k in
+    let cells : Cells = cells_on None breakpoints w.cells r k in
+    ap (λ (z : Halting). seen_told by_halts z o s) (hits_after w r k begins)
+    ∙ counts_told w tally cells o s
+    ∙ ap (λ (z : HitTally). with_found w z (cells_told breakpoints o s cells)) (tally_alike None breakpoints w.cells tally r k o begins.0 begins.1 refl)
 
 or_false : (b : Bool) → b ≡ (b || false)
 or_false true = refl
 or_false false = refl
 
-told_alike : (w : Halts) (r : Running) (k : ℕ) (o : Option Made) (s : State)
-    → ends_told by_halts (with_tally w (tally_on None w.breakpoints.now w.tally r k)) o s ≡ halts_told (going_on w.breakpoints.now w.tally w.stops r) k o s
-told_alike w r k None s = refl
-told_alike w r k (Some told) s = or_false (ends_early w.breakpoints.now (tally_on None w.breakpoints.now w.tally r k) w.stops None told s)
+told_alike : (w : Halting) (r : Running) (k : ℕ) → BeginsKnown w r → (o : Option Made) → told_first None (after_first None r k) ≡ o
+    → ends_told by_halts (with_found w (tally_on None w.halts.breakpoints.now w.halts.tally r k) (cells_on None w.halts.breakpoints.now w.cells r k)) o (first_moved None (after_first None r k)).state
+    ≡ halts_told (going_on w.halts.breakpoints.now w.halts.tally w.halts.stops r) k o (first_moved None (after_first None r k)).state
+told_alike w r k begins None is = refl
+told_alike w r k begins (Some told) is =
+    let s : State = (first_moved None (after_first None r k)).state in
+    let breakpoints : List Breakpoint = w.halts.breakpoints.now in
+    let tally : HitTally = tally_on None breakpoints w.halts.tally r k in
+    ap (λ (z : HitTally). is_some z.hit || is_stopping w.halts.stops None told) (tally_alike None breakpoints w.cells tally r k (Some told) begins.0 begins.1 is)
+    ∙ or_false (ends_early breakpoints tally w.halts.stops None told s)
 
-pub go_alike : (w : Halts) (r : Running) → AreAlike by_halts w r (going_on w.breakpoints.now w.tally w.stops r)
-go_alike w r k =
+pub go_alike : (w : Halting) (r : Running) → BeginsKnown w r → AreAlike by_halts w r (going_on w.halts.breakpoints.now w.halts.tally w.halts.stops r)
+go_alike w r begins k =
     let o : Option Made = told_first None (after_first None r k) in
     let s : State = (first_moved None (after_first None r k)).state in
-    ap (λ (z : Halts). ends_told by_halts z o s) (hits_after w r k) ∙ told_alike w r k o s
+    ap (λ (z : Halting). ends_told by_halts z o s) (hits_after w r k begins) ∙ told_alike w r k begins o refl
 
 -- ---- a move of a node
 
 abbrev pub by_steps : NodeId → Watching Steps
 by_steps node =
-    watching (Some node) (λ (w : Steps) (told : Made) (s : State). ends_early w.halts.breakpoints.now w.halts.tally w.halts.stops (Some w.stepping.node) told s || is_moved_by w.notes.now w.stepping w.word told s)
-    (λ (w : Steps) (told : Made) (s : State). record w { halts = with_hits w.halts told s; stepping = step_seen w.stepping told s; word = word_seen w.stepping.node w.word told s })
+    watching (Some node)
+    (λ (w : Steps) (told : Made) (s : State). ends_by w.halting.halts.breakpoints.now w.halting.cells w.halting.halts.tally w.halting.halts.stops (Some w.stepping.node) told s || is_moved_by w.notes.now w.stepping w.word told s)
+    (λ (w : Steps) (told : Made) (s : State). record w { halting = with_hits w.halting told s; stepping = step_seen w.stepping told s; word = word_seen w.stepping.node w.word told s })
 
-abbrev pub with_parts : Steps → HitTally → Stepping → Option ℕ → Steps
-with_parts w tally by word = record w { halts = with_tally w.halts tally; stepping = by; word = word }
+abbrev pub with_parts : Steps → HitTally → Cells → Stepping → Option ℕ → Steps
+with_parts w tally cells by word = record w { halting = with_found w.halting tally cells; stepping = by; word = word }
 
-goes_told : (node : NodeId) (w : Steps) (tally : HitTally) (by : Stepping) (word : Option ℕ) (o : Option Made) (s : State)
-    → seen_told (by_steps node) (with_parts w tally by word) o s ≡ with_parts w (tally_told w.halts.breakpoints.now tally o s) (step_told by o s) (word_told by.node word o s)
-goes_told node w tally by word None s = refl
-goes_told node w tally by word (Some told) s = refl
+goes_told : (node : NodeId) (w : Steps) (tally : HitTally) (cells : Cells) (by : Stepping) (word : Option ℕ) (o : Option Made) (s : State)
+    → seen_told (by_steps node) (with_parts w tally cells by word) o s
+    ≡ with_parts w (tally_told_by w.halting.halts.breakpoints.now tally cells o s) (cells_told w.halting.halts.breakpoints.now o s cells) (step_told by o s) (word_told by.node word o s)
+goes_told node w tally cells by word None s = refl
+goes_told node w tally cells by word (Some told) s = refl
 
 chosen_node : (b : Bool) (by : Stepping) (call : Option ℕ) → (cond {A = Stepping} b (record by { call = call }) by).node ≡ by.node
 chosen_node true by call = refl
@@ -103,20 +168,25 @@ word_on node word r zero = word
 word_on node word r (suc k) =
     word_told node (word_on node word r k) (told_first (Some node) (after_first (Some node) r k)) (first_moved (Some node) (after_first (Some node) r k)).state
 
-pub goes_after : (w : Steps) (r : Running) (k : ℕ)
+pub goes_after : (w : Steps) (r : Running) (k : ℕ) → BeginsKnown w.halting r
     → watch_after (by_steps w.stepping.node) w r k
-    ≡ with_parts w (tally_on (Some w.stepping.node) w.halts.breakpoints.now w.halts.tally r k) (stepped_on w.stepping r k) (word_on w.stepping.node w.word r k)
-goes_after w r zero = refl
-goes_after w r (suc k) =
+    ≡ with_parts w (tally_on (Some w.stepping.node) w.halting.halts.breakpoints.now w.halting.halts.tally r k) (cells_on (Some w.stepping.node) w.halting.halts.breakpoints.now w.halting.cells r k)
+    (stepped_on w.stepping r k) (word_on w.stepping.node w.word r k)
+goes_after w r zero begins = refl
+goes_after w r (suc k) begins =
     let first : Option NodeId = Some w.stepping.node in
     let o : Option Made = told_first first (after_first first r k) in
     let s : State = (first_moved first (after_first first r k)).state in
-    let tally : HitTally = tally_on first w.halts.breakpoints.now w.halts.tally r k in
+    let breakpoints : List Breakpoint = w.halting.halts.breakpoints.now in
+    let tally : HitTally = tally_on first breakpoints w.halting.halts.tally r k in
+    let cells : Cells = cells_on first breakpoints w.halting.cells r k in
     let by : Stepping = stepped_on w.stepping r k in
     let word : Option ℕ = word_on w.stepping.node w.word r k in
-    ap (λ (z : Steps). seen_told (by_steps w.stepping.node) z o s) (goes_after w r k)
-    ∙ goes_told w.stepping.node w tally by word o s
-    ∙ ap (λ (z : NodeId). with_parts w (tally_told w.halts.breakpoints.now tally o s) (step_told by o s) (word_told z word o s)) (same_node w.stepping r k)
+    ap (λ (z : Steps). seen_told (by_steps w.stepping.node) z o s) (goes_after w r k begins)
+    ∙ goes_told w.stepping.node w tally cells by word o s
+    ∙ ap (λ (z : NodeId). with_parts w (tally_told_by breakpoints tally cells o s) (cells_told breakpoints o s cells) (step_told by o s) (word_told z word o s)) (same_node w.stepping r k)
+    ∙ ap (λ (z : HitTally). with_parts w z (cells_told breakpoints o s cells) (step_told by o s) (word_told w.stepping.node word o s))
+    (tally_alike first breakpoints w.halting.cells tally r k o begins.0 begins.1 refl)
 
 well_on : (node : NodeId) (r : Running) (k : ℕ) → IsWell r.state node.number → IsWell (after_first (Some node) r k).state node.number
 well_on node r zero well = well
@@ -128,30 +198,36 @@ right_on node word r zero well is = is
 right_on node word r (suc k) well is =
     word_next (after_first (Some node) r k) (chosen_first (Some node) (after_first (Some node) r k)) node (word_on node word r k) (well_on node r k well) (right_on node word r k well is)
 
--- the watch begins with the cell of the node's word, where the move is by lines
+-- the watch begins with cells that are known rightly, and with that of the node's word, where the move is by lines
 abbrev pub BeginsWell : Steps → Running → Type 0
-BeginsWell w r = IsWell r.state w.stepping.node.number × (w.stepping.grain ≡ Line → IsWord r.state w.stepping.node w.word)
+BeginsWell w r = BeginsKnown w.halting r × (w.stepping.grain ≡ Line → IsWord r.state w.stepping.node w.word)
 
 step_alike_told : (w : Steps) (r : Running) (k : ℕ) → BeginsWell w r → (o : Option Made) → told_first (Some w.stepping.node) (after_first (Some w.stepping.node) r k) ≡ o
-    → ends_told (by_steps w.stepping.node) (with_parts w (tally_on (Some w.stepping.node) w.halts.breakpoints.now w.halts.tally r k) (stepped_on w.stepping r k) (word_on w.stepping.node w.word r k)) o (first_moved (Some w.stepping.node) (after_first (Some w.stepping.node) r k)).state
-    ≡ halts_told (stepping_on w.notes.now w.halts.breakpoints.now w.halts.tally w.halts.stops w.stepping r) k o (first_moved (Some w.stepping.node) (after_first (Some w.stepping.node) r k)).state
+    → ends_told (by_steps w.stepping.node) (with_parts w (tally_on (Some w.stepping.node) w.halting.halts.breakpoints.now w.halting.halts.tally r k) (cells_on (Some w.stepping.node) w.halting.halts.breakpoints.now w.halting.cells r k) (stepped_on w.stepping r k) (word_on w.stepping.node w.word r k)) o (first_moved (Some w.stepping.node) (after_first (Some w.stepping.node) r k)).state
+    ≡ halts_told (stepping_on w.notes.now w.halting.halts.breakpoints.now w.halting.halts.tally w.halting.halts.stops w.stepping r) k o (first_moved (Some w.stepping.node) (after_first (Some w.stepping.node) r k)).state
 step_alike_told w r k begins None is = refl
 step_alike_told w r k begins (Some told) is =
     let node : NodeId = w.stepping.node in
     let at : Running = after_first (Some node) r k in
     let s : State = (first_moved (Some node) at).state in
     let by : Stepping = stepped_on w.stepping r k in
-    let tally : HitTally = tally_on (Some node) w.halts.breakpoints.now w.halts.tally r k in
+    let breakpoints : List Breakpoint = w.halting.halts.breakpoints.now in
+    let stops : Bool = w.halting.halts.stops in
+    let tally : HitTally = tally_on (Some node) breakpoints w.halting.halts.tally r k in
+    let cells : Cells = cells_on (Some node) breakpoints w.halting.cells r k in
     let word : Option ℕ = word_on node w.word r k in
     let same : node ≡ by.node = sym (same_node w.stepping r k) in
-    ap (λ (z : NodeId). ends_early w.halts.breakpoints.now tally w.halts.stops (Some z) told s || is_moved_by w.notes.now by word told s) (same_node w.stepping r k)
-    ∙ ap (λ (z : Bool). ends_early w.halts.breakpoints.now tally w.halts.stops (Some node) told s || z)
-    (moved_alike w.notes.now by word at (chosen_first (Some node) at) told is (subst (λ (z : NodeId). IsWell at.state z.number) same (well_on node r k begins.0))
-    (λ line. subst (λ (z : NodeId). IsWord at.state z word) same (right_on node w.word r k begins.0 (begins.1 (sym (same_grain w.stepping r k) ∙ line)))))
+    let well : IsWell r.state node.number = well_of r.state begins.0.0 node.number in
+    ap (λ (z : NodeId). ends_by breakpoints cells tally stops (Some z) told s || is_moved_by w.notes.now by word told s) (same_node w.stepping r k)
+    ∙ ap (λ (z : HitTally). (is_some z.hit || is_stopping stops (Some node) told) || is_moved_by w.notes.now by word told s)
+    (tally_alike (Some node) breakpoints w.halting.cells tally r k (Some told) begins.0.0 begins.0.1 is)
+    ∙ ap (λ (z : Bool). ends_early breakpoints tally stops (Some node) told s || z)
+    (moved_alike w.notes.now by word at (chosen_first (Some node) at) told is (subst (λ (z : NodeId). IsWell at.state z.number) same (well_on node r k well))
+    (λ line. subst (λ (z : NodeId). IsWord at.state z word) same (right_on node w.word r k well (begins.1 (sym (same_grain w.stepping r k) ∙ line)))))
 
-pub step_alike : (w : Steps) (r : Running) → BeginsWell w r → AreAlike (by_steps w.stepping.node) w r (stepping_on w.notes.now w.halts.breakpoints.now w.halts.tally w.halts.stops w.stepping r)
+pub step_alike : (w : Steps) (r : Running) → BeginsWell w r → AreAlike (by_steps w.stepping.node) w r (stepping_on w.notes.now w.halting.halts.breakpoints.now w.halting.halts.tally w.halting.halts.stops w.stepping r)
 step_alike w r begins k =
     let first : Option NodeId = Some w.stepping.node in
     let o : Option Made = told_first first (after_first first r k) in
     let s : State = (first_moved first (after_first first r k)).state in
-    ap (λ (z : Steps). ends_told (by_steps w.stepping.node) z o s) (goes_after w r k) ∙ step_alike_told w r k begins o refl
+    ap (λ (z : Steps). ends_told (by_steps w.stepping.node) z o s) (goes_after w r k begins.0) ∙ step_alike_told w r k begins o refl

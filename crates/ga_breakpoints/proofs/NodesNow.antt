@@ -1,11 +1,7 @@
 -- A node as it stands is the one behind all its steps.
-use Rattle.std.proofs.Common.{◌≡◌, ℕ, zero, suc, ◌+◌, ◌≤◌, ◌==◌, Bool, true, false, ◌&&◌, cond, List, [], ◌∷◌, length, take, Option, Some, None, IsSome, inl, inr, refl, sym, ◌∙◌, ap, arith}
-use Rattle.std.specs.Prelude.{option_map, option_and_then, unwrap_or}
-use Rattle.std.specs.List.{slice_get}
+use Rattle.std.proofs.Common.{◌≡◌, ℕ, zero, suc, ◌+◌, ◌≤◌, Bool, true, false, ◌&&◌, cond, List, [], ◌∷◌, length, take, Option, Some, IsSome, refl, sym, ◌∙◌, ap, arith}
+use Rattle.std.specs.Prelude.{option_and_then, unwrap_or}
 use Rattle.ga_event.specs.declared.made.Made.{Made}
-use Rattle.std.proofs.Math.Bool.{and_comm}
-use Rattle.std.proofs.lemmas.Bool.{ne_eqb}
-use Rattle.std.proofs.lemmas.Bool.Decides.{eqb_tells}
 use Rattle.std.proofs.lemmas.List.Sums.{sum_by-cons}
 use Rattle.std.proofs.lemmas.Option.{same_Some}
 use Rattle.ga_node.specs.Record.{NodeRecord}
@@ -19,17 +15,13 @@ use Rattle.ga_event.specs.Told.{steps_of}
 use Rattle.ga_causal.proofs.Runs.{FirstOf, first_of_run, keeps_of}
 use Rattle.ga_causal.proofs.Swaps.{replay-cons}
 use Rattle.ga_lab.specs.Machine.{State, chip_of, history_of}
-use Rattle.ga_origin.specs.Fetched.{fetched_cell}
 use Rattle.ga_origin.proofs.Made.{none_past}
 use Rattle.ga_lab.proofs.Called.{Runs, runs_of, chip_is}
-use Rattle.ga_notes.specs.Source.{cell_of_address}
 use Rattle.ga_origin.specs.Origins.{place_after, node_after}
 use Rattle.ga_adapter.specs.declared.spots.Spot.{Spot}
-use Rattle.ga_adapter.specs.Labels.{is_same_cell}
 use Rattle.ga_breakpoints.specs.Back.{is_at_spot}
 use Rattle.ga_breakpoints.specs.Back.{arrives, comes_to}
-use Rattle.ga_adapter.specs.Spots.{spot, spot_by, spot_behind}
-use Rattle.ga_breakpoints.specs.kept.Standing.{may_be}
+use Rattle.ga_adapter.specs.Spots.{spot_behind}
 
 -- ---- events that are no steps of a node leave it
 
@@ -71,45 +63,7 @@ node_now s n some =
     let r : Runs s = runs_of s some in
     stands_at s.kept s.load r.last r.told n (steps_of n s.kept) r.run_is refl ∙ sym (ap (λ (z : List NodeRecord). record_at z n) (chip_is s r))
 
--- ---- where it may stand, by the slot and P
-
-eq_sym : (a b : ℕ) → (a == b) ≡ (b == a)
-eq_sym a b = elim (eqb_tells a b) [
-  | inl same ↦ ap (λ (z : ℕ). a == z) (sym same.1) ∙ ap (λ (z : ℕ). z == a) same.1
-  | inr other ↦ other.0 ∙ sym (ne_eqb b a (λ h. other.1 (sym h)))
-]
-
-and_false : (a b : Bool) → b ≡ false → (a && b) ≡ false
-and_false true b h = h
-and_false false b h = refl
-
-due : (at : Spot) (o : Option ℕ) → (at.slot == 0 && is_same_cell at.cell o) ≡ false → is_at_spot at (option_map (spot 0) o) ≡ false
-due at None h = refl
-due at (Some cell) h = and_comm (cell == at.cell) (0 == at.slot) ∙ ap (λ (b : Bool). b && (cell == at.cell)) (eq_sym 0 at.slot) ∙ h
-
-within : (at : Spot) (slot : ℕ) (o : Option ℕ) → (slot == at.slot) ≡ false → is_at_spot at (option_map (spot slot) o) ≡ false
-within at slot None h = refl
-within at slot (Some cell) h = and_false (cell == at.cell) (slot == at.slot) h
-
-elsewhere : (b : Bool) (slot p : ℕ) (at : Spot) (fetched : Option ℕ) → cond b (at.slot == 0 && is_same_cell at.cell (cell_of_address p)) (slot == at.slot) ≡ false
-    → is_at_spot at (cond b (option_map (spot 0) (cell_of_address p)) (option_map (spot slot) fetched)) ≡ false
-elsewhere true slot p at fetched h = due at (cell_of_address p) h
-elsewhere false slot p at fetched h = within at slot fetched h
-
-pub stands_elsewhere : (s : State) (node : NodeId) (at : Spot) → IsSome (replay s.load s.kept)
-    → may_be (record_at (chip_of s) node.number).slot (record_at (chip_of s) node.number).p at ≡ false
-    → is_at_spot at (spot_behind s node (steps_of node.number s.kept)) ≡ false
-stands_elsewhere s node at some h =
-    let n : NodeRecord = record_at (chip_of s) node.number in
-    let fetched : Option ℕ = fetched_cell s node (steps_of node.number s.kept) in
-    ap (λ (z : NodeRecord). is_at_spot at (spot_by z fetched)) (node_now s node.number some) ∙ elsewhere (n.slot == 4) n.slot n.p at fetched h
-
--- so it didn't come there
-pub not_come : (s : State) (node : NodeId) (at : Spot) (k n : ℕ) → n ≡ k + 1 → is_at_spot at (spot_behind s node n) ≡ false → false ≡ comes_to s node at k
-not_come s node at k n e h =
-    let came : Bool = arrives (slice_get (history_of s node.number) k) in
-    sym (ap (λ (z : ℕ). came && is_at_spot at (spot_behind s node z)) (sym e) ∙ and_false came (is_at_spot at (spot_behind s node n)) h)
-
+-- it came to no slot before its first step
 pub none_came : (s : State) (node : NodeId) (at : Spot) (k : ℕ) → length (history_of s node.number) ≤ k → false ≡ comes_to s node at k
 none_came s node at k past =
     sym (ap (λ (o : Option Made). arrives o && is_at_spot at (spot_behind s node (k + 1))) (none_past (history_of s node.number) k past))

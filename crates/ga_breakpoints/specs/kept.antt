@@ -1,3 +1,3 @@
+pub mod Cells
 pub mod Halting
-pub mod Standing
 pub mod Words

@@ -45,7 +45,7 @@ pub fn step_back(lab: &mut Lab, node: NodeId) -> u32
 }
 
 /// Whether a node can come to a slot by a step of which this is told.
-fn arrives(told: &Option<Made>) -> bool
+pub(crate) fn arrives(told: &Option<Made>) -> bool
     ensures { result ≡ arrives told.now }
 {
     match told {
@@ -60,7 +60,7 @@ fn arrives(told: &Option<Made>) -> bool
     }
 }
 
-fn is_at_spot(at: Spot, found: Option<Spot>) -> bool
+pub(crate) fn is_at_spot(at: Spot, found: Option<Spot>) -> bool
     ensures { result ≡ is_at_spot at found }
 {
     match found {

@@ -5,9 +5,9 @@ ghost use Rattle.ga_search.specs.Running.{running, after_events};
 ghost use Rattle.ga_breakpoints.specs.Going.{HasGone, tally_on, going_on};
 ghost use Rattle.ga_breakpoints.specs.kept.Halting.{halt_by, halt_of};
 
-use crate::halts::{Halts, is_stopping};
+use crate::halts::{Halting, Halts, is_stopping};
 use crate::hits::HitTally;
-use ga_grid::NodeId;
+use ga_grid::{NODES, NodeId};
 use ga_lab::{Lab, LabFault, Made};
 use ga_search::{Schedule, WatchedEnd, WatchedRun, run_watched};
 
@@ -84,14 +84,19 @@ pub(crate) fn went_by(run: WatchedRun, halts: &Halts<'_>, node: Option<NodeId>) 
 
 /// `continue` (Debug Adapter Protocol, "ContinueRequest"), a slice of at most so many events in the order of the schedule: up to the first that hits a
 /// breakpoint, or is a stop where these end it. Where it was cut, it is gone on with by the schedule that is handed back. Takes time by the events that
-/// are made, and by the breakpoints.
+/// are made, by the breakpoints, and for each node that comes to the slot number of one, once in a slice, by how long it is within its word.
 pub fn go_on(lab: &mut Lab, schedule: Schedule, halts: Halts<'_>, most: u64) -> Went
     ensures state { running lab.new result.schedule ≡ after_events (running lab.old schedule) result.events }
     ensures hits { result.tally ≡ tally_on None halts.entry.breakpoints.now halts.entry.tally (running lab.old schedule) result.events }
     ensures most { result.events ≤ most }
     ensures end { HasGone (going_on halts.entry.breakpoints.now halts.entry.tally halts.entry.stops (running lab.old schedule)) (running lab.old schedule) most result.events result.halt }
 {
-    let mut watch = halts;
+    // It is asked for what its contract says alone: the kept events can be replayed.
+    lab.chip();
+    let mut watch = Halting {
+        halts,
+        cells: [None; NODES],
+    };
     let run = run_watched(lab, schedule, None, most, &mut watch);
-    went_by(run, &watch, None)
+    went_by(run, &watch.halts, None)
 }

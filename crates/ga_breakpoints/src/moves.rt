@@ -13,13 +13,13 @@ ghost use Rattle.ga_breakpoints.specs.kept.Words.{word_seen, reaches_by, is_move
 ghost use Rattle.ga_breakpoints.specs.Going.{HasGone, tally_on, stepping_on};
 
 use crate::going::{Went, went_by};
-use crate::halts::{Halts, see_halt};
+use crate::halts::{Halting, Halts, see_halt};
 use crate::hits::is_step_of;
 use crate::lines::begins_by;
 use crate::stepping::{Grain, Stepping};
 use crate::words::{word_after, word_behind};
 use ga_adapter::{entries_from, is_calling};
-use ga_grid::NodeId;
+use ga_grid::{NODES, NodeId};
 use ga_lab::{Lab, Made};
 use ga_notes::Notes;
 use ga_search::{Schedule, Watch, run_watched};
@@ -28,7 +28,7 @@ use ga_search::{Schedule, Watch, run_watched};
 #[derive(Clone, Copy)]
 struct Steps<'a> {
     notes: &'a Notes,
-    halts: Halts<'a>,
+    halting: Halting<'a>,
     stepping: Stepping,
     // The cell from which the node's word came, where the move is by lines.
     word: Option<u8>,
@@ -158,14 +158,14 @@ fn is_moved_by(
 
 impl<'a> Watch for Steps<'a> {
     ghost use Rattle.std.specs.Prelude.{Some, ◌||◌};
-    ghost use Rattle.ga_breakpoints.specs.Breakpoints.{ends_early};
+    ghost use Rattle.ga_breakpoints.specs.kept.Cells.{ends_by};
     ghost use Rattle.ga_breakpoints.specs.Stepping.{step_seen};
     ghost use Rattle.ga_breakpoints.specs.kept.Halting.{with_hits};
     ghost use Rattle.ga_breakpoints.specs.kept.Words.{word_seen, is_moved_by};
 
-    ghost ends = { λ w told s. ends_early w.halts.breakpoints.now w.halts.tally w.halts.stops (Some w.stepping.node) told s || is_moved_by w.notes.now w.stepping w.word told s };
+    ghost ends = { λ w told s. ends_by w.halting.halts.breakpoints.now w.halting.cells w.halting.halts.tally w.halting.halts.stops (Some w.stepping.node) told s || is_moved_by w.notes.now w.stepping w.word told s };
 
-    ghost seen = { λ w told s. record w { halts = with_hits w.halts told s; stepping = step_seen w.stepping told s; word = word_seen w.stepping.node w.word told s } };
+    ghost seen = { λ w told s. record w { halting = with_hits w.halting told s; stepping = step_seen w.stepping told s; word = word_seen w.stepping.node w.word told s } };
 
     fn sees(&mut self, made: &Made, lab: &Lab) -> bool {
         let by = self.stepping;
@@ -174,7 +174,7 @@ impl<'a> Watch for Steps<'a> {
         let behind = word_seen(lab, by.node, before, made);
         self.stepping = next;
         self.word = behind;
-        see_halt(&mut self.halts, Some(by.node), made, lab)
+        see_halt(&mut self.halting, Some(by.node), made, lab)
             || is_moved_by(lab, self.notes, &by, next.call, before, behind, made)
     }
 }
@@ -191,8 +191,8 @@ fn word_begun(lab: &Lab, by: &Stepping) -> Option<u8>
 
 /// A slice of a move of a node, of at most so many events, in which the node makes each event that it has, and others theirs, in the order of the schedule,
 /// only while it has none: up to the first behind which the move comes to its end, a breakpoint is hit at any node, or a stop ends it. Where it was cut,
-/// it is gone on with by the same move and the schedule that is handed back. Takes time by the events that are made, by the breakpoints, and for a move
-/// by lines, once in a slice, by how long the node is within its word, and by how long its calls are.
+/// it is gone on with by the same move and the schedule that is handed back. Takes time by the events that are made, by the breakpoints, for each node
+/// that comes to the slot number of one, and for a move by lines, once in a slice, by how long the node is within its word, and by how long its calls are.
 pub fn step_on(
     lab: &mut Lab,
     schedule: Schedule,
@@ -208,16 +208,18 @@ pub fn step_on(
     ensures end { HasGone (stepping_on notes.now halts.entry.breakpoints.now halts.entry.tally halts.entry.stops stepping.old (running lab.old schedule)) (running lab.old schedule) most result.events result.halt }
 {
     let node = stepping.node;
-    // They are asked for what their contracts say alone: the kept events can be replayed, and each of the node's steps is told.
+    // It is asked for what its contract says alone: the kept events can be replayed.
     lab.chip();
-    lab.steps(node);
     let mut watch = Steps {
         notes,
-        halts,
+        halting: Halting {
+            halts,
+            cells: [None; NODES],
+        },
         stepping: *stepping,
         word: word_begun(lab, stepping),
     };
     let run = run_watched(lab, schedule, Some(node), most, &mut watch);
     *stepping = watch.stepping;
-    went_by(run, &watch.halts, Some(node))
+    went_by(run, &watch.halting.halts, Some(node))
 }

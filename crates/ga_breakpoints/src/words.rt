@@ -1,15 +1,19 @@
-//! From which cell the instruction word of a node came, followed from step to step: no step looks back for it.
+//! From which cell the instruction word of a node came, followed from step to step, or found once and kept until the node takes another word: so no step
+//! looks back for it again.
 
-ghost use Rattle.std.specs.Prelude.{◌≡◌, ◌<◌, ◌≤◌, ◌+◌};
+ghost use Rattle.std.specs.Prelude.{◌≡◌, ◌<◌, ◌≤◌, ◌+◌, true};
 ghost use Rattle.ga_node.specs.Record.{record_of};
 ghost use Rattle.ga_event.specs.Told.{steps_of};
 ghost use Rattle.ga_lab.specs.Machine.{standing};
 ghost use Rattle.ga_origin.specs.Fetched.{fetched_cell};
 ghost use Rattle.ga_adapter.specs.Spots.{spot_by};
+ghost use Rattle.ga_grid.specs.Chip.{record_at};
+ghost use Rattle.ga_lab.specs.Machine.{chip_of};
 ghost use Rattle.ga_breakpoints.specs.kept.Words.{keeps_kind, awaits_code, keeps_word, word_after};
+ghost use Rattle.ga_breakpoints.specs.kept.Cells.{cells_left, cell_known, cell_in, asks_word, cells_with, cells_asked};
 
 use ga_adapter::{Spot, memory_cell, slot_and_p};
-use ga_grid::NodeId;
+use ga_grid::{NODES, NodeId};
 use ga_lab::{Lab, Made, Walk};
 use ga_node::{Kind, Node, Wait};
 use ga_origin::fetched_near;
@@ -93,5 +97,66 @@ pub(crate) fn spot_by(node: &Node, word: Option<u8>) -> Option<Spot>
     match word {
         Some(cell) => Some(Spot { cell, slot }),
         None => None,
+    }
+}
+
+/// The cells from which the words of the nodes came, as far as they were looked back for, by the numbers of the nodes; and none where a word came from no
+/// memory.
+pub(crate) type Cells = [Option<Option<u8>>; NODES];
+
+/// Forgets the cell of a node that may have taken another word by an event.
+#[inline(always)]
+pub(crate) fn forget(cells: &mut Cells, made: &Made)
+    ensures { cells.new ≡ cells_left made.now cells.old }
+{
+    match made {
+        Made::Own { node, kind, .. } => {
+            if !keeps_kind(*kind) {
+                cells[node.index()] = None;
+            }
+        }
+        Made::Pass { reader, .. } => {
+            cells[reader.index()] = None;
+        }
+    }
+}
+
+/// The cell of a word, where it is known, else as it is looked back for. Takes time by how many steps the node made since the fetch, where it isn't known.
+fn cell_known(lab: &Lab, node: NodeId, known: Option<Option<u8>>) -> Option<u8>
+    ensures { result ≡ cell_known lab.now node known }
+{
+    match known {
+        Some(cell) => cell,
+        None => word_behind(lab, node, lab.steps(node)),
+    }
+}
+
+/// The cell of a node's word, which is known from then on.
+fn cell_found(lab: &Lab, cells: &mut Cells, node: NodeId) -> Option<u8>
+    ensures cell { result ≡ cell_in lab.now cells.old node }
+    ensures cells { cells.new ≡ cells_with node.number (cell_in lab.now cells.old node) cells.old }
+{
+    let cell = cell_known(lab, node, cells[node.index()]);
+    cells[node.index()] = Some(cell);
+    cell
+}
+
+/// Whether a node stands at this slot of its word, so that the word's cell has to be known.
+fn asks_word(at: Spot, node: &Node) -> bool
+    ensures { result ≡ asks_word at (record_of node.now) }
+{
+    let (slot, _) = slot_and_p(node);
+    slot != 4 && slot == at.slot
+}
+
+/// The cell of a node's word, where the node stands in it at this slot: it is known from then on.
+pub(crate) fn cell_at(lab: &Lab, cells: &mut Cells, node: NodeId, at: Spot) -> Option<u8>
+    ensures cell { asks_word at (record_at (chip_of lab.now) node.number) ≡ true → result ≡ cell_in lab.now cells.old node }
+    ensures cells { cells.new ≡ cells_asked (asks_word at (record_at (chip_of lab.now) node.number)) lab.now node cells.old }
+{
+    if asks_word(at, lab.node(node)) {
+        cell_found(lab, cells, node)
+    } else {
+        None
     }
 }

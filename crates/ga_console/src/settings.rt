@@ -85,6 +85,7 @@ Tells how many orders there are and, of each kind of end, how many end so, which
 `at least N orders`: there may be others, as a run was cut by a bound or where a node would look at its neighbours.
 With --session K it writes instead the lines `step NNN` that lead to the end of the Kth order.
 The answer is the same for every number of workers.
+With --settled the idle nodes have come to rest before: a look sees that they wait. A session has these steps first.
 
 Exit status: 0 all end on one chip where none stops, or a session is told, 1 image or source refused, 2 a stream failed,
 3 command line refused, 5 they end on several chips or a node stops, 6 there may be other orders.";
@@ -154,9 +155,11 @@ pub enum Settings {
         limit: u32,
     },
     /// Run every order of a program's nodes, in at most `most` runs, 1 to 4294967295, with 1 to 16 workers, and tell how they end; or
-    /// tell the session of one of them, whose number counts from 1. With `progress` it is told as it goes on.
+    /// tell the session of one of them, whose number counts from 1. With `settled` each node whose first event is to wait for code makes
+    /// it before all else, and with `progress` it is told as it goes on.
     Check {
         most: u32,
+        settled: bool,
         session: Option<u32>,
         workers: u32,
         progress: bool,
@@ -298,6 +301,11 @@ fn check_line<'a>(alloc: Global) -> Result<Command<'a>, AllocError> {
             u32::MAX,
         )
         .value_name("N"))?
+        .arg(flag(
+            alloc,
+            "settled",
+            "Let each node whose first event is to wait for code make it before all else",
+        ))?
         .arg(number_option(
             alloc,
             "session",
@@ -491,6 +499,7 @@ fn checked(alloc: Global, check: &ArgMatches<'_>) -> Result<Settings, LineFault>
     let most = place(check.get_str("most"), DEFAULT_MOST)?;
     Ok(Settings::Check {
         most,
+        settled: check.get_flag("settled"),
         session: order(check.get_str("session"))?,
         workers: workers(check.get_str("workers"))?,
         progress: check.get_flag("progress"),

@@ -1,5 +1,5 @@
 -- That nothing is launched, and why.
-use Rattle.std.proofs.Common.{◌≡◌, ℕ, [], ◌∷◌, Option, Some, None, Result, Ok, Err, refl, ap}
+use Rattle.std.proofs.Common.{◌≡◌, ℕ, [], ◌∷◌, Option, None, Result, Ok, Err, refl, ap}
 use Rattle.std.specs.Prelude.{IfOk}
 use Rattle.ga_text.specs.Lines.{Text}
 use Rattle.ga_search.specs.declared.schedule.Schedule.{Schedule}

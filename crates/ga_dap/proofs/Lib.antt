@@ -2,6 +2,6 @@ pub mod Known
 pub mod Sends
 pub mod Shown
 pub mod Serves
-pub mod Still
+pub mod Unmoved
 pub mod Launched
 pub mod Turned

@@ -1,9 +1,7 @@
 -- What was sent and is taken back; messages in a row; calls that carried out what they promise.
-use Rattle.std.proofs.Common.{◌≡◌, ◌∙◌, ℕ, List, [], ◌∷◌, ◌++◌, Result, Ok, Err, refl, sym, ap, subst}
-use Rattle.std.specs.Prelude.{OnOk, IfOk}
+use Rattle.std.proofs.Common.{◌≡◌, ◌∙◌, ℕ, List, [], ◌∷◌, Result, Ok, Err, sym, ap, subst}
 use Rattle.ga_protocol.specs.Sent.{SentMessages}
 use Rattle.ga_responses.specs.Sending.{Message, Messages, Sends, SendsAll}
-use Rattle.ga_responses.proofs.Sent.{sent_both, sent_one}
 use Rattle.ga_dap.specs.declared.unanswered.Unanswered.{Unanswered}
 use Rattle.ga_dap.specs.declared.unanswered.Unanswered.TheVariants.{Memory, Untold}
 use Rattle.ga_dap.specs.Client.{sent_as}

@@ -1,5 +1,5 @@
 -- Turns, one behind the other.
-use Rattle.std.proofs.Common.{◌≡◌, ◌∙◌, ℕ, suc, List, [], ◌++◌, Option, Some, refl, sym, ap, subst}
+use Rattle.std.proofs.Common.{◌≡◌, ◌∙◌, ℕ, suc, [], ◌++◌, Option, Some, refl, sym, ap, inr}
 use Rattle.std.specs.Prelude.{false}
 use Rattle.std.proofs.lemmas.List.{append-nil}
 use Rattle.ga_text.specs.Lines.{Bytes}
@@ -8,9 +8,9 @@ use Rattle.ga_protocol.specs.Sent.{SentMessages}
 use Rattle.ga_dap.specs.declared.session.Session.{Session}
 use Rattle.ga_dap.specs.declared.serving.SessionEnd.{SessionEnd}
 use Rattle.ga_dap.specs.declared.serving.SessionEnd.TheVariants as end
-use Rattle.ga_dap.specs.Client.{Serving, ArrivalTelling, ServesFor, MakesTurn, WrittenBy, new_session, serving_from, sent_from}
+use Rattle.ga_dap.specs.Client.{Serving, ArrivalTelling, ServesFor, MakesTurn, EndsBy, WrittenBy, new_session, serving_from, sent_from}
 use Rattle.ga_dap.specs.Launches.{FileGiving}
-use Rattle.ga_dap.specs.kept.Turning.{serving_at}
+use Rattle.ga_dap.specs.kept.Turning.{EndsTurn, serving_at}
 
 pub begins_so : {S A : Type 0} (files : S) (arrivals : A) (session : Session) (out : SentMessages) (inbox left : Bytes) → session ≡ new_session → out ≡ sent_from 0 → inbox ≡ []
     → serving_at files arrivals session out.seq inbox left ≡ serving_from files arrivals left
@@ -25,6 +25,13 @@ serves_on G T begin count said s sent t serves open_still makes = (s, said, sent
 -- what is pending is said
 pub pends : (contents : Option Bytes) (before said pending : Bytes) → contents ≡ Some (before ++ said) → IsSaid contents before (said ++ pending) pending
 pends contents before said pending held = record { sent = said; held = held; splits = refl }
+
+-- where no turn is made, the session ends
+pub ends_so : {S A : Type 0} (s : Serving S A) (ending : SessionEnd) → s.session.is_over ≡ false → EndsTurn s ending → EndsBy s ending
+ends_so s end.Done open_still ends = inr ends
+ends_so s (end.Broken why) open_still ends = (open_still, ends)
+ends_so s end.Memory open_still ends = open_still
+ends_so s end.StreamFault open_still ends = tt
 
 -- nothing is pending any more: all that was said is written
 pub all_sent : (contents : Option Bytes) (before said : Bytes) → IsSaid contents before said [] → contents ≡ Some (before ++ said)

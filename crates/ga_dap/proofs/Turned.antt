@@ -1,5 +1,5 @@
 -- What a turn comes to, from what its parts come to.
-use Rattle.std.proofs.Common.{◌≡◌, ◌≢◌, ◌∙◌, ◌⊎◌, ℕ, List, [], ◌++◌, Bool, true, false, refl, sym, ap, subst, inl, inr, append_assoc}
+use Rattle.std.proofs.Common.{◌≡◌, ◌≢◌, ◌∙◌, [], ◌++◌, true, false, refl, sym, subst, inl, inr, append_assoc}
 use Rattle.ga_text.specs.Lines.{Bytes}
 use Rattle.ga_protocol.specs.Framing.{IsMessage}
 use Rattle.ga_protocol.specs.Messages.{HoldsNoRequest}
@@ -7,16 +7,16 @@ use Rattle.ga_protocol.specs.Sent.{SentMessages}
 use Rattle.ga_protocol.specs.declared.request.ClientRequest.{ClientRequest}
 use Rattle.ga_protocol.specs.declared.request.RequestError.{RequestError}
 use Rattle.ga_protocol.specs.declared.request.RequestError.TheVariants as fault
-use Rattle.ga_responses.specs.Sending.{Messages, SendsAll}
+use Rattle.ga_responses.specs.Sending.{SendsAll}
 use Rattle.ga_dap.specs.declared.session.Session.{Session}
 use Rattle.ga_dap.specs.declared.serving.SessionEnd.{SessionEnd}
 use Rattle.ga_dap.specs.declared.serving.SessionEnd.TheVariants as end
 use Rattle.ga_dap.specs.declared.turn.Progress.{Progress}
 use Rattle.ga_dap.specs.declared.turn.Progress.TheVariants.{On, End}
-use Rattle.ga_dap.specs.Client.{ArrivalTelling, IsRequestIn, IsTime, EndsBy, AnswersContent, is_running, no_request_told, untaken}
+use Rattle.ga_dap.specs.Client.{ArrivalTelling, IsRequestIn, IsTime, is_running, no_request_told}
 use Rattle.ga_dap.specs.Client.AnswersContent.{carried, wanting, no_request}
 use Rattle.ga_dap.specs.Launches.{FileGiving}
-use Rattle.ga_dap.specs.kept.Turning.{AnswersOrEnds, ContentOrEnds, DeclinesOrEnds, TakesOrEnds, GoesOnOrEnds, TurnOrEnds, serving_at}
+use Rattle.ga_dap.specs.kept.Turning.{AnswersOrEnds, ContentOrEnds, DeclinesOrEnds, TakesOrEnds, GoesOnOrEnds, EndsTurn, TurnOrEnds, serving_at}
 use Rattle.ga_dap.proofs.Sends.{back_again}
 
 pub content_so : {S : Type 0} (G : FileGiving S) (host after : S) (s t : Session) (content : Bytes) (request : ClientRequest) (old new : SentMessages) (progress : Progress)
@@ -55,7 +55,7 @@ turned_so G T host after arrivals came s t ahead left ahead' rest old new On non
     sends = subst (λ (z : SentMessages). SendsAll z h.2 new) (sym (back_again old none)) h.6;
   },
 )
-turned_so G T host after arrivals came s t ahead left ahead' rest old new (End end.Done) none time h = (inr h.0, ahead', h.0 ∙ sym h.1)
+turned_so G T host after arrivals came s t ahead left ahead' rest old new (End end.Done) none time h = (h.0, ahead', h.0 ∙ sym h.1)
 turned_so G T host after arrivals came s t ahead left ahead' rest old new (End (end.Broken why)) none time h = (h.1, ahead', h.0)
 turned_so G T host after arrivals came s t ahead left ahead' rest old new (End end.Memory) none time h = (tt, h.0 ++ ahead', h.1 ∙ sym (append_assoc h.0 ahead' rest))
 turned_so G T host after arrivals came s t ahead left ahead' rest old new (End end.StreamFault) none time h = (tt, ahead', h)
@@ -80,4 +80,4 @@ gone_on_so G T host arrivals came s t ahead left old new On none time h = (
   },
 )
 gone_on_so G T host arrivals came s t ahead left old new (End ending) none time h =
-    let P : SessionEnd → Type 0 = λ z. EndsBy (serving_at host arrivals s old.seq ahead left) z in (subst P (sym h) tt, ahead, refl)
+    let P : SessionEnd → Type 0 = λ z. EndsTurn (serving_at host arrivals s old.seq ahead left) z in (subst P (sym h) tt, ahead, refl)

@@ -1,5 +1,5 @@
 -- What a request does in a session (Debug Adapter Protocol, "Requests"): the messages that are sent, in order, and what then stands.
-use Rattle.std.specs.Prelude.{◌≡◌, ◌≢◌, ◌⊎◌, Bool, true, false, ◌&&◌, [], ◌∷◌, codes, string_bytes, Option, Some, None, is_some}
+use Rattle.std.specs.Prelude.{◌≡◌, ◌≢◌, Bool, true, false, ◌&&◌, [], ◌∷◌, codes, string_bytes, Option, Some, None, is_some}
 use Rattle.ga_text.specs.Lines.{Text}
 use Rattle.ga_protocol.specs.declared.request.ClientRequest.{ClientRequest}
 use Rattle.ga_responses.specs.Capabilities.{AnswersInitialize}
@@ -12,7 +12,7 @@ use Rattle.ga_requests.specs.Moving.{run_ended}
 use Rattle.ga_requests.specs.Requests.{DoesInPlace}
 use Rattle.ga_requests.specs.declared.launched.Launched.{Launched}
 use Rattle.ga_dap.specs.declared.session.Session.{Session}
-use Rattle.ga_dap.specs.Evaluating.{Evaluates, StaysByCommand}
+use Rattle.ga_dap.specs.Evaluating.{Evaluates}
 use Rattle.ga_dap.specs.Going.{StepsBack, Reverses}
 use Rattle.ga_dap.specs.Launches.{FileGiving, Launches, event_alone}
 
@@ -93,16 +93,3 @@ AnswersNamed G host s (Some command) request messages after new = AnswersKnown G
 abbrev pub AnswersRequest : {S : Type 0} → FileGiving S → S → Session → ClientRequest → Messages → S → Session → Type 0
 AnswersRequest G host s request messages after new =
     (command : Option RequestName) × HasName (string_bytes request.command) command × AnswersNamed G host s command request messages after new
-
--- ---- where memory is refused to an answer
-
--- nothing changes; of a command of exploring, no event was made or taken back
-abbrev pub StaysOf : Launched → Launched → Type 0
-StaysOf l new = (new ≡ l) ⊎ ((new ≡ record l { program = new.program }) × StaysByCommand l.program new.program)
-
-abbrev pub StaysIfLaunched : Option Launched → Option Launched → Type 0
-StaysIfLaunched None new = new ≡ None
-StaysIfLaunched (Some l) new = (after : Launched) × StaysOf l after × (new ≡ Some after)
-
-abbrev pub SessionStays : Session → Session → Type 0
-SessionStays s new = (new ≡ record s { launched = new.launched }) × StaysIfLaunched s.launched new.launched

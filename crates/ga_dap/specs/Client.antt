@@ -19,7 +19,7 @@ use Rattle.ga_requests.specs.declared.launched.Launched.{Launched}
 use Rattle.ga_dap.specs.declared.session.Session.{Session}
 use Rattle.ga_dap.specs.declared.serving.SessionEnd.{SessionEnd}
 use Rattle.ga_dap.specs.declared.serving.SessionEnd.TheVariants as end
-use Rattle.ga_dap.specs.Answering.{AnswersRequest, SessionStays}
+use Rattle.ga_dap.specs.Answering.{AnswersRequest}
 use Rattle.ga_dap.specs.Going.{RunGoesOn}
 use Rattle.ga_dap.specs.Launches.{FileGiving, output_told}
 
@@ -70,11 +70,11 @@ IsRequestIn content r =
 abbrev pub refused_for_memory : ClientRequest → Messages
 refused_for_memory request = refused_response request (codes "out of memory") ∷ []
 
--- a message is answered: it is a request, or a request to whose answer memory is refused, or it is none
+-- a message is answered: it is a request that is carried out, or one to which memory is refused, and then nothing changes; or it is none
 pub data AnswersContent {S : Type 0} (G : FileGiving S) (host : S) (s : Session) (content : Bytes) (messages : Messages) (after : S) (new : Session) : Type 0 where
   carried : (request : ClientRequest) → IsRequestIn content request → AnswersRequest G host s request messages after new
       → AnswersContent G host s content messages after new
-  wanting : (request : ClientRequest) → IsRequestIn content request → messages ≡ refused_for_memory request → SessionStays s new
+  wanting : (request : ClientRequest) → IsRequestIn content request → messages ≡ refused_for_memory request → new ≡ s
       → AnswersContent G host s content messages after new
   no_request : (why : RequestError) → why ≢ fault.Memory → HoldsNoRequest content why → messages ≡ no_request_told why → new ≡ s → after ≡ host
       → AnswersContent G host s content messages after new
@@ -136,11 +136,11 @@ ServesFor {S} {A} G T begin (suc count) said last = (between : Serving S A) × (
 -- ---- how a session ends
 
 -- at its end the client has said so, or the input is at its end between messages; or something comes that is no message. Else memory was refused to
--- what had to be sent, or a stream failed.
+-- the next message or to what had to be told, and the client has not said that the session ends; or a stream failed.
 abbrev pub EndsBy : {S A : Type 0} → Serving S A → SessionEnd → Type 0
 EndsBy s end.Done = (s.session.is_over ≡ true) ⊎ (untaken s ≡ [])
-EndsBy s (end.Broken why) = IsBroken why (untaken s)
-EndsBy s end.Memory = Unit {0}
+EndsBy s (end.Broken why) = (s.session.is_over ≡ false) × IsBroken why (untaken s)
+EndsBy s end.Memory = s.session.is_over ≡ false
 EndsBy s end.StreamFault = Unit {0}
 
 -- what is written of all that was sent: the whole, or where a stream failed, a front of it

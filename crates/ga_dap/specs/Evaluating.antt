@@ -88,7 +88,3 @@ EvaluatesGiven p request (Some given) messages new =
 
 abbrev pub Evaluates : Debuggee → ClientRequest → Messages → Debuggee → Type 0
 Evaluates p request messages new = EvaluatesGiven p request (member_text (codes "expression") (view request.arguments)) messages new
-
--- where memory is refused to a command's answer, the machine doesn't move
-abbrev pub StaysByCommand : Debuggee → Debuggee → Type 0
-StaysByCommand p new = (line answer : Text) × Commands p line new (Some answer) × (has_moved p.lab new.lab ≡ false)

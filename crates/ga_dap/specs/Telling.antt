@@ -1,13 +1,12 @@
 -- What is told of a change of the machine (Debug Adapter Protocol, "ThreadEvent", "StoppedEvent", "OutputEvent").
-use Rattle.std.specs.Prelude.{◌≡◌, ℕ, Bool, true, false, not, ◌||◌, ◌==◌, [], ◌∷◌, ◌++◌, length, codes, Option, Some, None, Result, Ok, Err}
+use Rattle.std.specs.Prelude.{◌≡◌, ℕ, Bool, true, false, not, ◌||◌, ◌==◌, [], ◌∷◌, ◌++◌, length, codes, Option, Some, None}
 use Rattle.ga_text.specs.Lines.{Text}
 use Rattle.ga_grid.specs.declared.node_id.NodeId.{NodeId}
 use Rattle.ga_lab.specs.Machine.{State}
-use Rattle.ga_protocol.specs.Sent.{SentMessages}
 use Rattle.ga_protocol.specs.declared.request.ClientRequest.{ClientRequest}
 use Rattle.ga_responses.specs.declared.debuggee.Debuggee.{Debuggee}
 use Rattle.ga_responses.specs.Events.{changed_below}
-use Rattle.ga_responses.specs.Sending.{Message, Messages, SendsAll, acknowledged}
+use Rattle.ga_responses.specs.Sending.{Message, Messages, acknowledged}
 use Rattle.ga_requests.specs.declared.execution.StopReason.{StopReason}
 use Rattle.ga_requests.specs.Configuring.{AreShown}
 use Rattle.ga_requests.specs.Stopping.{stopped, TellsStop}

@@ -1,12 +1,12 @@
 //! `evaluate`.
 
-ghost use Rattle.std.specs.Prelude.{◌≡◌, ◌⊎◌, ◌||◌, ◌==◌, [], not, length};
+ghost use Rattle.std.specs.Prelude.{◌≡◌, ◌||◌, ◌==◌, [], not, length};
 ghost use Rattle.serde_json.specs.View.{view};
 ghost use Rattle.ga_text.specs.Lines.{Text};
 ghost use Rattle.ga_responses.specs.Sending.{SendsAll, Messages};
 ghost use Rattle.ga_responses.specs.Evaluating.{AsksForNoVariable};
 ghost use Rattle.ga_adapter.specs.Shown.{IsVariable};
-ghost use Rattle.ga_dap.specs.Evaluating.{Evaluates, EvaluatesIn, Obeys, ObeysIf, ValueShown, StaysByCommand, is_from_console};
+ghost use Rattle.ga_dap.specs.Evaluating.{Evaluates, EvaluatesIn, Obeys, ObeysIf, ValueShown, is_from_console};
 ghost use Rattle.ga_dap.specs.Telling.{has_moved};
 ghost use Rattle.ga_dap.specs.kept.Carrying.{Carries};
 
@@ -67,7 +67,7 @@ fn obey(
     out: &mut Outbox,
 ) -> Result<(), Unanswered>
     requires { out.old.bytes ≡ [] }
-    ensures { Carries result (λ messages. Obeys program.old request.now node line.now messages program.new) ((program.new ≡ program.old) ⊎ StaysByCommand program.old program.new) out.old out.new }
+    ensures { Carries result (λ messages. Obeys program.old request.now node line.now messages program.new) (program.new ≡ program.old) out.old out.new }
 {
     let before = shown_nodes(&program.lab, program.nodes.as_slice());
     let counts = program.lab.counts();
@@ -106,7 +106,7 @@ fn obey_if(
     out: &mut Outbox,
 ) -> Result<(), Unanswered>
     requires { out.old.bytes ≡ [] }
-    ensures { Carries result (λ messages. ObeysIf (is_from_console request.now) program.old request.now node line.now messages program.new) ((program.new ≡ program.old) ⊎ StaysByCommand program.old program.new) out.old out.new }
+    ensures { Carries result (λ messages. ObeysIf (is_from_console request.now) program.old request.now node line.now messages program.new) (program.new ≡ program.old) out.old out.new }
 {
     if is_from_console(request) {
         obey(alloc, program, request, node, line, out)
@@ -125,7 +125,7 @@ fn evaluate_in(
     out: &mut Outbox,
 ) -> Result<(), Unanswered>
     requires { out.old.bytes ≡ [] }
-    ensures { Carries result (λ messages. EvaluatesIn program.old request.now node expression.now messages program.new) ((program.new ≡ program.old) ⊎ StaysByCommand program.old program.new) out.old out.new }
+    ensures { Carries result (λ messages. EvaluatesIn program.old request.now node expression.now messages program.new) (program.new ≡ program.old) out.old out.new }
 {
     match asked_variable(alloc, expression) {
         Ok(Some(variable)) => show_value(alloc, program, request, node, variable, out),
@@ -142,7 +142,7 @@ pub(crate) fn evaluate(
     out: &mut Outbox,
 ) -> Result<(), Unanswered>
     requires { out.old.bytes ≡ [] }
-    ensures { Carries result (λ messages. Evaluates program.old request.now messages program.new) ((program.new ≡ program.old) ⊎ StaysByCommand program.old program.new) out.old out.new }
+    ensures { Carries result (λ messages. Evaluates program.old request.now messages program.new) (program.new ≡ program.old) out.old out.new }
 {
     let Some(expression) = text_at(&request.arguments, "expression") else {
         return refuse(request, "evaluate: there is no expression", out);

@@ -1,6 +1,6 @@
 //! What `evaluate` is answered: registers, cells, and the commands of exploring.
 
-ghost use Rattle.std.specs.Prelude.{◌≡◌, ◌≤◌, [], Bool, Ok, Err, Some, None, length, take, option_map, IfOk, IfErr, Result, Option};
+ghost use Rattle.std.specs.Prelude.{◌≡◌, ◌≤◌, [], Bool, Ok, Err, Some, None, length, take, option_map, false, IfOk, OnErr, Result, Option};
 ghost use Rattle.std.specs.Str.{IsTrimAsciiEnd};
 ghost use Rattle.std.specs.Str.Lossy.{utf8_lossy};
 ghost use Rattle.ga_text.specs.Lines.{Bytes, Text};
@@ -11,6 +11,7 @@ ghost use Rattle.ga_adapter.specs.Shown.{IsVariable};
 ghost use Rattle.ga_responses.specs.Evaluating.{evaluated};
 ghost use Rattle.ga_responses.specs.Readings.{TellsStuck};
 ghost use Rattle.ga_dap.specs.Evaluating.{IsNodeMeant, Commands, answer_object};
+ghost use Rattle.ga_dap.specs.Telling.{has_moved};
 
 use ga_adapter::Variable;
 use ga_console::Turn;
@@ -18,7 +19,7 @@ use ga_explorer::answer_line;
 use ga_grid::NodeId;
 use ga_protocol::ClientRequest;
 use ga_responses::{Debuggee, evaluate, first_shown, framed_node_asked, is_stuck};
-use ga_text::Output;
+use ga_text::{Output, PENDING_ROOM};
 use serde_json::{Value, json};
 use std::alloc::{AllocError, Global};
 
@@ -61,17 +62,19 @@ fn front_of_line(line: &[u8]) -> &[u8]
     }
 }
 
-/// Carries out a command of exploring. It is answered by a text, or would end the session.
+/// Carries out a command of exploring. It is answered by a text, or would end the session. Room for a short answer is taken before.
 pub(crate) fn command_text(
     alloc: Global,
     program: &mut Debuggee,
     line: &[u8],
 ) -> Result<Option<Vec<u8>>, AllocError>
     ensures told { IfOk result (λ told. Commands program.old line.now program.new (option_map (λ text. text.items) told)) }
-    ensures untold { IfErr result (λ why. (answer : Text) × Commands program.old line.now program.new (Some answer)) }
+    ensures unmoved { OnErr result (has_moved program.old.lab program.new.lab ≡ false → program.new ≡ program.old) }
 {
     let mut output = Output::new();
     let mut answer = Vec::new(alloc);
+    answer.reserve(PENDING_ROOM)?;
+    let _is_replayed = program.lab.stands((NodeId::new(0), 0));
     match answer_line(
         alloc,
         &mut program.lab,

@@ -18,7 +18,7 @@ use std::io::{Read, Write};
 pub enum SessionEnd {
     /// By `disconnect`, or by the end of the input.
     Done,
-    /// Memory was refused to a message that had to be sent.
+    /// Memory was refused to the next message, to the refusal of a request before it was begun, or to what had to be told of a change.
     Memory,
     /// By something that is no message: behind it none can be found again.
     Broken(Broken),

@@ -4,7 +4,7 @@ ghost use Rattle.std.specs.Prelude.{◌≡◌, ◌&&◌, [], ◌∷◌, Option, 
 ghost use Rattle.ga_requests.specs.Requests.{DoesInPlace};
 ghost use Rattle.ga_requests.specs.declared.launched.Launched.{Launched as ALaunched};
 ghost use Rattle.ga_responses.specs.Sending.{SendsAll, Messages, acknowledged};
-ghost use Rattle.ga_dap.specs.Answering.{AnswersRequest, AnswersKnown, DoesOfLaunched, DoesStanding, DoesIfLaunched, StaysOf, StaysIfLaunched, SessionStays, OfLaunch, Initializes, Disconnects, Terminates, ended_run, is_of_standing};
+ghost use Rattle.ga_dap.specs.Answering.{AnswersRequest, AnswersKnown, DoesOfLaunched, DoesStanding, DoesIfLaunched, OfLaunch, Initializes, Disconnects, Terminates, ended_run, is_of_standing};
 ghost use Rattle.ga_dap.specs.Client.{is_running, new_session};
 ghost use Rattle.ga_dap.specs.Going.{RunGoesOn};
 ghost use Rattle.ga_dap.specs.Launches.{Launches, event_alone};
@@ -59,7 +59,7 @@ impl Session {
         out: &mut Outbox,
     ) -> Result<(), Unanswered>
         requires { out.old.bytes ≡ [] }
-        ensures { Carries result (λ messages. AnswersRequest S.gives sources.old self.old request.now messages sources.new self.new) (SessionStays self.old self.new) out.old out.new }
+        ensures { Carries result (λ messages. AnswersRequest S.gives sources.old self.old request.now messages sources.new self.new) (self.new ≡ self.old) out.old out.new }
     {
         match request_named(request.command.as_str()) {
             Some(command) => self.answer_known(alloc, command, sources, request, out),
@@ -77,7 +77,7 @@ impl Session {
         out: &mut Outbox,
     ) -> Result<(), Unanswered>
         requires { out.old.bytes ≡ [] }
-        ensures { Carries result (λ messages. AnswersKnown S.gives sources.old self.old command request.now messages sources.new self.new) (SessionStays self.old self.new) out.old out.new }
+        ensures { Carries result (λ messages. AnswersKnown S.gives sources.old self.old command request.now messages sources.new self.new) (self.new ≡ self.old) out.old out.new }
     {
         match command {
             RequestName::Initialize => self.initialize(alloc, request, out),
@@ -95,7 +95,7 @@ impl Session {
         request: &ClientRequest,
         out: &mut Outbox,
     ) -> Result<(), Unanswered>
-        ensures { Carries result (λ messages. Initializes self.old request.now messages self.new) (SessionStays self.old self.new) out.old out.new }
+        ensures { Carries result (λ messages. Initializes self.old request.now messages self.new) (self.new ≡ self.old) out.old out.new }
     {
         match initialize(alloc, request, out) {
             Ok(()) => Ok(()),
@@ -111,7 +111,7 @@ impl Session {
         request: &ClientRequest,
         out: &mut Outbox,
     ) -> Result<(), Unanswered>
-        ensures { Carries result (λ messages. OfLaunch (λ m l. Launches S.gives sources.old self.old.launched request.now m sources.new l) self.old messages self.new) (SessionStays self.old self.new) out.old out.new }
+        ensures { Carries result (λ messages. OfLaunch (λ m l. Launches S.gives sources.old self.old.launched request.now m sources.new l) self.old messages self.new) (self.new ≡ self.old) out.old out.new }
     {
         match &self.launched {
             Some(_) => refuse(request, "launch: a program is launched already", out),
@@ -127,7 +127,7 @@ impl Session {
 
     /// `disconnect`: the session ends.
     fn disconnect(&mut self, request: &ClientRequest, out: &mut Outbox) -> Result<(), Unanswered>
-        ensures { Carries result (λ messages. Disconnects self.old request.now messages self.new) (SessionStays self.old self.new) out.old out.new }
+        ensures { Carries result (λ messages. Disconnects self.old request.now messages self.new) (self.new ≡ self.old) out.old out.new }
     {
         match out.acknowledge(request) {
             Ok(()) => {
@@ -140,7 +140,7 @@ impl Session {
 
     /// `terminate`: the run ends.
     fn terminate(&mut self, request: &ClientRequest, out: &mut Outbox) -> Result<(), Unanswered>
-        ensures { Carries result (λ messages. Terminates self.old request.now messages self.new) (SessionStays self.old self.new) out.old out.new }
+        ensures { Carries result (λ messages. Terminates self.old request.now messages self.new) (self.new ≡ self.old) out.old out.new }
     {
         match tell_terminated(request, out) {
             Ok(()) => {
@@ -160,7 +160,7 @@ impl Session {
         out: &mut Outbox,
     ) -> Result<(), Unanswered>
         requires { out.old.bytes ≡ [] }
-        ensures { Carries result (λ messages. OfLaunch (DoesIfLaunched command self.old.launched request.now) self.old messages self.new) (SessionStays self.old self.new) out.old out.new }
+        ensures { Carries result (λ messages. OfLaunch (DoesIfLaunched command self.old.launched request.now) self.old messages self.new) (self.new ≡ self.old) out.old out.new }
     {
         match &mut self.launched {
             Some(launched) => answer_by(alloc, launched, command, request, out),
@@ -212,7 +212,7 @@ fn answer_by(
     out: &mut Outbox,
 ) -> Result<(), Unanswered>
     requires { out.old.bytes ≡ [] }
-    ensures { Carries result (λ messages. DoesOfLaunched command launched.old request.now messages launched.new) (StaysOf launched.old launched.new) out.old out.new }
+    ensures { Carries result (λ messages. DoesOfLaunched command launched.old request.now messages launched.new) (launched.new ≡ launched.old) out.old out.new }
 {
     if launched.execution.goal.is_some() && is_of_standing(command) {
         refuse(request, "the chip runs", out)
@@ -230,7 +230,7 @@ fn answer_standing(
     out: &mut Outbox,
 ) -> Result<(), Unanswered>
     requires { out.old.bytes ≡ [] }
-    ensures { Carries result (λ messages. DoesStanding command launched.old request.now messages launched.new) (StaysOf launched.old launched.new) out.old out.new }
+    ensures { Carries result (λ messages. DoesStanding command launched.old request.now messages launched.new) (launched.new ≡ launched.old) out.old out.new }
 {
     match command {
         RequestName::StepBack => step_back(alloc, &mut launched.program, request, out),
@@ -254,7 +254,7 @@ fn in_place(
     request: &ClientRequest,
     out: &mut Outbox,
 ) -> Result<(), Unanswered>
-    ensures { Carries result (λ messages. DoesInPlace command launched.old request.now messages launched.new) (StaysOf launched.old launched.new) out.old out.new }
+    ensures { Carries result (λ messages. DoesInPlace command launched.old request.now messages launched.new) (launched.new ≡ launched.old) out.old out.new }
 {
     match answer_in_place(alloc, launched, command, request, out) {
         Ok(()) => Ok(()),

@@ -5,7 +5,7 @@ ghost use Rattle.ga_text.specs.Lines.{Bytes};
 ghost use Rattle.ga_protocol.specs.Inbox.{GivesNext};
 ghost use Rattle.ga_protocol.specs.Messages.{HoldsNoRequest};
 ghost use Rattle.ga_responses.specs.Sending.{SendsAll};
-ghost use Rattle.ga_dap.specs.Client.{IsTime, IsRequestIn, is_running, no_request_told, request_words};
+ghost use Rattle.ga_dap.specs.Client.{IsTime, IsRequestIn, is_running, no_request_told, refused_for_memory, request_words, sent_from};
 ghost use Rattle.ga_dap.specs.kept.Turning.{AnswersOrEnds, DeclinesOrEnds, ContentOrEnds, TakesOrEnds, GoesOnOrEnds, TurnOrEnds, serving_at};
 
 use crate::serving::SessionEnd;
@@ -64,24 +64,49 @@ fn words_of(why: RequestError) -> &'static str
 
 /// Tells that a message is no request.
 fn tell_no_request(alloc: Global, why: RequestError, out: &mut Outbox) -> Result<(), AllocError>
-    ensures { OnOk result (SendsAll out.old (no_request_told why) out.new) }
+    ensures sent { OnOk result (SendsAll out.old (no_request_told why) out.new) }
+    ensures err { OnErr result (out.new ≡ out.old) }
 {
     let words = words_of(why);
     let text = format!(in alloc; "ga144: {words}\n")?;
     tell_output(alloc, "stderr", text.as_str(), out)
 }
 
-/// The same, where there is memory for it.
+/// The same, and once more where memory was refused to it.
 fn decline(alloc: Global, why: RequestError, out: &mut Outbox) -> Progress
     ensures { DeclinesOrEnds why out.old result out.new }
 {
+    match tell_no_request(alloc, why, out) {
+        Ok(()) => return Progress::On,
+        Err(_) => {}
+    }
     match tell_no_request(alloc, why, out) {
         Ok(()) => Progress::On,
         Err(_) => Progress::End(SessionEnd::Memory),
     }
 }
 
-/// Answers a request, or refuses it where there is no memory for its answer.
+/// The refusal of a request for want of memory, behind the message of this number.
+fn refusal_of(alloc: Global, request: &ClientRequest, seq: u64) -> Result<Outbox, AllocError>
+    ensures { IfOk result (λ out. SendsAll (sent_from seq) (refused_for_memory request.now) out) }
+{
+    let mut out = Outbox::new(alloc);
+    out.take_back(seq);
+    out.refuse(request, "out of memory")?;
+    Ok(out)
+}
+
+/// The same, and once more where memory was refused to it.
+fn refusal_for(alloc: Global, request: &ClientRequest, seq: u64) -> Result<Outbox, AllocError>
+    ensures { IfOk result (λ out. SendsAll (sent_from seq) (refused_for_memory request.now) out) }
+{
+    match refusal_of(alloc, request, seq) {
+        Ok(refusal) => Ok(refusal),
+        Err(_) => refusal_of(alloc, request, seq),
+    }
+}
+
+/// Answers a request, or refuses it where there is no memory for its answer. The refusal is made first, so it can be told then.
 fn answer<S: ProgramFiles>(
     alloc: Global,
     session: &mut Session,
@@ -93,15 +118,15 @@ fn answer<S: ProgramFiles>(
     ensures { AnswersOrEnds S.gives sources.old session.old request.now out.old result out.new sources.new session.new }
 {
     let seq = out.seq();
+    let Ok(refusal) = refusal_for(alloc, request, seq) else {
+        return Progress::End(SessionEnd::Memory);
+    };
     match session.answer(alloc, sources, request, out) {
         Ok(()) => Progress::On,
         Err(Unanswered::Untold) => Progress::End(SessionEnd::Memory),
         Err(Unanswered::Memory) => {
-            out.take_back(seq);
-            match out.refuse(request, "out of memory") {
-                Ok(()) => Progress::On,
-                Err(_) => Progress::End(SessionEnd::Memory),
-            }
+            *out = refusal;
+            Progress::On
         }
     }
 }

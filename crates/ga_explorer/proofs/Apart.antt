@@ -5,10 +5,10 @@ use Rattle.ga_console.specs.Commands.{SpellsCommand}
 use Rattle.ga_console.specs.declared.command.Command.{Command}
 use Rattle.ga_console.specs.declared.command.Command.TheVariants.{Step, Back, Rewind, Node, Memory, Trace, Why, Count, Dump, Quit}
 use Rattle.ga_notes.specs.declared.notes.Notes.{Notes}
-use Rattle.ga_explorer.specs.Commands.{request_in, lone_request, named_request}
+use Rattle.ga_explorer.specs.Commands.{request_in, lone_request, lone_question, named_request, named_question}
 
 pub debugger_alone : (notes : Option Notes) (c : Command) (line : List ℕ) → SpellsCommand c line → request_in notes line ≡ None
-unfolding lone_request named_request
+unfolding lone_request lone_question named_request named_question
 debugger_alone notes (Step node) line is = rw is refl
 debugger_alone notes Back line is = rw is refl
 debugger_alone notes (Rewind node k) line is = rw is.1 refl

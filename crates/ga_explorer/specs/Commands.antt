@@ -28,6 +28,8 @@ use Rattle.ga_explorer.specs.Reading.{run_in, back_in, most_events, no_condition
 use Rattle.ga_explorer.specs.Exploring.{Exploring}
 use Rattle.ga_explorer.specs.declared.commands.ExplorerCommand.{ExplorerCommand}
 use Rattle.ga_explorer.specs.declared.commands.ExplorerCommand.TheVariants as asked
+use Rattle.ga_explorer.specs.declared.commands.Question.{Question}
+use Rattle.ga_explorer.specs.declared.commands.Question.TheVariants as told
 
 -- ---- what `help` says of them
 
@@ -68,43 +70,53 @@ command_text place = about_found (slice_get rows place)
 
 -- ---- how a line spells one of exploring
 
+-- one that changes nothing, of one word
+unfoldable pub lone_question : Line → Option Question
+lone_question name =
+    if pointwise nat_eq name (codes "who") then Some told.Who
+    else if pointwise nat_eq name (codes "races") then Some (told.Races None)
+    else if pointwise nat_eq name (codes "chip") then Some told.Chip
+    else if pointwise nat_eq name (codes "save") then Some told.Save
+    else if pointwise nat_eq name (codes "help") then Some told.Help
+    else None
+
+-- one of a word and what stands behind it
+unfoldable pub named_question : Line → Line → Option Question
+named_question name text =
+    if pointwise nat_eq name (codes "effects") then (do
+      it ← node_and_step text
+      Some (told.Effects it.0 it.1))
+    else if pointwise nat_eq name (codes "words") then (do
+      it ← two_nodes text
+      Some (told.Words it.0 it.1))
+    else if pointwise nat_eq name (codes "writes") then (do
+      it ← node_and_cell text
+      Some (told.Writes it.0 it.1))
+    else if pointwise nat_eq name (codes "at") then (do
+      it ← node_and_steps text
+      Some (told.At it.0 it.1 it.2))
+    else if pointwise nat_eq name (codes "whence") then (do
+      it ← node_and_step text
+      Some (told.Whence it.0 it.1))
+    else if pointwise nat_eq name (codes "because") then (do
+      it ← node_and_steps text
+      Some (told.Because it.0 it.1 it.2))
+    else if pointwise nat_eq name (codes "races") then option_map (λ node. told.Races (Some node)) (node_in text)
+    else if pointwise nat_eq name (codes "help") then option_map told.HelpOf (place_of_form text)
+    else None
+
 -- a command of one word
 unfoldable pub lone_request : Line → Option ExplorerCommand
 lone_request name =
     if pointwise nat_eq name (codes "run") then Some (asked.Run in_rounds most_events no_condition)
-    else if pointwise nat_eq name (codes "who") then Some asked.Who
-    else if pointwise nat_eq name (codes "races") then Some (asked.Races None)
-    else if pointwise nat_eq name (codes "chip") then Some asked.Chip
-    else if pointwise nat_eq name (codes "save") then Some asked.Save
-    else if pointwise nat_eq name (codes "help") then Some asked.Help
-    else None
+    else option_map asked.Tell (lone_question name)
 
 -- a command of a word and what stands behind it
 unfoldable pub named_request : Option Notes → Line → Line → Option ExplorerCommand
 named_request notes name text =
     if pointwise nat_eq name (codes "run") then run_in notes text
     else if pointwise nat_eq name (codes "back") then back_in notes text
-    else if pointwise nat_eq name (codes "effects") then (do
-      it ← node_and_step text
-      Some (asked.Effects it.0 it.1))
-    else if pointwise nat_eq name (codes "words") then (do
-      it ← two_nodes text
-      Some (asked.Words it.0 it.1))
-    else if pointwise nat_eq name (codes "writes") then (do
-      it ← node_and_cell text
-      Some (asked.Writes it.0 it.1))
-    else if pointwise nat_eq name (codes "at") then (do
-      it ← node_and_steps text
-      Some (asked.At it.0 it.1 it.2))
-    else if pointwise nat_eq name (codes "whence") then (do
-      it ← node_and_step text
-      Some (asked.Whence it.0 it.1))
-    else if pointwise nat_eq name (codes "because") then (do
-      it ← node_and_steps text
-      Some (asked.Because it.0 it.1 it.2))
-    else if pointwise nat_eq name (codes "races") then option_map (λ node. asked.Races (Some node)) (node_in text)
-    else if pointwise nat_eq name (codes "help") then option_map asked.HelpOf (place_of_form text)
-    else None
+    else option_map asked.Tell (named_question name text)
 
 abbrev pub request_by : Option Notes → Option (Line × Line) → Line → Option ExplorerCommand
 request_by notes None line = lone_request line
@@ -127,21 +139,25 @@ pub record IsRun (s : State) (schedule : Schedule) (most : ℕ) (until : List Co
   pub state : new ≡ (after_events (running s schedule) events).state
   pub text : answer ≡ run_text (length until) events end
 
+-- what is told of what is explored
+abbrev pub Tells : Exploring → Question → Text → Type 0
+Tells e (told.Effects node which) answer = TellsEffects e.lab node (step_meant e.lab node which) answer
+Tells e (told.Words from to) answer = answer ≡ link_words_text e.lab from to
+Tells e (told.Writes node address) answer = answer ≡ writes_text e.lab node address
+Tells e (told.At node which around) answer = answer ≡ around_text e.notes e.lab node (step_meant e.lab node which) around
+Tells e (told.Whence node which) answer = TellsWhence e.notes e.lab node (step_meant e.lab node which) answer
+Tells e (told.Because node which most) answer = answer ≡ because_text e.notes e.lab node (step_meant e.lab node which) most
+Tells e (told.Races only) answer = TellsRaces e.lab only answer
+Tells e told.Who answer = TellsWho e.lab answer
+Tells e told.Chip answer = answer ≡ chip_text e.lab
+Tells e told.Save answer = answer ≡ saved_text e.lab
+Tells e told.Help answer = answer ≡ form_rows_text rows
+Tells e (told.HelpOf place) answer = answer ≡ command_text place
+
 -- what is answered to a command of exploring, and what is explored then
 abbrev pub Explored : Exploring → ExplorerCommand → Text → Exploring → Type 0
 Explored e (asked.Run schedule most until) answer new = IsRun e.lab schedule most (conditions_asked until) answer new.lab × (new.notes ≡ e.notes)
 Explored e (asked.BackUntil only until) answer new =
     (answer ≡ back_text (gone_from only e.lab (newest_held (conditions_asked until) only e.lab)) (length new.lab.kept))
     × (new.lab ≡ left_from only e.lab (newest_held (conditions_asked until) only e.lab)) × (new.notes ≡ e.notes)
-Explored e (asked.Effects node which) answer new = TellsEffects e.lab node (step_meant e.lab node which) answer × (new ≡ e)
-Explored e (asked.Words from to) answer new = (answer ≡ link_words_text e.lab from to) × (new ≡ e)
-Explored e (asked.Writes node address) answer new = (answer ≡ writes_text e.lab node address) × (new ≡ e)
-Explored e (asked.At node which around) answer new = (answer ≡ around_text e.notes e.lab node (step_meant e.lab node which) around) × (new ≡ e)
-Explored e (asked.Whence node which) answer new = TellsWhence e.notes e.lab node (step_meant e.lab node which) answer × (new ≡ e)
-Explored e (asked.Because node which most) answer new = (answer ≡ because_text e.notes e.lab node (step_meant e.lab node which) most) × (new ≡ e)
-Explored e (asked.Races only) answer new = TellsRaces e.lab only answer × (new ≡ e)
-Explored e asked.Who answer new = TellsWho e.lab answer × (new ≡ e)
-Explored e asked.Chip answer new = (answer ≡ chip_text e.lab) × (new ≡ e)
-Explored e asked.Save answer new = (answer ≡ saved_text e.lab) × (new ≡ e)
-Explored e asked.Help answer new = (answer ≡ form_rows_text rows) × (new ≡ e)
-Explored e (asked.HelpOf place) answer new = (answer ≡ command_text place) × (new ≡ e)
+Explored e (asked.Tell question) answer new = Tells e question answer × (new ≡ e)

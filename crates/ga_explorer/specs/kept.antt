@@ -1,3 +1,4 @@
 pub mod Exploring
 pub mod Forms
 pub mod Opening
+pub mod Telling

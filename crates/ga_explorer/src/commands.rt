@@ -2,8 +2,9 @@
 
 ghost use Rattle.std.specs.Prelude.{◌≡◌, map};
 ghost use Rattle.ga_text.specs.kept.Output.{Says};
-ghost use Rattle.ga_explorer.specs.Commands.{rows, request_in, lone_request, named_request, Explored};
+ghost use Rattle.ga_explorer.specs.Commands.{rows, request_in, lone_request, lone_question, named_request, named_question, Explored};
 ghost use Rattle.ga_explorer.specs.kept.Exploring.{exploring};
+ghost use Rattle.ga_explorer.specs.kept.Telling.{IsTold};
 ghost use Rattle.ga_explorer.specs.kept.Forms.{entry_of};
 
 use crate::arguments::{node_and_cell, node_and_step, node_and_steps, two_nodes};
@@ -12,10 +13,6 @@ use crate::conditions_request::{Conditions, no_condition};
 use crate::forms::{place_of, say_command, say_help};
 use crate::run_request::{MOST_EVENTS, run_of};
 use crate::which::Which;
-use ga_answers::{
-    glance, ran_text, say_around, say_back, say_because, say_effects, say_races, say_saved,
-    say_whence, say_who, say_words, say_writes,
-};
 use ga_grid::NodeId;
 use ga_lab::Lab;
 use ga_notes::Notes;
@@ -38,6 +35,13 @@ pub enum ExplorerCommand {
         only: Option<NodeId>,
         until: Conditions,
     },
+    /// One that changes nothing.
+    Tell(Question),
+}
+
+/// A command that only tells of what is explored.
+#[derive(Clone, Copy, PartialEq, Eq)]
+pub enum Question {
     /// `effects`: tells what a rollback of a step would take, without taking it.
     Effects {
         node: NodeId,
@@ -107,11 +111,21 @@ fn lone_request(name: &[u8]) -> Option<ExplorerCommand>
             most: MOST_EVENTS,
             until: no_condition(),
         }),
-        b"who" => Some(ExplorerCommand::Who),
-        b"races" => Some(ExplorerCommand::Races { only: None }),
-        b"chip" => Some(ExplorerCommand::Chip),
-        b"save" => Some(ExplorerCommand::Save),
-        b"help" => Some(ExplorerCommand::Help),
+        _ => Some(ExplorerCommand::Tell(lone_question(name)?)),
+    }
+}
+
+/// One of these that changes nothing.
+#[tactic(auto, unfolding(crate::specs::Commands::lone_question))]
+fn lone_question(name: &[u8]) -> Option<Question>
+    ensures { result ≡ lone_question name.now }
+{
+    match name {
+        b"who" => Some(Question::Who),
+        b"races" => Some(Question::Races { only: None }),
+        b"chip" => Some(Question::Chip),
+        b"save" => Some(Question::Save),
+        b"help" => Some(Question::Help),
         _ => None,
     }
 }
@@ -125,33 +139,43 @@ fn named_request(notes: &Option<Notes>, name: &[u8], arguments: &[u8]) -> Option
         run_of(notes, arguments)
     } else if name == b"back".as_slice() {
         back_of(notes, arguments)
-    } else if name == b"effects".as_slice() {
+    } else {
+        Some(ExplorerCommand::Tell(named_question(name, arguments)?))
+    }
+}
+
+/// One of these that changes nothing.
+#[tactic(auto, unfolding(crate::specs::Commands::named_question))]
+fn named_question(name: &[u8], arguments: &[u8]) -> Option<Question>
+    ensures { result ≡ named_question name.now arguments.now }
+{
+    if name == b"effects".as_slice() {
         let (node, which) = node_and_step(arguments)?;
-        Some(ExplorerCommand::Effects { node, which })
+        Some(Question::Effects { node, which })
     } else if name == b"words".as_slice() {
         let (from, to) = two_nodes(arguments)?;
-        Some(ExplorerCommand::Words { from, to })
+        Some(Question::Words { from, to })
     } else if name == b"writes".as_slice() {
         let (node, address) = node_and_cell(arguments)?;
-        Some(ExplorerCommand::Writes { node, address })
+        Some(Question::Writes { node, address })
     } else if name == b"at".as_slice() {
         let (node, which, around) = node_and_steps(arguments)?;
-        Some(ExplorerCommand::At {
+        Some(Question::At {
             node,
             which,
             around,
         })
     } else if name == b"whence".as_slice() {
         let (node, which) = node_and_step(arguments)?;
-        Some(ExplorerCommand::Whence { node, which })
+        Some(Question::Whence { node, which })
     } else if name == b"because".as_slice() {
         let (node, which, most) = node_and_steps(arguments)?;
-        Some(ExplorerCommand::Because { node, which, most })
+        Some(Question::Because { node, which, most })
     } else if name == b"races".as_slice() {
         let node = node_in(arguments)?;
-        Some(ExplorerCommand::Races { only: Some(node) })
+        Some(Question::Races { only: Some(node) })
     } else if name == b"help".as_slice() {
-        Some(ExplorerCommand::HelpOf(place_of(arguments)?))
+        Some(Question::HelpOf(place_of(arguments)?))
     } else {
         None
     }
@@ -180,39 +204,61 @@ pub(crate) fn explored<W: Write>(
         } => {
             let watched = conditions_asked(&until);
             let ran = run_schedule(lab, schedule, u64::from(most), watched);
-            output.say_blocks(writer, ran_text(&ran, watched.len()).as_slice())
+            output.say_blocks(writer, ga_answers::ran_text(&ran, watched.len()).as_slice())
         }
         ExplorerCommand::BackUntil { only, until } => {
-            say_back(lab, conditions_asked(&until), only, output, writer)
+            ga_answers::say_back(lab, conditions_asked(&until), only, output, writer)
         }
-        ExplorerCommand::Effects { node, which } => {
+        ExplorerCommand::Tell(question) => told(alloc, lab, notes, question, output, writer),
+    }
+}
+
+/// Tells what is asked for.
+///
+/// # Errors
+/// A write failed.
+fn told<W: Write>(
+    alloc: Global,
+    lab: &mut Lab,
+    notes: &Option<Notes>,
+    asked: Question,
+    output: &mut Output,
+    writer: &mut W,
+) -> Result<(), WriteFailed>
+    ensures said { IsTold result (exploring lab.old notes.now) asked (W.contents writer.old) output.old (W.contents writer.new) output.new }
+    ensures same { lab.new ≡ lab.old }
+{
+    match asked {
+        Question::Effects { node, which } => {
             let step = which.meant(lab, node);
-            say_effects(alloc, lab, node, step, output, writer)
+            ga_answers::say_effects(alloc, lab, node, step, output, writer)
         }
-        ExplorerCommand::Words { from, to } => say_words(lab, from, to, output, writer),
-        ExplorerCommand::Writes { node, address } => say_writes(lab, node, address, output, writer),
-        ExplorerCommand::At {
+        Question::Words { from, to } => ga_answers::say_words(lab, from, to, output, writer),
+        Question::Writes { node, address } => ga_answers::say_writes(
+            lab, node, address, output, writer,
+        ),
+        Question::At {
             node,
             which,
             around,
         } => {
             let step = which.meant(lab, node);
-            say_around(lab, notes, node, step, around, output, writer)
+            ga_answers::say_around(lab, notes, node, step, around, output, writer)
         }
-        ExplorerCommand::Whence { node, which } => {
+        Question::Whence { node, which } => {
             let step = which.meant(lab, node);
-            say_whence(alloc, lab, notes, node, step, output, writer)
+            ga_answers::say_whence(alloc, lab, notes, node, step, output, writer)
         }
-        ExplorerCommand::Because { node, which, most } => {
+        Question::Because { node, which, most } => {
             let step = which.meant(lab, node);
-            say_because(lab, notes, node, step, most, output, writer)
+            ga_answers::say_because(lab, notes, node, step, most, output, writer)
         }
-        ExplorerCommand::Races { only } => say_races(alloc, lab, only, output, writer),
-        ExplorerCommand::Who => say_who(lab, output, writer),
-        ExplorerCommand::Chip => output.say_blocks(writer, glance(lab).as_slice()),
-        ExplorerCommand::Save => say_saved(lab, output, writer),
-        ExplorerCommand::Help => say_help(output, writer),
-        ExplorerCommand::HelpOf(place) => say_command(place, output, writer),
+        Question::Races { only } => ga_answers::say_races(alloc, lab, only, output, writer),
+        Question::Who => ga_answers::say_who(lab, output, writer),
+        Question::Chip => output.say_blocks(writer, ga_answers::glance(lab).as_slice()),
+        Question::Save => ga_answers::say_saved(lab, output, writer),
+        Question::Help => say_help(output, writer),
+        Question::HelpOf(place) => say_command(place, output, writer),
     }
 }
 
@@ -229,7 +275,7 @@ pub(crate) struct Row {
 }
 
 /// The commands, in the order of `help`.
-static ROWS: [Row; 22] = [
+static ROWS: &[Row] = &[
     Row {
         name: b"run",
         form: b"run [greedy|random SEED] [N] [until COND]",
@@ -368,5 +414,5 @@ static ROWS: [Row; 22] = [
 pub(crate) fn rows() -> &'static [Row]
     ensures { map entry_of result.now ≡ rows }
 {
-    &ROWS
+    ROWS
 }

@@ -17,7 +17,7 @@ mod session;
 mod which;
 
 pub use beginning::begin;
-pub use commands::ExplorerCommand;
+pub use commands::{ExplorerCommand, Question};
 pub use explorer::{Explorer, answer_line};
 pub use front::{close, is_cut_off};
 pub use session::explore;

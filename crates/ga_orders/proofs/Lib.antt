@@ -1,3 +1,4 @@
 pub mod OrdersOut
 pub mod Verdicts
 pub mod GoodEnds
+pub mod Resting

@@ -23,6 +23,7 @@ use Rattle.ga_console.specs.declared.run.Status.{Status}
 use Rattle.ga_console.specs.declared.run.Status.TheVariants.{ImageRefused, StreamFault}
 use Rattle.ga_explorer.specs.Opening.{OpensExploring, IsFront, Unbegun}
 use Rattle.ga_orders.specs.OrderTexts.{orders_text, no_order_text}
+use Rattle.ga_orders.specs.Settled.{begun_from}
 use Rattle.ga_answers.specs.Saved.{saved_text}
 use Rattle.ga_explorer.specs.Exploring.{Exploring}
 use Rattle.ga_orders.specs.declared.every_order.Verdict.{Verdict}
@@ -129,17 +130,18 @@ pub record TellsEvery (s : State) (text : Text) : Type 0 where
   pub counted : IsTally tally (ends_of (chip_of s) runs)
   pub told : text ≡ orders_text tally
 
--- An image or source was accepted, and what was found on its machine was told. Nothing is done with what was read behind it.
-pub record ChecksText (limit asked : ℕ) (read rest : Bytes) (written : Text) (verdict : Verdict) : Type 0 where
+-- An image or source was accepted, and what was found on its machine was told, from where it had come to rest if it was to. Nothing
+-- is done with what was read behind it.
+pub record ChecksText (limit : ℕ) (settles : Bool) (asked : ℕ) (read rest : Bytes) (written : Text) (verdict : Verdict) : Type 0 where
   pub text : Text
   pub ahead : Bytes
   pub begun : Exploring
   pub splits : read ≡ text ++ ahead
   pub front : IsFront text (ahead ++ rest)
   pub opens : OpensExploring text limit begun
-  pub tells : TellsOrders asked begun.lab written verdict
+  pub tells : TellsOrders asked (begun_from settles begun.lab) written verdict
 
 -- What may have been written, where read was read of the input and rest is left of it, and the verdict.
-pub data ChecksOrders (limit asked : ℕ) (read rest : Bytes) (written : Text) (verdict : Verdict) : Type 0 where
-  checked : ChecksText limit asked read rest written verdict → ChecksOrders limit asked read rest written verdict
-  unbegun : (status : Status) → verdict ≡ Ended status → Unbegun read rest written status → ChecksOrders limit asked read rest written verdict
+pub data ChecksOrders (limit : ℕ) (settles : Bool) (asked : ℕ) (read rest : Bytes) (written : Text) (verdict : Verdict) : Type 0 where
+  checked : ChecksText limit settles asked read rest written verdict → ChecksOrders limit settles asked read rest written verdict
+  unbegun : (status : Status) → verdict ≡ Ended status → Unbegun read rest written status → ChecksOrders limit settles asked read rest written verdict

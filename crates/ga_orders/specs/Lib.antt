@@ -1,2 +1,3 @@
 pub mod OrderTexts
+pub mod Settled
 pub mod EveryOrder

@@ -6,6 +6,7 @@ ghost use Rattle.ga_text.specs.Lines.{Bytes};
 ghost use Rattle.ga_lab.specs.declared.fault.LabFault.TheVariants.{Memory};
 ghost use Rattle.ga_text.specs.Output.{IsSaidOrCut};
 ghost use Rattle.ga_display.specs.Texts.{refusal_text};
+ghost use Rattle.ga_orders.specs.Settled.{begun_from};
 ghost use Rattle.ga_answers.specs.Saved.{saved_text};
 ghost use Rattle.ga_orders.specs.OrderTexts.{orders_text, no_order_text};
 ghost use Rattle.ga_orders.specs.EveryOrder.{TellsOrders, ChecksOrders, IsTextOut, has_stop, is_faultless, is_stop_fate, verdict_of, no_order_verdict, tally_text, tally_verdict, searched, TellsLooks};
@@ -13,6 +14,7 @@ ghost use Rattle.ga_orders.specs.declared.every_order.Verdict.TheVariants.{Alike
 ghost use Rattle.ga_console.specs.declared.run.Status.TheVariants.{ImageRefused};
 
 use crate::orders_text::{say_no_order, say_orders};
+use crate::settling::settle;
 use ga_answers::say_saved;
 use ga_check::looking::check_looks;
 use ga_check::orders::{Bounds, check_shared};
@@ -46,8 +48,10 @@ pub enum Verdict {
 
 /// Reads an image or source, as `explore` does, and nothing behind its line `end`. Tells in how many orders its nodes can run, and
 /// how these end; or, where an order is asked for by its number from 1 on, the lines `step NNN` that lead to its end. A run has at
-/// most `limit` events. Source that has a fault is told to `errors`, a refused image and want of memory to `writer`. So many workers
-/// share the runs, and `made` counts those that were made so far.
+/// most `limit` events. Where `settles` is set each node whose first event is to wait for code makes it before all else, in the order of
+/// their numbers. A real chip has come to rest by then. A session has these steps too, and the limit counts them. Source that has a
+/// fault is told to `errors`, a refused image and want of memory, also for these steps, to `writer`. So many workers share the runs,
+/// and `made` counts those that were made so far.
 pub fn check_orders<S: Threads + Sync, R: Read, W: Write, E: Write>(
     rt: &S,
     alloc: Global,
@@ -55,6 +59,7 @@ pub fn check_orders<S: Threads + Sync, R: Read, W: Write, E: Write>(
     writer: &mut W,
     errors: &mut E,
     limit: u32,
+    settles: bool,
     bounds: Bounds,
     asked: u64,
     workers: u32,
@@ -64,14 +69,15 @@ pub fn check_orders<S: Threads + Sync, R: Read, W: Write, E: Write>(
     ensures { (left before : Bytes) →
         R.remaining reader.old ≡ Some left → W.contents writer.old ≡ Some before →
         (read rest text : Bytes) × (left ≡ read ++ rest) × (R.remaining reader.new ≡ Some rest)
-        × (W.contents writer.new ≡ Some (before ++ text)) × ChecksOrders limit asked read rest text result }
+        × (W.contents writer.new ≡ Some (before ++ text)) × ChecksOrders limit settles asked read rest text result }
 {
     let mut input = Input::new();
     match begin(alloc, &mut input, reader, writer, errors, limit) {
-        Ok(begun) => tell_orders(
+        Ok(begun) => tell_settled(
             rt,
             alloc,
             &mut begun.into_lab(),
+            settles,
             bounds,
             asked,
             workers,
@@ -79,6 +85,27 @@ pub fn check_orders<S: Threads + Sync, R: Read, W: Write, E: Write>(
             writer,
         ),
         Err(status) => Verdict::Ended(status),
+    }
+}
+
+/// Tells how the orders of a lab's chip end, or the session of one, once it has come to rest where it is to.
+fn tell_settled<S: Threads + Sync, W: Write>(
+    rt: &S,
+    alloc: Global,
+    lab: &mut Lab,
+    settles: bool,
+    bounds: Bounds,
+    asked: u64,
+    workers: u32,
+    made: &AtomicU64,
+    writer: &mut W,
+) -> Verdict
+    ensures { (before : Bytes) → W.contents writer.old ≡ Some before →
+        (text : Bytes) × (W.contents writer.new ≡ Some (before ++ text)) × TellsOrders asked (begun_from settles lab.old) text result }
+{
+    match settle(lab, settles) {
+        Ok(()) => tell_orders(rt, alloc, lab, bounds, asked, workers, made, writer),
+        Err(_) => tell_no_memory(writer),
     }
 }
 

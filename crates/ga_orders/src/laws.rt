@@ -1,12 +1,14 @@
 //! What a reader of the answer of `ga144 check` may rely on, as laws: each is the contract of a function that does nothing.
 
-ghost use Rattle.std.specs.Prelude.{◌≡◌, ◌⊎◌, List, All, Some};
+ghost use Rattle.std.specs.Prelude.{◌≡◌, ◌⊎◌, ◌++◌, List, All, Some};
 ghost use Rattle.ga_node.specs.Record.{NodeRecord};
 ghost use Rattle.ga_text.specs.Lines.{Text};
 ghost use Rattle.ga_event.specs.declared.event.Event.{Event};
 ghost use Rattle.ga_event.specs.Apply.{replay};
 ghost use Rattle.ga_races.specs.Orders.{IsAtEnd};
 ghost use Rattle.ga_lab.specs.Machine.{State, chip_of};
+ghost use Rattle.ga_check.specs.Reached.{HasMade};
+ghost use Rattle.ga_orders.specs.Settled.{settled};
 ghost use Rattle.ga_orders.specs.EveryOrder.{TellsOrders, TellsEvery};
 ghost use Rattle.ga_orders.specs.declared.every_order.Verdict.{Verdict};
 ghost use Rattle.ga_orders.specs.declared.every_order.Verdict.TheVariants.{Alike, Several};
@@ -24,4 +26,11 @@ pub fn one_chip_told()
         replay (chip_of s) events ≡ Some last → IsAtEnd last → replay (chip_of s) others ≡ Some end → IsAtEnd end → last ≡ end }
     ensures unstopped { (s : State) (text : Text) (events : List Event) (last : List NodeRecord) → TellsOrders 0 s text Alike →
         replay (chip_of s) events ≡ Some last → IsAtEnd last → All (λ (node : NodeRecord). node.stop ≡ 0) last }
+{}
+
+/// A machine that has come to rest keeps some events more, and else is as it was. So what is told from there is told of the program:
+/// a list of events from there is one, behind those, from the machine before.
+pub fn settled_before()
+    ensures { (s : State) → replay s.load s.kept ≡ Some (chip_of s) → (waits : List Event) × HasMade s waits (settled s)
+        × ((events : List Event) → replay (chip_of (settled s)) events ≡ replay (chip_of s) (waits ++ events)) }
 {}

@@ -4,5 +4,6 @@
 mod every_order;
 pub mod laws;
 mod orders_text;
+mod settling;
 
 pub use every_order::{Verdict, check_orders};

@@ -5,10 +5,11 @@ use Rattle.ga_event.specs.declared.made.Made.{Made}
 use Rattle.ga_lab.specs.Machine.{State}
 use Rattle.ga_search.specs.declared.watched.WatchedEnd.{WatchedEnd}
 use Rattle.ga_search.specs.declared.watched.WatchedEnd.TheVariants as the_end
-use Rattle.ga_breakpoints.specs.declared.halts.Halts.{Halts}
+use Rattle.ga_breakpoints.specs.declared.halts.Halting.{Halting}
 use Rattle.ga_breakpoints.specs.declared.going.Halt.{Halt}
 use Rattle.ga_breakpoints.specs.declared.going.Halt.TheVariants.{Hit, Stopped, Moved, Cut, Quiet, Refused}
-use Rattle.ga_breakpoints.specs.Breakpoints.{tally_behind, is_stopping}
+use Rattle.ga_breakpoints.specs.Breakpoints.{is_stopping}
+use Rattle.ga_breakpoints.specs.kept.Cells.{tally_by, cells_behind}
 
 -- by this event
 abbrev pub halt_hit : Bool → Made → Option ℕ → Halt
@@ -27,5 +28,9 @@ halt_of hit stops first (the_end.Refused why) = Refused why
 
 -- ---- what watches, behind an event
 
-abbrev pub with_hits : Halts → Made → State → Halts
-with_hits w told s = record w { tally = tally_behind w.breakpoints.now told s w.tally }
+abbrev pub with_hits : Halting → Made → State → Halting
+with_hits w told s =
+    record w {
+      halts = record w.halts { tally = tally_by w.halts.breakpoints.now told s w.cells w.halts.tally };
+      cells = cells_behind w.halts.breakpoints.now told s w.cells;
+    }

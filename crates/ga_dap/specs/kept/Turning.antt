@@ -13,14 +13,14 @@ use Rattle.ga_dap.specs.declared.serving.SessionEnd.{SessionEnd}
 use Rattle.ga_dap.specs.declared.serving.SessionEnd.TheVariants as end
 use Rattle.ga_dap.specs.declared.turn.Progress.{Progress}
 use Rattle.ga_dap.specs.declared.turn.Progress.TheVariants.{On, End}
-use Rattle.ga_dap.specs.Answering.{AnswersRequest, SessionStays}
-use Rattle.ga_dap.specs.Client.{Serving, ArrivalTelling, AnswersContent, MakesTurn, EndsBy, refused_for_memory, no_request_told, untaken}
+use Rattle.ga_dap.specs.Answering.{AnswersRequest}
+use Rattle.ga_dap.specs.Client.{Serving, ArrivalTelling, AnswersContent, MakesTurn, refused_for_memory, no_request_told, untaken}
 use Rattle.ga_dap.specs.Going.{RunGoesOn}
 use Rattle.ga_dap.specs.Launches.{FileGiving}
 
 abbrev pub AnswersOrEnds : {S : Type 0} → FileGiving S → S → Session → ClientRequest → SentMessages → Progress → SentMessages → S → Session → Type 0
 AnswersOrEnds G host s request old On new after t = (messages : Messages)
-    × (AnswersRequest G host s request messages after t ⊎ ((messages ≡ refused_for_memory request) × SessionStays s t)) × SendsAll old messages new
+    × (AnswersRequest G host s request messages after t ⊎ ((messages ≡ refused_for_memory request) × (t ≡ s))) × SendsAll old messages new
 AnswersOrEnds G host s request old (End ending) new after t = ending ≡ end.Memory
 
 abbrev pub DeclinesOrEnds : RequestError → SentMessages → Progress → SentMessages → Type 0
@@ -48,9 +48,16 @@ GoesOnOrEnds s old On new t = (before : Launched) × (after : Launched) × (mess
     × (t ≡ record s { launched = Some after }) × SendsAll old messages new
 GoesOnOrEnds s old (End ending) new t = ending ≡ end.Memory
 
+-- why a session that goes on ends instead of a turn
+abbrev pub EndsTurn : {S A : Type 0} → Serving S A → SessionEnd → Type 0
+EndsTurn s end.Done = untaken s ≡ []
+EndsTurn s (end.Broken why) = IsBroken why (untaken s)
+EndsTurn s end.Memory = Unit {0}
+EndsTurn s end.StreamFault = Unit {0}
+
 abbrev pub TurnOrEnds : {S A : Type 0} → FileGiving S → ArrivalTelling A → Serving S A → Progress → Bytes → Serving S A → Type 0
 TurnOrEnds G T s On sent t = MakesTurn G T s sent t
-TurnOrEnds G T s (End ending) sent t = EndsBy s ending × (read : Bytes) × (untaken s ≡ read ++ t.left)
+TurnOrEnds G T s (End ending) sent t = EndsTurn s ending × (read : Bytes) × (untaken s ≡ read ++ t.left)
 
 abbrev pub serving_at : {S A : Type 0} → S → A → Session → ℕ → Bytes → Bytes → Serving S A
 serving_at files arrivals session seq ahead left =

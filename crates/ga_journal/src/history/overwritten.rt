@@ -37,11 +37,13 @@ impl History {
     ghost use Rattle.std.specs.Prelude.{◌≡◌, ◌<◌, length};
     ghost use Rattle.ga_journal.specs.Walked.{overwritten};
 
-    /// What a place held before the event of the entry at a position; none where the event left it.
+    /// What a place held before the event of the entry at a position; none where the event left it, or past the entries.
     pub fn overwritten(&self, at: usize, what: Place) -> Option<u32>
-        requires { at < length self.now.items }
         ensures { result ≡ overwritten self.now.items at what }
     {
+        if at >= self.entries.len() {
+            return None;
+        }
         let entry = &self.entries[at];
         among(what, &entry.saved)
     }

@@ -43,7 +43,7 @@ impl Journal {
     pub(crate) fn overwritten(&self, node: NodeId, at: u32, what: Place) -> Option<u32>
         ensures { result ≡ overwritten (history self.now.histories node.number) at what }
     {
-        self.histories.overwritten(node, at, what)
+        self.histories.at(node).overwritten(at as usize, what)
     }
 
     /// Writes back to a node what its entries from the position `to` on and below `from` overwrote, those of the last entry
@@ -54,7 +54,8 @@ impl Journal {
         requires can { CanWalk now.old (drop to (take from (history self.now.histories node.number))) }
         ensures { now.new ≡ walked now.old (drop to (take from (history self.now.histories node.number))) }
     {
-        self.histories.walk_node(node, now, from, to);
+        let history = self.histories.at(node);
+        history.walk_back(now, from as usize, to as usize);
     }
 
     /// The kept event at a place of their list, from 0 on; none past its end. It walks back from the newest.

@@ -1,4 +1,4 @@
-use Rattle.std.proofs.Common.{◌≡◌, ◌∙◌, ℕ, Bool, List, Some, length, ap, subst}
+use Rattle.std.proofs.Common.{◌≡◌, ◌∙◌, ℕ, Bool, Some, length, ap, subst}
 use Rattle.std.specs.Prelude.{◌||◌, ◌==◌, not}
 use Rattle.ga_causal.specs.Dependence.{is_marked}
 use Rattle.ga_text.specs.Lines.{Text}

@@ -2,12 +2,12 @@ use Rattle.std.proofs.Common.{◌≡◌, ◌∙◌, ℕ, List, [], ◌++◌, Som
 use Rattle.std.proofs.lemmas.List.{append-nil}
 use Rattle.ga_text.specs.Lines.{Text}
 use Rattle.ga_text.specs.Output.{IsSaid}
-use Rattle.ga_lab.specs.Machine.{State}
 use Rattle.ga_console.proofs.AheadLemmas.{quit_part}
 use Rattle.ga_explorer.specs.Answers.{Explores}
 use Rattle.ga_explorer.specs.Exploring.{Exploring}
 use Rattle.ga_responses.specs.declared.debuggee.Debuggee.{Debuggee}
 use Rattle.ga_dap.specs.Opening.{parts_explored}
+use Rattle.ga_dap.proofs.Unmoved.{unmoved}
 use Rattle.ga_dap.proofs.evaluating.command_text.Goals as goal
 
 -- nothing was said before
@@ -16,7 +16,7 @@ nothing_said items output i o = record { sent = []; held = ap (λ (z : List ℕ)
 
 pub returns-in-Ok-clause-told : goal.returns-in-Ok-clause-told
 returns-in-Ok-clause-told c =
-    let said = nothing_said c.new-answer.result.items c.new-output.result c.new-answer.ensures.items c.new-output.ensures in
+    let said = nothing_said c.reserve.new.self.items c.new-output.result (c.reserve.ensures.items ∙ c.new-answer.ensures.items) c.new-output.ensures in
     let h = rw c.in-Ok-Answered.field-0-is at (c.in-Ok-Answered.ensures [] [] said) in
     let part = h.1 c.args.line.now c.front_of_line.ensures in
     let told = c.in-Ok.ensures.said [] h.0 h.2 in
@@ -28,24 +28,24 @@ returns-in-Ok-clause-told c =
       part.1,
     )
 
-pub returns-in-Err-send-clause-untold : goal.returns-in-Err-send-clause-untold
-returns-in-Err-send-clause-untold c =
-    let said = nothing_said c.new-answer.result.items c.new-output.result c.new-answer.ensures.items c.new-output.ensures in
+pub returns-in-Err-send-clause-unmoved : goal.returns-in-Err-send-clause-unmoved
+returns-in-Err-send-clause-unmoved c = λ still.
+    let said = nothing_said c.reserve.new.self.items c.new-output.result (c.reserve.ensures.items ∙ c.new-answer.ensures.items) c.new-output.ensures in
     let h = rw c.in-Ok-Answered.field-0-is at (c.in-Ok-Answered.ensures [] [] said) in
     let part = h.1 c.args.line.now c.front_of_line.ensures in
-    (h.0, (refl, part.0, part.1))
+    unmoved c.args.program.now c.args.line.now h.0 c.answer_line.new.lab c.stands-is_replayed.ensures.caused part.0 still
 
 pub returns-in-Ok-Quit-clause-told : goal.returns-in-Ok-Quit-clause-told
 returns-in-Ok-Quit-clause-told c =
-    let said = nothing_said c.new-answer.result.items c.new-output.result c.new-answer.ensures.items c.new-output.ensures in
+    let said = nothing_said c.reserve.new.self.items c.new-output.result (c.reserve.ensures.items ∙ c.new-answer.ensures.items) c.new-output.ensures in
     let h = rw c.in-Ok-Quit.field-0-is at (c.in-Ok-Quit.ensures [] [] said) in (
       ap (λ (z : Exploring). let d : Debuggee = record c.args.program.now { lab = z.lab } in d) h.1.1,
       quit_part c.front_of_line.result.now c.args.line.now c.front_of_line.ensures h.1.0,
     )
 
-pub returns-in-Err-clause-untold : goal.returns-in-Err-clause-untold
-returns-in-Err-clause-untold c =
-    let said = nothing_said c.new-answer.result.items c.new-output.result c.new-answer.ensures.items c.new-output.ensures in
+pub returns-in-Err-clause-unmoved : goal.returns-in-Err-clause-unmoved
+returns-in-Err-clause-unmoved c = λ still.
+    let said = nothing_said c.reserve.new.self.items c.new-output.result (c.reserve.ensures.items ∙ c.new-answer.ensures.items) c.new-output.ensures in
     let h = c.in-Err.ensures [] [] said in
     let part = h.1 c.args.line.now c.front_of_line.ensures in
-    (h.0, (refl, part.0, part.1))
+    unmoved c.args.program.now c.args.line.now h.0 c.answer_line.new.lab c.stands-is_replayed.ensures.caused part.0 still

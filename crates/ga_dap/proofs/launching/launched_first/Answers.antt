@@ -1,8 +1,7 @@
-use Rattle.std.proofs.Common.{◌≡◌, ℕ, [], ◌∷◌, Option, Some, None, codes, subst}
+use Rattle.std.proofs.Common.{Option, codes, subst}
 use Rattle.std.specs.Prelude.{IfOk}
 use Rattle.serde_json.specs.View.{view}
 use Rattle.ga_text.specs.Lines.{Text}
-use Rattle.ga_search.specs.declared.schedule.Schedule.{Schedule}
 use Rattle.ga_responses.specs.Launching.{limit_asked, schedule_asked}
 use Rattle.ga_responses.specs.Sending.{Messages, SendsAll}
 use Rattle.ga_requests.specs.declared.launched.Launched.{Launched}

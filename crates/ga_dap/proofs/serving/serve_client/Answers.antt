@@ -1,10 +1,9 @@
-use Rattle.std.proofs.Common.{◌≡◌, ◌∙◌, ℕ, suc, List, [], ◌++◌, Some, refl, sym, ap, subst, inl}
-use Rattle.std.specs.Prelude.{true}
+use Rattle.std.proofs.Common.{◌∙◌, ℕ, suc, List, [], ◌++◌, Some, refl, sym, ap, subst, inl}
 use Rattle.std.proofs.lemmas.List.{append-nil}
 use Rattle.ga_protocol.specs.Sent.{SentMessages}
 use Rattle.ga_dap.specs.Client.{ServesFor, serving_from}
 use Rattle.ga_dap.specs.kept.Turning.{serving_at}
-use Rattle.ga_dap.proofs.Serves.{begins_so, serves_on, pends, all_sent, written_all}
+use Rattle.ga_dap.proofs.Serves.{begins_so, serves_on, ends_so, pends, all_sent, written_all}
 use Rattle.ga_dap.proofs.serving.serve_client.Goals as goal
 
 pub serving-init : goal.serving-init
@@ -72,7 +71,7 @@ returns-in-End g c = λ left before known held.
         last = serving_at c.serving.sources c.serving.arrivals c.serving.session c.serving.out.seq c.serving.inbox inv.0;
         read = made.2.1;
         serves = inv.5;
-        ends = made.2.0;
+        ends = ends_so (serving_at c.serving.sources c.serving.arrivals c.serving.session c.serving.out.seq c.serving.inbox inv.0) c.in-End.end c.if-session.false made.2.0;
         left = made.2.2;
         out = written_all c.in-End.end inv.1;
       },

@@ -1,4 +1,3 @@
-use Rattle.std.proofs.Common.{◌≡◌}
 use Rattle.ga_protocol.specs.declared.request.RequestError.TheVariants as fault
 use Rattle.ga_dap.proofs.Turned.{content_so, declined_so}
 use Rattle.ga_dap.proofs.turn.answer_content.Goals as goal

@@ -1,4 +1,4 @@
-use Rattle.std.proofs.Common.{◌≡◌, ◌∙◌, ℕ, List, ◌++◌, Some, sym, subst}
+use Rattle.std.proofs.Common.{◌≡◌, ℕ, List, ◌++◌, Some, sym, subst}
 use Rattle.std.specs.Prelude.{IfOk, OnErr}
 use Rattle.ga_protocol.specs.Inbox.{GivesNext}
 use Rattle.ga_protocol.specs.declared.inbox.Next.{Next}

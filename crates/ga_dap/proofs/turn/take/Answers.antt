@@ -1,5 +1,3 @@
-use Rattle.std.proofs.Common.{◌≡◌, ℕ, List, subst}
-use Rattle.ga_protocol.specs.Framing.{IsMessage}
 use Rattle.ga_dap.proofs.Turned.{takes_so}
 use Rattle.ga_dap.proofs.turn.take.Goals as goal
 

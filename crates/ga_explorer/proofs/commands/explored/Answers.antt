@@ -1,10 +1,6 @@
-use Rattle.std.proofs.Common.{◌∙◌, ℕ, length, refl, ap, subst}
-use Rattle.ga_answers.specs.Saved.{saved_text}
-use Rattle.ga_answers.specs.Texts.{run_text, chip_text}
-use Rattle.ga_answers.specs.Telling.{TellsEffects}
-use Rattle.ga_answers.specs.Around.{around_text}
-use Rattle.ga_answers.specs.Trees.{TellsWhence}
-use Rattle.ga_answers.specs.Because.{because_text}
+use Rattle.std.proofs.Common.{◌∙◌, length, refl, sym, ap, subst}
+use Rattle.ga_answers.specs.Texts.{run_text}
+use Rattle.ga_explorer.specs.Commands.{Tells}
 use Rattle.ga_explorer.specs.kept.Exploring.{exploring}
 use Rattle.ga_explorer.specs.declared.commands.ExplorerCommand.TheVariants as command
 use Rattle.ga_explorer.proofs.Done.{answered, run_done, back_done}
@@ -31,104 +27,14 @@ returns-in-BackUntil g c = λ before said h.
       done.2,
     )
 
-pub returns-in-Effects : goal.returns-in-Effects
-returns-in-Effects g c = λ before said h.
+pub returns-in-Tell : goal.returns-in-Tell
+returns-in-Tell g c = λ before said h.
     let old = exploring c.args.lab.now c.args.notes.now in
-    let new = exploring c.say_effects.new.lab c.args.notes.now in
-    let done = c.say_effects.ensures.said before said h in (
+    let new = exploring c.told.new.lab c.args.notes.now in
+    let asked = c.in-Tell.question in
+    let done = c.told.ensures.said.said before said h in (
       done.0,
-      answered old new c.args.asked (command.Effects c.in-Effects.node c.in-Effects.which) done.0 c.in-Effects.is
-          (subst (λ (k : ℕ). TellsEffects c.args.lab.now c.in-Effects.node k done.0) c.meant-step.ensures done.1, ap (λ s. exploring s c.args.notes.now) c.say_effects.ensures.same),
+      answered old new c.args.asked (command.Tell asked) done.0 c.in-Tell.is
+          (subst (λ z. Tells old z done.0) (sym c.told.ensures.said.is) done.1, ap (λ s. exploring s c.args.notes.now) c.told.ensures.same),
       done.2,
     )
-
-pub returns-in-Words : goal.returns-in-Words
-returns-in-Words g c = λ before said h.
-    let old = exploring c.args.lab.now c.args.notes.now in
-    let new = exploring c.args.lab.now c.args.notes.now in
-    let done = c.say_words.ensures before said h in
-    (done.0, answered old new c.args.asked (command.Words c.in-Words.from c.in-Words.to) done.0 c.in-Words.is (done.1, refl), done.2)
-
-pub returns-in-Writes : goal.returns-in-Writes
-returns-in-Writes g c = λ before said h.
-    let old = exploring c.args.lab.now c.args.notes.now in
-    let new = exploring c.args.lab.now c.args.notes.now in
-    let done = c.say_writes.ensures before said h in
-    (done.0, answered old new c.args.asked (command.Writes c.in-Writes.node c.in-Writes.address) done.0 c.in-Writes.is (done.1, refl), done.2)
-
-pub returns-in-At : goal.returns-in-At
-returns-in-At g c = λ before said h.
-    let old = exploring c.args.lab.now c.args.notes.now in
-    let new = exploring c.args.lab.now c.args.notes.now in
-    let done = c.say_around.ensures before said h in (
-      done.0,
-      answered old new c.args.asked (command.At c.in-At.node c.in-At.which c.in-At.around) done.0 c.in-At.is
-          (done.1 ∙ ap (λ (k : ℕ). around_text c.args.notes.now c.args.lab.now c.in-At.node k c.in-At.around) c.meant-step-in-At.ensures, refl),
-      done.2,
-    )
-
-pub returns-in-Whence : goal.returns-in-Whence
-returns-in-Whence g c = λ before said h.
-    let old = exploring c.args.lab.now c.args.notes.now in
-    let new = exploring c.args.lab.now c.args.notes.now in
-    let done = c.say_whence.ensures before said h in (
-      done.0,
-      answered old new c.args.asked (command.Whence c.in-Whence.node c.in-Whence.which) done.0 c.in-Whence.is
-          (subst (λ (k : ℕ). TellsWhence c.args.notes.now c.args.lab.now c.in-Whence.node k done.0) c.meant-step-in-Whence.ensures done.1, refl),
-      done.2,
-    )
-
-pub returns-in-Because : goal.returns-in-Because
-returns-in-Because g c = λ before said h.
-    let old = exploring c.args.lab.now c.args.notes.now in
-    let new = exploring c.args.lab.now c.args.notes.now in
-    let done = c.say_because.ensures before said h in (
-      done.0,
-      answered old new c.args.asked (command.Because c.in-Because.node c.in-Because.which c.in-Because.most) done.0 c.in-Because.is
-          (done.1 ∙ ap (λ (k : ℕ). because_text c.args.notes.now c.args.lab.now c.in-Because.node k c.in-Because.most) c.meant-step-in-Because.ensures, refl),
-      done.2,
-    )
-
-pub returns-in-Races : goal.returns-in-Races
-returns-in-Races g c = λ before said h.
-    let old = exploring c.args.lab.now c.args.notes.now in
-    let new = exploring c.say_races.new.lab c.args.notes.now in
-    let done = c.say_races.ensures.said before said h in
-    (done.0, answered old new c.args.asked (command.Races c.in-Races.only) done.0 c.in-Races.is (done.1, ap (λ s. exploring s c.args.notes.now) c.say_races.ensures.same), done.2)
-
-pub returns-in-Who : goal.returns-in-Who
-returns-in-Who g c = λ before said h.
-    let old = exploring c.args.lab.now c.args.notes.now in
-    let new = exploring c.args.lab.now c.args.notes.now in
-    let done = c.say_who.ensures before said h in
-    (done.0, answered old new c.args.asked command.Who done.0 c.in-Who.is (done.1, refl), done.2)
-
-pub returns-in-Save : goal.returns-in-Save
-returns-in-Save g c = λ before said h.
-    let same = exploring c.args.lab.now c.args.notes.now in
-    let text = saved_text c.args.lab.now in
-    (text, answered same same c.args.asked command.Save text c.in-Save.is (refl, refl), c.say_saved.ensures before said h)
-
-pub returns-in-Chip : goal.returns-in-Chip
-returns-in-Chip g c = λ before said h.
-    let same = exploring c.args.lab.now c.args.notes.now in
-    let text = chip_text c.args.lab.now in (
-      text,
-      answered same same c.args.asked command.Chip text c.in-Chip.is (refl, refl),
-      told_as c.say_blocks-in-Chip.result _ before said c.as_slice-in-Chip.result.now text c.say_blocks-in-Chip.new.self
-          (c.as_slice-in-Chip.ensures.value ∙ c.glance.ensures) (c.say_blocks-in-Chip.ensures before said h),
-    )
-
-pub returns-in-Help : goal.returns-in-Help
-returns-in-Help g c = λ before said h.
-    let old = exploring c.args.lab.now c.args.notes.now in
-    let new = exploring c.args.lab.now c.args.notes.now in
-    let done = c.say_help.ensures before said h in
-    (done.0, answered old new c.args.asked command.Help done.0 c.in-Help.is (done.1, refl), done.2)
-
-pub returns-in-HelpOf : goal.returns-in-HelpOf
-returns-in-HelpOf g c = λ before said h.
-    let old = exploring c.args.lab.now c.args.notes.now in
-    let new = exploring c.args.lab.now c.args.notes.now in
-    let done = c.say_command.ensures before said h in
-    (done.0, answered old new c.args.asked (command.HelpOf c.in-HelpOf.place) done.0 c.in-HelpOf.is (done.1, refl), done.2)

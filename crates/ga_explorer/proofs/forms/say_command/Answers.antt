@@ -1,11 +1,10 @@
-use Rattle.std.proofs.Common.{◌≡◌, ◌∙◌, ◌++◌, [], List, ℕ, Some, None, refl, sym, ap}
-use Rattle.std.specs.Prelude.{Option, option_map, slice_get}
+use Rattle.std.proofs.Common.{◌≡◌, ◌∙◌, [], List, Some, None, refl, sym, ap}
+use Rattle.std.specs.Prelude.{option_map, slice_get}
 use Rattle.std.proofs.lemmas.Option.{slice_get-map}
 use Rattle.ga_text.proofs.SaidLemmas.{said_as, said_pending}
 use Rattle.ga_explorer.specs.Forms.{CommandForm, about_text, about_found}
 use Rattle.ga_explorer.specs.Commands.{rows, command_text}
 use Rattle.ga_explorer.specs.kept.Forms.{entry_of}
-use Rattle.ga_explorer.specs.declared.commands.Row.{Row}
 use Rattle.ga_answers.proofs.Told.{told_as}
 use Rattle.ga_explorer.proofs.forms.say_command.Goals as goal
 

@@ -1,6 +1,7 @@
 use Rattle.std.proofs.Common.{List, ℕ, ◌++◌, refl, Some, sym, ap, subst, ◌∙◌, append_assoc}
 use Rattle.std.proofs.lemmas.List.{append-nil}
 use Rattle.ga_lab.specs.Machine.{State}
+use Rattle.ga_orders.specs.Settled.{begun_from}
 use Rattle.ga_orders.specs.EveryOrder.{TellsOrders}
 use Rattle.ga_orders.specs.EveryOrder.ChecksOrders.{checked, unbegun}
 use Rattle.ga_orders.proofs.every_order.check_orders.Goals as goal
@@ -11,8 +12,8 @@ returns-in-Ok g c = λ left before known held.
     let text : List ℕ = begun.4.1 in
     let ahead : List ℕ = c.begin.new.input.bytes in
     let silent = begun.3 ∙ ap Some (ap (λ (t : List ℕ). before ++ t) begun.4.0 ∙ append-nil before) in
-    let sent = c.tell_orders.ensures before silent in
-    let P : State → Type 0 = λ s. TellsOrders c.args.asked s sent.0 c.tell_orders.result in (
+    let sent = c.tell_settled.ensures before silent in
+    let P : State → Type 0 = λ s. TellsOrders c.args.asked (begun_from c.args.settles s) sent.0 c.tell_settled.result in (
       text ++ ahead,
       begun.0,
       sent.0,

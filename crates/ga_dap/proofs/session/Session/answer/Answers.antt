@@ -1,6 +1,5 @@
 use Rattle.std.proofs.Common.{◌∙◌, Some, None, refl, sym}
 use Rattle.ga_dap.proofs.Sends.{carries_so}
-use Rattle.ga_dap.proofs.Still.{still}
 use Rattle.ga_dap.proofs.session.Session.answer.Goals as goal
 
 pub returns-in-Some : goal.returns-in-Some
@@ -9,4 +8,4 @@ returns-in-Some g c = carries_so c.answer_known.result _ _ _ _ _ _ c.answer_know
 
 pub returns-in-None : goal.returns-in-None
 returns-in-None g c = carries_so c.refuse.result _ _ _ _ _ _ c.refuse.ensures
-    (λ messages told. (None, λ k h. c.in-None.ensures.none k (h ∙ sym c.as_str.ensures.value), (told, refl, refl))) (λ stays. still c.args.self.now)
+    (λ messages told. (None, λ k h. c.in-None.ensures.none k (h ∙ sym c.as_str.ensures.value), (told, refl, refl))) (λ stays. refl)

@@ -1,6 +1,7 @@
-use Rattle.std.proofs.Common.{Option, Some, refl, subst, sym}
+use Rattle.std.proofs.Common.{◌∙◌, Option, Some, refl, subst, sym, ap}
 use Rattle.ga_requests.specs.declared.launched.Launched.{Launched}
-use Rattle.ga_dap.specs.Answering.{DoesIfLaunched, StaysIfLaunched}
+use Rattle.ga_dap.specs.declared.session.Session.{Session}
+use Rattle.ga_dap.specs.Answering.{DoesIfLaunched}
 use Rattle.ga_dap.proofs.Sends.{carries_so}
 use Rattle.ga_dap.proofs.session.Session.answer_launched.Goals as goal
 
@@ -9,4 +10,4 @@ returns-in-Some c =
     let new : Launched = c.answer_by.new.launched in
     carries_so c.answer_by.result _ _ _ _ _ _ c.answer_by.ensures
     (λ messages does. (subst (λ (l : Option Launched). DoesIfLaunched c.args.command l c.args.request.now messages (Some new)) (sym c.in-Some.is) (new, does, refl), refl))
-    (λ stays. (refl, subst (λ (l : Option Launched). StaysIfLaunched l (Some new)) (sym c.in-Some.is) (new, stays, refl)))
+    (λ stays. ap (λ (l : Option Launched). let s : Session = record c.args.self.now { launched = l } in s) (ap Some stays ∙ sym c.in-Some.is))

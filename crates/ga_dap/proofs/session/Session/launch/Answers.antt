@@ -2,7 +2,6 @@ use Rattle.std.proofs.Common.{Option, refl, subst, sym}
 use Rattle.ga_requests.specs.declared.launched.Launched.{Launched}
 use Rattle.ga_dap.specs.Launches.{Launches}
 use Rattle.ga_dap.proofs.Sends.{carries_so}
-use Rattle.ga_dap.proofs.Still.{still}
 use Rattle.ga_dap.proofs.session.Session.launch.Goals as goal
 
 pub returns-in-Some : goal.returns-in-Some
@@ -11,4 +10,4 @@ returns-in-Some g c = carries_so c.refuse.result _ _ _ _ _ _ c.refuse.ensures
       subst (λ (l : Option Launched). Launches g.S.ProgramFiles.gives c.args.sources.now l c.args.request.now messages c.args.sources.now l) (sym c.in-Some.is) (told, refl, refl),
       refl,
     ))
-    (λ stays. still c.args.self.now)
+    (λ stays. refl)

@@ -1,5 +1,5 @@
-use Rattle.ga_dap.proofs.Still.{still}
+use Rattle.std.proofs.Common.{refl}
 use Rattle.ga_dap.proofs.session.Session.terminate.Goals as goal
 
 pub returns-in-Err : goal.returns-in-Err
-returns-in-Err c = still c.args.self.now
+returns-in-Err c = refl

@@ -1,20 +1,20 @@
 use Rattle.std.proofs.Common.{◌≤◌, ◌∙◌, List, length, take, drop, sym, ap, subst}
-use Rattle.ga_journal.specs.Histories.{Past}
+use Rattle.ga_journal.specs.Histories.{Book, Past, history}
 use Rattle.ga_journal.specs.Walked.{walked, CanWalk}
 use Rattle.ga_journal.proofs.Rooms.{history_read}
-use Rattle.ga_journal.proofs.histories.Histories.walk_node.Goals as goal
+use Rattle.ga_journal.proofs.journal.Journal.walk_back.Goals as goal
 
 pub walk_back-requires-clause-within : goal.walk_back-requires-clause-within
 walk_back-requires-clause-within c =
     let read = history_read _ c.args.node.number c.at-history.result.now (rw c.at-history.ensures.size c.args.node.in_range) c.at-history.ensures.value in
-    subst (λ (h : List Past). c.args.from ≤ length h) (sym read) c.requires.within
+    subst (λ (h : List Past). c.args.from ≤ length h) (sym (read ∙ ap (λ (b : Book). history b.histories c.args.node.number) c.self.view_is)) c.requires.within
 
 pub walk_back-requires-clause-can : goal.walk_back-requires-clause-can
 walk_back-requires-clause-can c =
     let read = history_read _ c.args.node.number c.at-history.result.now (rw c.at-history.ensures.size c.args.node.in_range) c.at-history.ensures.value in
-    subst (λ (h : List Past). CanWalk c.args.now.now (drop c.args.to (take c.args.from h))) (sym read) c.requires.can
+    subst (λ (h : List Past). CanWalk c.args.now.now (drop c.args.to (take c.args.from h))) (sym (read ∙ ap (λ (b : Book). history b.histories c.args.node.number) c.self.view_is)) c.requires.can
 
 pub returns : goal.returns
 returns c =
     let read = history_read _ c.args.node.number c.at-history.result.now (rw c.at-history.ensures.size c.args.node.in_range) c.at-history.ensures.value in
-    c.walk_back.ensures ∙ ap (λ (h : List Past). walked c.args.now.now (drop c.args.to (take c.args.from h))) read
+    c.walk_back.ensures ∙ ap (λ (h : List Past). walked c.args.now.now (drop c.args.to (take c.args.from h))) (read ∙ ap (λ (b : Book). history b.histories c.args.node.number) c.self.view_is)

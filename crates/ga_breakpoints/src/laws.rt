@@ -1,0 +1,23 @@
+//! Laws of the definitions, each the contract of a function that does nothing.
+
+ghost use Rattle.std.specs.Prelude.{◌≡◌, ◌<◌, ◌^◌, ℕ, List, Option, Some, IsSome};
+ghost use Rattle.std.specs.List.{slice_get};
+ghost use Rattle.ga_grid.specs.declared.node_id.NodeId.{NodeId};
+ghost use Rattle.ga_event.specs.Apply.{replay};
+ghost use Rattle.ga_search.specs.Running.{Running};
+ghost use Rattle.ga_search.specs.Watched.{after_first};
+ghost use Rattle.ga_breakpoints.specs.declared.breakpoint.Breakpoint.{Breakpoint};
+ghost use Rattle.ga_breakpoints.specs.declared.condition.HitCount.{HitCount};
+ghost use Rattle.ga_breakpoints.specs.Breakpoints.{counts_at};
+ghost use Rattle.ga_breakpoints.specs.Going.{tally_on};
+ghost use Rattle.ga_breakpoints.specs.Reversing.{kept_tally};
+
+/// Hits that are counted event by event are those that are counted over the kept events: where a run begins with these, and however it goes on, each of the
+/// first 64 breakpoints whose hits are asked for by their numbers was hit as often as the events say that are kept then.
+pub fn kept_hits_are_counted_on()
+    ensures { (first : Option NodeId) (breakpoints : List Breakpoint) (r : Running) (events place : ℕ) (one : Breakpoint) (hits : HitCount) →
+        IsSome (replay r.state.load r.state.kept) → place < 64 → slice_get breakpoints place ≡ Some one → one.hits ≡ Some hits →
+        counts_at (kept_tally (after_first first r events).state breakpoints).counts place < 2 ^ 32 →
+        counts_at (tally_on first breakpoints (kept_tally r.state breakpoints) r events).counts place
+        ≡ counts_at (kept_tally (after_first first r events).state breakpoints).counts place }
+{}

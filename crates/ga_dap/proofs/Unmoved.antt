@@ -1,0 +1,193 @@
+-- Where a command made no event and took none back, the machine is the same.
+use Rattle.std.proofs.Common.{◌≡◌, ◌∙◌, ◌≤◌, ◌+◌, ◌-◌, ℕ, zero, suc, Bool, true, false, List, [], ◌∷◌, length, take, Some, None, Ok, Err, refl, sym, ap, inl, inr, arith}
+use Rattle.std.specs.Prelude.{◌==◌, not, Option, Result, IsSome, is_some}
+use Rattle.std.specs.Result.{result_ok}
+use Rattle.std.proofs.lemmas.Bool.{or_parts, eqb-true}
+use Rattle.std.proofs.lemmas.List.{length-map}
+use Rattle.ga_grid.specs.declared.node_id.NodeId.{NodeId}
+use Rattle.ga_node.specs.declared.kind.NotReady.{NotReady}
+use Rattle.ga_event.specs.Next.{next}
+use Rattle.ga_event.specs.Told.{events_in, made_in}
+use Rattle.ga_event.specs.declared.event.Event.{Event}
+use Rattle.ga_event.specs.declared.event.Cause.{Cause}
+use Rattle.ga_event.specs.declared.made.Made.{Made}
+use Rattle.ga_causal.specs.Dependence.{dependents, without, place_of, rest_from, rewound_list}
+use Rattle.ga_lab.specs.Machine.{State, chip_of, causes_of, told_of_kept, answer_to, with_event, step_answer, unless_refused, stepped, undo_answer, rewind_answer, rewound, earlier}
+use Rattle.ga_lab.specs.declared.fault.LabFault.{LabFault}
+use Rattle.ga_search.specs.Backward.{newest_held, number_of_step, left_from}
+use Rattle.ga_search.specs.Conditions.{conditions_asked}
+use Rattle.ga_search.specs.Running.{Running, running, chosen, told_by_step, moved_by, after_events, AreMade}
+use Rattle.ga_search.specs.declared.schedule.Schedule.{Schedule}
+use Rattle.ga_console.specs.Replies.{Reply, Does, LineAnswer, reply, step_reply, back_reply, rewind_reply}
+use Rattle.ga_console.specs.Replies.LineAnswer.{long, command, syntax}
+use Rattle.ga_console.specs.declared.command.Command.{Command}
+use Rattle.ga_console.specs.declared.command.Command.TheVariants.{Step, Back, Rewind, Node, Memory, Trace, Why, Count, Dump, Quit}
+use Rattle.ga_explorer.specs.Answers.{Explores, AnswersOther}
+use Rattle.ga_explorer.specs.Answers.Explores.{explored, debugged}
+use Rattle.ga_explorer.specs.Commands.{Explored}
+use Rattle.ga_explorer.specs.Exploring.{Exploring}
+use Rattle.ga_explorer.specs.declared.commands.ExplorerCommand.{ExplorerCommand}
+use Rattle.ga_explorer.specs.declared.commands.ExplorerCommand.TheVariants as asked
+use Rattle.ga_responses.specs.declared.debuggee.Debuggee.{Debuggee}
+use Rattle.ga_dap.specs.Opening.{parts_explored}
+use Rattle.ga_dap.specs.Telling.{has_moved}
+
+-- as many events are kept and were made
+abbrev IsUnmoved : State → State → Type 0
+IsUnmoved s new = (length new.kept ≡ length s.kept) × (new.made ≡ s.made)
+
+-- ---- lists from which nothing is left out
+
+take_same : {A : Type 0} (n : ℕ) (xs : List A) → length (take n xs) ≡ length xs → take n xs ≡ xs
+take_same zero [] h = refl
+take_same zero (x ∷ xs) h = absurd (cc)
+take_same (suc n) [] h = refl
+take_same (suc n) (x ∷ xs) h = ap (λ l. x ∷ l) (take_same n xs (omega (arith, h)))
+
+without_within : {A : Type 0} (flags : List Bool) (xs : List A) → length (without flags xs) ≤ length xs
+without_within [] xs = omega arith
+without_within (flag ∷ flags) [] = omega arith
+without_within (true ∷ flags) (x ∷ xs) = let h = without_within flags xs in omega (arith, h)
+without_within (false ∷ flags) (x ∷ xs) = let h = without_within flags xs in omega (arith, h)
+
+without_same : {A : Type 0} (flags : List Bool) (xs : List A) → length (without flags xs) ≡ length xs → without flags xs ≡ xs
+without_same [] xs h = refl
+without_same (flag ∷ flags) [] h = refl
+without_same (true ∷ flags) (x ∷ xs) h = let w = without_within flags xs in absurd (let no : ⊥ = omega (arith, w, h) in no)
+without_same (false ∷ flags) (x ∷ xs) h = ap (λ l. x ∷ l) (without_same flags xs (omega (arith, h)))
+
+rest_same : (causes : List Cause) (place : Option ℕ) → length (rest_from causes place) ≡ length causes → rest_from causes place ≡ causes
+rest_same causes None h = refl
+rest_same causes (Some i) h = without_same (dependents causes i) causes h
+
+-- ---- what is taken back
+
+earlier_same : (s : State) (place : ℕ) → length (take place s.kept) ≡ length s.kept → earlier s place ≡ s
+earlier_same s place h = ap (λ (z : List Event). let t : State = record s { kept = z } in t) (take_same place s.kept h)
+
+rewound_same : (s : State) (n k : ℕ) → events_in (causes_of s) ≡ s.kept → length (rewound s n k).kept ≡ length s.kept → rewound s n k ≡ s
+rewound_same s n k caused h =
+    let causes : List Cause = causes_of s in
+    let left : List Cause = rewound_list causes n k in
+    let a : length (events_in left) ≡ length left = length-map left (λ (c : Cause). c.event) in
+    let b : length (events_in causes) ≡ length causes = length-map causes (λ (c : Cause). c.event) in
+    let e : left ≡ causes = rest_same causes (place_of causes n k) (sym a ∙ h ∙ sym (ap length caused) ∙ b) in
+    ap (λ (z : List Event). let t : State = record s { kept = z } in t) (ap events_in e ∙ caused)
+
+left_same : (only : Option NodeId) (s : State) (place : Option ℕ) → events_in (causes_of s) ≡ s.kept → length (left_from only s place).kept ≡ length s.kept → left_from only s place ≡ s
+left_same only s None caused h = refl
+left_same None s (Some place) caused h = earlier_same s place h
+left_same (Some node) s (Some place) caused h = rewound_same s node.number (number_of_step node.number (made_in (told_of_kept s) place)) caused h
+
+-- ---- what is made
+
+stepped_made : (s : State) (node : NodeId) → IsSome (result_ok (step_answer s node)) → (stepped s node).made ≡ s.made + 1
+stepped_made s node some = go (next (chip_of s) node) some
+  where
+    by : (e : Event) (a : Result Made LabFault) → IsSome (result_ok a) → (unless_refused s a (with_event s (Ok e))).made ≡ s.made + 1
+    by e (Ok made) h = refl
+    by e (Err why) h = absurd (cc)
+
+    go : (o : Result Event NotReady) → IsSome (result_ok (answer_to s o)) → (unless_refused s (answer_to s o) (with_event s o)).made ≡ s.made + 1
+    go (Err why) h = absurd (cc)
+    go (Ok e) h = by e (answer_to s (Ok e)) h
+
+moved_made : (r : Running) (o : Option NodeId) → IsSome (told_by_step r.state o) → (moved_by r o).state.made ≡ r.state.made + 1
+moved_made r None some = absurd (cc)
+moved_made r (Some node) some = stepped_made r.state node some
+
+run_made : (r : Running) (n : ℕ) → AreMade r n → (after_events r n).state.made ≡ r.state.made + n
+run_made r zero h = omega arith
+run_made r (suc n) h =
+    let before = run_made r n (λ k l. h k (omega (arith, l))) in
+    let last = moved_made (after_events r n) (chosen (after_events r n)) (h n (omega arith)) in
+    omega (arith, before, last)
+
+run_same : (s : State) (schedule : Schedule) (n : ℕ) → AreMade (running s schedule) n → (after_events (running s schedule) n).state.made ≡ s.made → (after_events (running s schedule) n).state ≡ s
+run_same s schedule zero h e = refl
+run_same s schedule (suc n) h e = let more = run_made (running s schedule) (suc n) h in absurd (let no : ⊥ = omega (arith, more, e) in no)
+
+-- ---- commands
+
+step_same : (s : State) (node : NodeId) (a : Result Made LabFault) → step_answer s node ≡ a → IsUnmoved s (step_reply s node a).1 → (step_reply s node a).1 ≡ s
+step_same s node (Ok made) is h =
+    let more = stepped_made s node (ap (λ (z : Result Made LabFault). is_some (result_ok z)) is) in let same = h.1 in absurd (let no : ⊥ = omega (arith, more, same) in no)
+step_same s node (Err why) is h = refl
+
+back_same : (s : State) (a : Result (Unit {0}) LabFault) → IsUnmoved s (back_reply s a).1 → (back_reply s a).1 ≡ s
+back_same s (Ok done) h = earlier_same s (length s.kept - 1) h.0
+back_same s (Err why) h = refl
+
+rewind_same : (s : State) (n k : ℕ) (a : Result ℕ LabFault) → events_in (causes_of s) ≡ s.kept → IsUnmoved s (rewind_reply s (rewound s n k) a).1 → (rewind_reply s (rewound s n k) a).1 ≡ s
+rewind_same s n k (Ok removed) caused h = rewound_same s n k caused h.0
+rewind_same s n k (Err why) caused h = refl
+
+reply_same : (s : State) (c : Command) → events_in (causes_of s) ≡ s.kept → IsUnmoved s (reply s c).1 → (reply s c).1 ≡ s
+reply_same s (Step node) caused h = step_same s node (step_answer s node) refl h
+reply_same s Back caused h = back_same s (undo_answer s) h
+reply_same s (Rewind node k) caused h = rewind_same s node.number k (rewind_answer s node.number k) caused h
+reply_same s (Node node) caused h = refl
+reply_same s (Memory node address) caused h = refl
+reply_same s (Trace node) caused h = refl
+reply_same s (Why from k to j) caused h = refl
+reply_same s Count caused h = refl
+reply_same s Dump caused h = refl
+reply_same s Quit caused h = refl
+
+-- what is the same as another machine, which is unmoved
+same_as : (s other new : State) → new ≡ other → (IsUnmoved s other → other ≡ s) → IsUnmoved s new → new ≡ s
+same_as s other new is go h = is ∙ go (ap (λ (m : State). length m.kept) (sym is) ∙ h.0, ap (λ (m : State). m.made) (sym is) ∙ h.1)
+
+does_same : (s : State) (c : Command) (answer : List ℕ) (new : State) → events_in (causes_of s) ≡ s.kept → Does s c answer new → IsUnmoved s new → new ≡ s
+does_same s c answer new caused (inl e) h = same_as s (reply s c).1 new (ap (λ (r : Reply). r.1) e) (reply_same s c caused) h
+does_same s c answer new caused (inr refused) h = refused.2
+
+line_same : (s : State) (line answer : List ℕ) (new : State) → events_in (causes_of s) ≡ s.kept → LineAnswer s line answer new → IsUnmoved s new → new ≡ s
+line_same s line answer new caused (long past text same) h = same
+line_same s line answer new caused (command c short spelled does) h = does_same s c answer new caused does h
+line_same s line answer new caused (syntax short none text same) h = same
+
+other_same : (s : State) (line answer : List ℕ) (new : State) → events_in (causes_of s) ≡ s.kept → AnswersOther s line answer new → IsUnmoved s new → new ≡ s
+other_same s line answer new caused (inl of) h = line_same s line answer new caused of.1 h
+other_same s line answer new caused (inr none) h = none.2
+
+explored_same : (e : Exploring) (c : ExplorerCommand) (answer : List ℕ) (new : Exploring) → events_in (causes_of e.lab) ≡ e.lab.kept → Explored e c answer new → IsUnmoved e.lab new.lab → new.lab ≡ e.lab
+explored_same e (asked.Run schedule most until) answer new caused does h =
+    let run = does.0 in
+    same_as e.lab (after_events (running e.lab schedule) run.events).state new.lab run.state (λ same. run_same e.lab schedule run.events run.made same.1) h
+explored_same e (asked.BackUntil only until) answer new caused does h =
+    let place = newest_held (conditions_asked until) only e.lab in
+    same_as e.lab (left_from only e.lab place) new.lab does.1 (λ same. left_same only e.lab place caused same.0) h
+explored_same e (asked.Effects node which) answer new caused does h = ap (λ (z : Exploring). z.lab) does.1
+explored_same e (asked.Words from to) answer new caused does h = ap (λ (z : Exploring). z.lab) does.1
+explored_same e (asked.Writes node address) answer new caused does h = ap (λ (z : Exploring). z.lab) does.1
+explored_same e (asked.At node which around) answer new caused does h = ap (λ (z : Exploring). z.lab) does.1
+explored_same e (asked.Whence node which) answer new caused does h = ap (λ (z : Exploring). z.lab) does.1
+explored_same e (asked.Because node which most) answer new caused does h = ap (λ (z : Exploring). z.lab) does.1
+explored_same e (asked.Races only) answer new caused does h = ap (λ (z : Exploring). z.lab) does.1
+explored_same e asked.Who answer new caused does h = ap (λ (z : Exploring). z.lab) does.1
+explored_same e asked.Chip answer new caused does h = ap (λ (z : Exploring). z.lab) does.1
+explored_same e asked.Save answer new caused does h = ap (λ (z : Exploring). z.lab) does.1
+explored_same e asked.Help answer new caused does h = ap (λ (z : Exploring). z.lab) does.1
+explored_same e (asked.HelpOf place) answer new caused does h = ap (λ (z : Exploring). z.lab) does.1
+
+explores_same : (e : Exploring) (line answer : List ℕ) (new : Exploring) → events_in (causes_of e.lab) ≡ e.lab.kept → Explores e line answer new → IsUnmoved e.lab new.lab → new.lab ≡ e.lab
+explores_same e line answer new caused (explored c short spelled does) h = explored_same e c answer new caused does h
+explores_same e line answer new caused (debugged none other notes) h = other_same e.lab line answer new.lab caused other h
+
+-- ---- by the counts
+
+is_true : (b : Bool) → not b ≡ false → b ≡ true
+is_true true h = refl
+is_true false h = absurd (cc)
+
+counts_same : (s new : State) → has_moved s new ≡ false → IsUnmoved s new
+counts_same s new h =
+    let both = or_parts (not (length s.kept == length new.kept)) (not (s.made == new.made)) h in
+    (sym (eqb-true (length s.kept) (length new.kept) (is_true (length s.kept == length new.kept) both.0)), sym (eqb-true s.made new.made (is_true (s.made == new.made) both.1)))
+
+-- the program is the same
+pub unmoved : (p : Debuggee) (line answer : List ℕ) (lab : State) → events_in (causes_of p.lab) ≡ p.lab.kept → Explores (parts_explored p.lab p.source) line answer (parts_explored lab p.source)
+    → has_moved p.lab lab ≡ false → (let new : Debuggee = record p { lab = lab } in new) ≡ p
+unmoved p line answer lab caused does still =
+    ap (λ (z : State). let q : Debuggee = record p { lab = z } in q) (explores_same (parts_explored p.lab p.source) line answer (parts_explored lab p.source) caused does (counts_same p.lab lab still))
