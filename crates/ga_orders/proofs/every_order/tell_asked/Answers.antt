@@ -13,7 +13,7 @@ returns-in-Err-Reached g c = λ before held.
     let reached = c.in-Err-Reached.ensures.reached c.in-Err-Reached.field-0-is in
     (sent.0, sent.1, record { looks = false; found = Err Reached; last = c.check_shared.new.lab; is_found = reached; told = sent.2 })
 
-pub returns-else : goal.returns-else
-returns-else g c = λ before held.
+pub returns-in-Err : goal.returns-in-Err
+returns-in-Err g c = λ before held.
     let sent = c.tell_no_memory.ensures before held in
     (sent.0, sent.1, record { looks = false; found = Err Memory; last = c.check_shared.new.lab; is_found = tt; told = sent.2 })

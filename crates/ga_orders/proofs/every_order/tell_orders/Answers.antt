@@ -6,8 +6,8 @@ use Rattle.ga_orders.specs.declared.every_order.Verdict.{Verdict}
 use Rattle.ga_orders.proofs.Verdicts.{looks_told, tells_back}
 use Rattle.ga_orders.proofs.every_order.tell_orders.Goals as goal
 
-pub returns-in-Ok-then-asked-eq0 : goal.returns-in-Ok-then-asked-eq0
-returns-in-Ok-then-asked-eq0 g c = λ before held.
+pub returns-then-is_missing : goal.returns-then-is_missing
+returns-then-is_missing g c = λ before held.
     let sent = c.tell_tally.ensures before held in
     (sent.0, sent.1, record { looks = false; found = Ok c.in-Ok.tally; last = c.check_shared.new.lab; is_found = c.in-Ok.ensures.once; told = sent.2 })
 
@@ -16,8 +16,8 @@ returns-in-Ok g c = λ before held.
     let sent = c.tell_asked.ensures before held in
     (sent.0, sent.1, tells_back c.args.asked c.args.lab.now c.check_shared.new.lab sent.0 c.tell_asked.result c.in-Ok.ensures.back sent.2)
 
-pub returns-in-Ok-then-tally : goal.returns-in-Ok-then-tally
-returns-in-Ok-then-tally g c = λ before held.
+pub returns-then-tally : goal.returns-then-tally
+returns-then-tally g c = λ before held.
     let sent = c.tell_looks.ensures before held in (
       sent.0,
       sent.1,
@@ -25,7 +25,7 @@ returns-in-Ok-then-tally g c = λ before held.
           (looks_told c.args.asked c.args.lab.now c.check_shared.new.lab sent.0 c.tell_looks.result c.in-Ok.ensures.back sent.2),
     )
 
-pub returns-in-Err : goal.returns-in-Err
-returns-in-Err g c = λ before held.
+pub returns : goal.returns
+returns g c = λ before held.
     let sent = c.tell_no_memory.ensures before held in
     (sent.0, sent.1, record { looks = false; found = Err Memory; last = c.check_shared.new.lab; is_found = tt; told = sent.2 })
