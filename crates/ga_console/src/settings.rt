@@ -81,8 +81,8 @@ const ORDERS: &str = "\
 Reads an image or source as explore does, and nothing behind its line `end`. Runs it in every order of its nodes: two orders are one
 where they differ by swaps of steps that are free of one another.
 
-Tells how many orders there are and, of each kind of end, how many end so, which nodes stop or wait for words, and which order is the first.
-`at least N orders`: there may be others, as a run was cut by a bound or where a node would look at its neighbours.
+Tells how many orders there are and, of each kind of end, how many end so, which nodes stop, wait for words or poll, and which order is the first.
+`at least N orders`: there may be others, as a run was cut by a bound.
 With --session K it writes instead the lines `step NNN` that lead to the end of the Kth order.
 The answer is the same for every number of workers.
 With --settled the idle nodes have come to rest before: a look sees that they wait. A session has these steps first.
