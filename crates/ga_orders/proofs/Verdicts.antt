@@ -15,7 +15,8 @@ use Rattle.ga_check.specs.declared.tally.Stop.{Stop}
 use Rattle.ga_check.specs.declared.tally.Stop.TheVariants.{Reached, Memory}
 use Rattle.ga_console.specs.declared.run.Status.TheVariants.{ImageRefused, StreamFault}
 use Rattle.ga_orders.specs.OrderTexts.{orders_text, no_order_text}
-use Rattle.ga_orders.specs.EveryOrder.{IsSearched, IsLooked, IsFound, IsTextOut, is_faultless, verdict_of, no_order_verdict, found_text, found_verdict, searched, said_verdict, TellsOrders, TellsLooks, TellsEvery}
+use Rattle.ga_orders.specs.EveryOrder.{IsSearched, IsLooked, IsFoundBy, IsTextOut, is_faultless, verdict_of, no_order_verdict, found_text, found_verdict, searched, said_verdict, TellsOrders, TellsEvery}
+use Rattle.ga_orders.specs.kept.Looking.{TellsLooks}
 use Rattle.ga_orders.specs.declared.every_order.Verdict.{Verdict}
 use Rattle.ga_orders.specs.declared.every_order.Verdict.TheVariants.{Alike, Several, SearchedAlike, SearchedSeveral, Open, Ended}
 
@@ -79,7 +80,7 @@ searched_not Open verdict is (inr e) = cc
 searched_not (Ended status) verdict is (inl e) = cc
 searched_not (Ended status) verdict is (inr e) = cc
 
-found_by : (looks : Bool) (s last : State) (found : Result Tally Stop) (text : List ℕ) (verdict : Verdict) → IsFound looks 0 s found last
+found_by : (looks : Bool) (s last : State) (found : Result Tally Stop) (text : List ℕ) (verdict : Verdict) → IsFoundBy looks 0 s found last
     → IsTextOut (found_text 0 found last) (said_verdict looks (found_verdict 0 found)) text verdict → (verdict ≡ Alike) ⊎ (verdict ≡ Several) → IsToldSo s text verdict
 found_by false s last found text verdict is out told = told_by s last found text verdict is out told
 found_by true s last found text verdict is (inl out) told = absurd (searched_not (found_verdict 0 found) verdict out.1 told)
@@ -127,7 +128,7 @@ searched_back asked s t last (Err Reached) back is = record {
 }
 searched_back asked s t last (Err Memory) back is = is
 
-found_back : (looks : Bool) (asked : ℕ) (s t last : State) (found : Result Tally Stop) → IsBack s t → IsFound looks asked t found last → IsFound looks asked s found last
+found_back : (looks : Bool) (asked : ℕ) (s t last : State) (found : Result Tally Stop) → IsBack s t → IsFoundBy looks asked t found last → IsFoundBy looks asked s found last
 found_back false asked s t last found back is = searched_back asked s t last found back is
 found_back true asked s t last found back is = looked_back asked s t last found back is
 

@@ -47,9 +47,9 @@ IsLooked asked s (Ok tally) last = (runs : List (List Event)) × All (Rests (chi
 IsLooked asked s (Err Reached) last = IsRunReached s asked last
 IsLooked asked s (Err Memory) last = Unit {0}
 
-abbrev pub IsFound : Bool → ℕ → State → Result Tally Stop → State → Type 0
-IsFound false asked s found last = IsSearched asked s found last
-IsFound true asked s found last = IsLooked asked s found last
+abbrev pub IsFoundBy : Bool → ℕ → State → Result Tally Stop → State → Type 0
+IsFoundBy false asked s found last = IsSearched asked s found last
+IsFoundBy true asked s found last = IsLooked asked s found last
 
 -- a node is stopped at such an end
 abbrev pub is_stop_fate : Fate → Bool
@@ -112,15 +112,8 @@ pub record TellsOrders (asked : ℕ) (s : State) (text : Text) (verdict : Verdic
   pub looks : Bool
   pub found : Result Tally Stop
   pub last : State
-  pub is_found : IsFound looks asked s found last
+  pub is_found : IsFoundBy looks asked s found last
   pub told : IsTextOut (found_text asked found last) (said_verdict looks (found_verdict asked found)) text verdict
-
--- what is told where a node looks, before the verdict says so
-pub record TellsLooks (asked : ℕ) (s : State) (text : Text) (verdict : Verdict) : Type 0 where
-  pub found : Result Tally Stop
-  pub last : State
-  pub is_looked : IsLooked asked s found last
-  pub told : IsTextOut (found_text asked found last) (found_verdict asked found) text verdict
 
 -- these are all orders of a machine's chip, and what they come to was told
 pub record TellsEvery (s : State) (text : Text) : Type 0 where

@@ -1,3 +1,4 @@
 pub mod OrderTexts
 pub mod Settled
 pub mod EveryOrder
+pub mod kept
