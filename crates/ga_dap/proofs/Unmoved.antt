@@ -158,18 +158,7 @@ explored_same e (asked.Run schedule most until) answer new caused does h =
 explored_same e (asked.BackUntil only until) answer new caused does h =
     let place = newest_held (conditions_asked until) only e.lab in
     same_as e.lab (left_from only e.lab place) new.lab does.1 (λ same. left_same only e.lab place caused same.0) h
-explored_same e (asked.Effects node which) answer new caused does h = ap (λ (z : Exploring). z.lab) does.1
-explored_same e (asked.Words from to) answer new caused does h = ap (λ (z : Exploring). z.lab) does.1
-explored_same e (asked.Writes node address) answer new caused does h = ap (λ (z : Exploring). z.lab) does.1
-explored_same e (asked.At node which around) answer new caused does h = ap (λ (z : Exploring). z.lab) does.1
-explored_same e (asked.Whence node which) answer new caused does h = ap (λ (z : Exploring). z.lab) does.1
-explored_same e (asked.Because node which most) answer new caused does h = ap (λ (z : Exploring). z.lab) does.1
-explored_same e (asked.Races only) answer new caused does h = ap (λ (z : Exploring). z.lab) does.1
-explored_same e asked.Who answer new caused does h = ap (λ (z : Exploring). z.lab) does.1
-explored_same e asked.Chip answer new caused does h = ap (λ (z : Exploring). z.lab) does.1
-explored_same e asked.Save answer new caused does h = ap (λ (z : Exploring). z.lab) does.1
-explored_same e asked.Help answer new caused does h = ap (λ (z : Exploring). z.lab) does.1
-explored_same e (asked.HelpOf place) answer new caused does h = ap (λ (z : Exploring). z.lab) does.1
+explored_same e (asked.Tell question) answer new caused does h = ap (λ (z : Exploring). z.lab) does.1
 
 explores_same : (e : Exploring) (line answer : List ℕ) (new : Exploring) → events_in (causes_of e.lab) ≡ e.lab.kept → Explores e line answer new → IsUnmoved e.lab new.lab → new.lab ≡ e.lab
 explores_same e line answer new caused (explored c short spelled does) h = explored_same e c answer new caused does h

@@ -1,4 +1,4 @@
-use Rattle.std.proofs.Common.{Err, subst}
+use Rattle.std.proofs.Common.{false, Err, subst}
 use Rattle.ga_lab.specs.Machine.{State}
 use Rattle.ga_check.specs.declared.tally.Stop.TheVariants.{Memory}
 use Rattle.ga_orders.specs.EveryOrder.{TellsOrders}
