@@ -15,7 +15,7 @@ use adapter::{out_of_memory, serve_editor};
 use arriving::begin_reading;
 use ga_check::orders::Bounds;
 use ga_console::{LineFault, Settings, Status, arguments, race_report, session};
-use ga_explorer::{close, explore, is_cut_off};
+use ga_explorer::{close, explore, help_text, is_cut_off};
 use ga_listing::{assemble_source, disassemble, list_source};
 use ga_orders::{Verdict, check_orders};
 use ga_picture::{View, draw_session};
@@ -143,7 +143,10 @@ fn settings(rt: &HostRuntime) -> Result<Settings, LineFault>
     else {
         return Err(LineFault::Memory);
     };
-    arguments(rt.alloc(), texts.as_slice())
+    let Ok(commands) = help_text(rt.alloc()) else {
+        return Err(LineFault::Memory);
+    };
+    arguments(rt.alloc(), texts.as_slice(), commands.as_slice())
 }
 
 /// Serves a session over the standard streams.

@@ -31,30 +31,20 @@ Commands (NNN is a node, three decimal digits; K a step, counted from 1; HH two 
 
 Exit status: 0 done, 1 image refused, 2 a stream failed, 3 command line refused.";
 
-/// What `ga144 explore --help` says behind the options.
+/// What `ga144 explore --help` says behind the options, above what the session's own `help` says.
 const EXPLORING: &str = "\
 Reads an image or source (up to its line `end`) from FILE, or from standard input where none is given, and then commands from
-standard input, and knows each command of debug. So a person at a terminal types: ga144 explore fault.f18
+standard input. So a person at a terminal types: ga144 explore fault.f18
 
 A FILE of source needs no line `end`. What stands in FILE behind its line `end` is read as the first commands.
 
-Further commands (N is a number of events; NNN and MMM are nodes, K a step, HH two and W and X six hexadecimal digits):
-  run [N] [until COND]   make events in rounds: each node that has an event makes one, in the order of their names
-  run greedy ..          each node as far as it goes
-  run random SEED ..     nodes drawn by a generator with this seed
-  back until COND        take the newest event back behind which COND held, and all since
-  back NNN until COND    take the newest such step of NNN back, with all that depends on it
-  chip                   show what each node does
-  who                    show who waits for whom, and which nodes can never go on
-  effects NNN K          show what rewind NNN K would take, and take nothing
-  words NNN MMM          show the words that went from NNN to MMM
-  writes NNN HH          show the steps that wrote the cell HH of NNN, the newest first
-  at NNN K [N]           show the steps from K - N to K + N of NNN, each with registers behind it [N: 3]
-  whence NNN K           show the steps whose values went into what step K of NNN made, down to literals and loaded cells
-  because NNN K [N]      show the last N steps of NNN before its step K at which a value decided where it went on [N: 3]
-  races [NNN]            show the steps that could have come out otherwise in another order, and by which commands
-  save                   show the kept events as lines step NNN
-  help                   show the commands
+Commands (NNN and MMM are nodes, K and J numbers counted from 1, N a number, HH two and W six hexadecimal digits):
+";
+
+/// What stands below it.
+const CONDITIONS: &str = "
+Without greedy or random, run makes events in rounds: each node that has an event makes one, in the order of their names. With greedy each
+node goes as far as it can; with random SEED nodes are drawn by a generator with this seed. N of at and because is 3 where none is given.
 
 COND is one of:
   pass NNN MMM = W       the word W went from NNN to MMM
@@ -208,14 +198,18 @@ pub enum LineFault {
     Memory,
 }
 
-/// Reads the command line, the program's name first. The numbers that it answers are in their ranges.
+/// Reads the command line, the program's name first. The numbers that it answers are in their ranges. The help of `explore` shows these
+/// `commands`, a text of lines.
 ///
 /// # Errors
 /// `Help`, where help or the version was asked for; `Refused`; `Memory`.
-pub fn arguments(alloc: Global, words: &[&str]) -> Result<Settings, LineFault>
+pub fn arguments(alloc: Global, words: &[&str], commands: &[u8]) -> Result<Settings, LineFault>
     ensures in_range { IfOk result AreInRange }
 {
-    let Ok(command) = program(alloc) else {
+    let Ok(exploring) = exploring_help(alloc, commands) else {
+        return Err(LineFault::Memory);
+    };
+    let Ok(command) = program(alloc, exploring.as_str()) else {
         return Err(LineFault::Memory);
     };
     match command.try_get_matches_from(words) {
@@ -233,15 +227,23 @@ pub fn arguments(alloc: Global, words: &[&str]) -> Result<Settings, LineFault>
     }
 }
 
+/// What the help of `explore` says behind the options.
+fn exploring_help(alloc: Global, commands: &[u8]) -> Result<String, AllocError> {
+    let mut text = String::from_str(alloc, EXPLORING)?;
+    text.push_str(String::from_utf8_lossy(alloc, commands)?.as_str())?;
+    text.push_str(CONDITIONS)?;
+    Ok(text)
+}
+
 /// The command lines of the program, as clap has them.
-fn program<'a>(alloc: Global) -> Result<Command<'a>, AllocError> {
+fn program<'a>(alloc: Global, exploring: &'a str) -> Result<Command<'a>, AllocError> {
     Command::new(alloc, "ga144")
         .bin_name("ga144")?
         .version(VERSION)
         .subcommand_required(true)
         .about("Simulates the GreenArrays GA144, with a debugger that takes steps back")
         .subcommand(debug_line(alloc)?)?
-        .subcommand(explore_line(alloc)?)?
+        .subcommand(explore_line(alloc, exploring)?)?
         .subcommand(race_line(alloc)?)?
         .subcommand(check_line(alloc)?)?
         .subcommand(editor_line(alloc)?)?
@@ -258,10 +260,10 @@ fn debug_line<'a>(alloc: Global) -> Result<Command<'a>, AllocError> {
         .arg(limit_option(alloc))
 }
 
-fn explore_line<'a>(alloc: Global) -> Result<Command<'a>, AllocError> {
+fn explore_line<'a>(alloc: Global, exploring: &'a str) -> Result<Command<'a>, AllocError> {
     Command::new(alloc, "explore")
         .about("Debug, and make events up to a condition")
-        .after_help(EXPLORING)
+        .after_help(exploring)
         .arg(file_argument(alloc, "An image or source"))?
         .arg(limit_option(alloc))
 }

@@ -1,5 +1,5 @@
 -- A command that is looked for row by row, and a letter byte by byte.
-use Rattle.std.proofs.Common.{◌≡◌, ℕ, ◌+◌, ◌<◌, ◌≤◌, ◌++◌, [], ◌||◌, ◌&&◌, List, length, drop, get_or, Bool, true, false, nat_eq, nat_le, if◌then◌else◌, Some, sym, ap, ◌∙◌}
+use Rattle.std.proofs.Common.{◌≡◌, ℕ, ◌+◌, ◌<◌, ◌≤◌, ◌++◌, [], ◌||◌, ◌&&◌, List, length, drop, get_or, Bool, true, false, nat_eq, nat_le, if◌then◌else◌, Some, sym, ap, ◌∙◌, append_assoc, append-nil}
 use Rattle.std.specs.Prelude.{map}
 use Rattle.std.specs.Cmp.Lexicographic.{pointwise}
 use Rattle.std.proofs.lemmas.List.{drop_more, drop_all}
@@ -69,3 +69,21 @@ pub place_behind : (word : List ℕ) (rows : List Row) (i : ℕ) (d : Row) → i
     → place_from word (i + 1) (map entry_of (drop (i + 1) rows)) ≡ place_from word i (map entry_of (drop i rows))
 place_behind word rows i d within b is e =
     sym (placed word rows i d within b e ∙ ap (λ (z : Bool). if z then Some i else place_from word (i + 1) (map entry_of (drop (i + 1) rows))) is)
+
+-- ---- the text of `help`, row by row
+
+pub joined_row : (rows : List Row) (i : ℕ) (d : Row) → i < length rows → (text formed done : List ℕ) → formed ≡ text ++ (get_or rows i d).form.now
+    → done ≡ formed ++ (get_or rows i d).does.now → text ++ form_rows_text (map entry_of (drop i rows)) ≡ form_rows_text (map entry_of rows)
+    → done ++ form_rows_text (map entry_of (drop (i + 1) rows)) ≡ form_rows_text (map entry_of rows)
+joined_row rows i d within text formed done f g e =
+    let form : List ℕ = (get_or rows i d).form.now in
+    let does : List ℕ = (get_or rows i d).does.now in
+    let rest : List ℕ = form_rows_text (map entry_of (drop (i + 1) rows)) in
+    ap (λ (z : List ℕ). z ++ rest) (g ∙ ap (λ (z : List ℕ). z ++ does) f ∙ append_assoc text form does)
+    ∙ append_assoc text (form ++ does) rest
+    ∙ ap (λ (z : List ℕ). text ++ z) (sym (next_row rows i d within))
+    ∙ e
+
+pub whole_rows : (rows : List Row) (i : ℕ) → length rows ≤ i → (text : List ℕ) → text ++ form_rows_text (map entry_of (drop i rows)) ≡ form_rows_text (map entry_of rows)
+    → text ≡ form_rows_text (map entry_of rows)
+whole_rows rows i past text e = sym (append-nil text) ∙ ap (λ (z : List ℕ). text ++ z) (sym (no_row rows i past)) ∙ e

@@ -1,6 +1,6 @@
 //! What `help` answers, and what is said of a line that spells no command.
 
-ghost use Rattle.std.specs.Prelude.{◌≡◌, ◌++◌, codes, map, option_map, option_copied, slice_get};
+ghost use Rattle.std.specs.Prelude.{◌≡◌, ◌++◌, IfOk, codes, map, option_map, option_copied, slice_get};
 ghost use Rattle.ga_text.specs.Lines.{Bytes};
 ghost use Rattle.ga_text.specs.Output.{IsSaid, IsSaidOrCut};
 ghost use Rattle.ga_text.specs.kept.Output.{Says};
@@ -11,9 +11,31 @@ ghost use Rattle.ga_explorer.specs.kept.Forms.{entry_of};
 
 use crate::commands::{Row, rows};
 use ga_text::{Output, WriteFailed, cut};
+use std::alloc::{AllocError, Global};
 use std::io::Write;
 
-/// Says what `help` answers: each command's form, and what it does.
+/// What `help` answers: each command's form, and what it does.
+///
+/// # Errors
+/// Memory was refused.
+pub fn help_text(alloc: Global) -> Result<Vec<u8>, AllocError>
+    ensures { IfOk result (λ text. text.items ≡ form_rows_text rows) }
+{
+    rows_text(alloc, rows())
+}
+
+fn rows_text(alloc: Global, rows: &[Row]) -> Result<Vec<u8>, AllocError>
+    ensures { IfOk result (λ text. text.items ≡ form_rows_text (map entry_of rows.now)) }
+{
+    let mut text = Vec::new(alloc);
+    'rows: for row in rows {
+        text.extend_from_slice(row.form)?;
+        text.extend_from_slice(row.does)?;
+    }
+    Ok(text)
+}
+
+/// Says it.
 ///
 /// # Errors
 /// A write failed.
