@@ -14,14 +14,17 @@ use std::marker::Model;
 mod overwritten;
 mod walking;
 
+/// So many entries take more than 128 KiB: C's memory gives a list of that size pages of its own, which grow without a copy.
+const MAPPED: usize = 2816;
+
 /// The entries of one node, the oldest first. The passes among them stand in a list of their own, so that an own event
 /// takes no more memory than it has to.
 #[derive(Drop)]
 pub(crate) struct History {
     entries: Vec<Entry>,
-    passes: Vec<Pass>,
-    // One past the position of the newest look, 0 for none.
+    // One past the position of the newest look, 0 for none. It stands beside what an own event reads besides.
     looked: u32,
+    passes: Vec<Pass>,
 }
 
 impl Model for History {
@@ -241,7 +244,7 @@ impl History {
         self.grow_entries()
     }
 
-    // Makes the growth for an own event where there is no room: fourfold, since a list's entries are copied at each growth.
+    // Makes the growth for an own event where there is no room: from 16 entries to memory of its own, and then fourfold.
     #[inline(never)]
     fn grow_entries(&mut self) -> Result<(), JournalFault>
         requires { ¬ IsTrue self.old.room.entry }
@@ -249,7 +252,12 @@ impl History {
         ensures room { OnOk result (IsTrue self.new.room.entry) }
         ensures err { IfErr result (λ fault. fault ≡ JournalFault.Memory) }
     {
-        let more = self.entries.len().saturating_mul(3).saturating_add(16);
+        let now = self.entries.len();
+        let more = if now > 0 && now < MAPPED {
+            MAPPED
+        } else {
+            now.saturating_mul(3).saturating_add(16)
+        };
         match self.entries.reserve(more) {
             Ok(()) => Ok(()),
             Err(_) => Err(JournalFault::Memory),
@@ -369,10 +377,11 @@ impl History {
         let entry = &self.entries[last];
         restore(chip, node, &entry.saved);
         let part = entry.part;
-        let act = act_of(&self.passes, part, entry.place);
-        self.looked = looked_before(&self.passes, part, entry.place);
-        drop_pass(&mut self.passes, part);
+        let place = entry.place;
         let _ = self.entries.pop();
+        let act = act_of(&self.passes, part, place);
+        self.looked = looked_before(&self.passes, part, place);
+        drop_pass(&mut self.passes, part);
         act
     }
 }

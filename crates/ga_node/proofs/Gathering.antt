@@ -7,6 +7,7 @@ use Rattle.ga_node.specs.declared.place.Place.{Place}
 use Rattle.ga_node.specs.declared.place.Place.TheVariants.{T, S, DataCell, DataPointer, R, ReturnCell, ReturnPointer, Ram, Rom, A, B, P, I, Slot, Io, Carry, Wait, Stop}
 use Rattle.ga_node.specs.kept.Packed.{code_of, place_by, unpacked, IsWord}
 use Rattle.ga_node.specs.kept.Gathered.{pairs_of, AreAt}
+use Rattle.ga_node.proofs.Packing.{kind_in}
 
 -- ---- values at places
 
@@ -49,20 +50,21 @@ commute n p q v w other = refl
 
 -- ---- words at codes
 
-same_place : (u w : ℕ) → u / 2 ^ 18 ≡ w / 2 ^ 18 → (unpacked u).0 ≡ (unpacked w).0
-same_place u w is = ap (λ code. place_by (code / 64) (code % 64)) is
+same_place : (u w : ℕ) → u / 2 ^ 24 ≡ w / 2 ^ 24 → (unpacked u).0 ≡ (unpacked w).0
+same_place u w is =
+    ap (λ kind. place_by kind (u / 16777216)) (kind_in u ∙ ap (λ code. code / 8) is ∙ sym (kind_in w)) ∙ ap (place_by (w / 134217728)) is
 
-other_place : (u w : ℕ) → IsWord u → IsWord w → (u / 2 ^ 18 ≡ w / 2 ^ 18 → ⊥) → (unpacked u).0 ≡ (unpacked w).0 → ⊥
+other_place : (u w : ℕ) → IsWord u → IsWord w → (u / 2 ^ 24 ≡ w / 2 ^ 24 → ⊥) → (unpacked u).0 ≡ (unpacked w).0 → ⊥
 other_place u w is has differ same = differ (sym is.1 ∙ ap code_of same ∙ has.1)
 
 -- one word more, that is written back last
-pub put_last : (n : NodeState) (code k w : ℕ) (ws : List ℕ) → AreAt code ws → IsWord w → w / 2 ^ 18 ≡ code + k → k < length ws
+pub put_last : (n : NodeState) (code k w : ℕ) (ws : List ℕ) → AreAt code ws → IsWord w → w / 2 ^ 24 ≡ code + k → k < length ws
     → restored n (pairs_of (slice_set ws k (suc w))) ≡ with_value (restored n (pairs_of ws)) (unpacked w).0 (unpacked w).1
 unfolding restored
 put_last n code k w [] are is at l = absurd (omega (arith, l))
 put_last n code zero w (zero ∷ ws) are is at l = refl
 put_last n code zero w (suc u ∷ ws) are is at l =
-    let same : u / 2 ^ 18 ≡ w / 2 ^ 18 = are.1 ∙ sym (at ∙ omega arith) in
+    let same : u / 2 ^ 24 ≡ w / 2 ^ 24 = are.1 ∙ sym (at ∙ omega arith) in
     sym (ap (λ p. with_value (with_value (restored n (pairs_of ws)) p (unpacked u).1) (unpacked w).0 (unpacked w).1) (same_place u w same)
     ∙ absorbs (restored n (pairs_of ws)) (unpacked w).0 (unpacked u).1 (unpacked w).1)
 put_last n code (suc k) w (zero ∷ ws) are is at l = put_last n (code + 1) k w ws are is (at ∙ omega arith) (omega (arith, l))
@@ -71,7 +73,7 @@ put_last n code (suc k) w (suc u ∷ ws) are is at l =
     ∙ commute (restored n (pairs_of ws)) (unpacked w).0 (unpacked u).0 (unpacked w).1 (unpacked u).1
     (other_place w u is are.0 (λ same. absurd (let here = are.1 in omega (arith, at, here, same))))
 
-pub at_put : (code k w : ℕ) (ws : List ℕ) → AreAt code ws → IsWord w → w / 2 ^ 18 ≡ code + k → AreAt code (slice_set ws k (suc w))
+pub at_put : (code k w : ℕ) (ws : List ℕ) → AreAt code ws → IsWord w → w / 2 ^ 24 ≡ code + k → AreAt code (slice_set ws k (suc w))
 at_put code k w [] are is at = tt
 at_put code zero w (zero ∷ ws) are is at = (is, at ∙ omega arith, are)
 at_put code zero w (suc u ∷ ws) are is at = (is, at ∙ omega arith, are.2)

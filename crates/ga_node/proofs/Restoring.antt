@@ -1,5 +1,5 @@
 -- Saved values written back, one by one.
-use Rattle.std.proofs.Common.{◌≡◌, ℕ, ◌+◌, ◌≤◌, List, [], ◌∷◌, length, refl, sym, ap, ◌∙◌, arith, Bool, true, false, ◌==◌, ◌<◌, slice_index, slice_set, drop, get_or, zero, suc, drop-cons, add-one, Some, None, subst}
+use Rattle.std.proofs.Common.{◌≡◌, ℕ, ◌+◌, ◌≤◌, List, [], ◌∷◌, length, refl, sym, ap, ◌∙◌, arith, Bool, true, false, ◌==◌, ◌<◌, slice_index, slice_set, take, drop, get_or, zero, suc, drop-cons, add-one, Some, None, subst}
 use Rattle.std.specs.List.{slice_get}
 use Rattle.std.proofs.lemmas.Option.{get_or_from_slice_get, slice_get_within}
 use Rattle.std.proofs.lemmas.List.{set-get_or, set-set}
@@ -101,6 +101,19 @@ restored_past n [] zero past = refl
 restored_past n [] (suc i) past = refl
 restored_past n (first ∷ rest) zero past = absurd (omega arith)
 restored_past n (first ∷ rest) (suc i) past = restored_past n rest i (omega arith)
+
+-- some of the values written back, and then those before them
+pub fit_take : (saved : List (Place × ℕ)) (n : ℕ) → AreFit saved → AreFit (take n saved)
+unfolding AreFit
+fit_take saved zero fit = tt
+fit_take [] (suc n) fit = tt
+fit_take (first ∷ rest) (suc n) fit = (fit.0, fit_take rest n fit.1)
+
+pub restored_parts : (n : NodeState) (saved : List (Place × ℕ)) (k : ℕ) → restored n saved ≡ restored (restored n (drop k saved)) (take k saved)
+unfolding restored
+restored_parts n saved zero = refl
+restored_parts n [] (suc k) = refl
+restored_parts n (first ∷ rest) (suc k) = ap (λ (m : NodeState). with_value m first.0 first.1) (restored_parts n rest k)
 
 -- a node that is ready for an event of its own
 pub apart_from_ready : (n : NodeState) → refusal (record_of n) ≡ None → IsApart n

@@ -7,8 +7,8 @@ use crate::node::Node;
 use crate::saved::{Saved, unpack};
 use std::marker::Model;
 
-/// So many codes of places there are: 64 for each of 18 kinds.
-const CODES: usize = 1152;
+/// The codes of places are below it.
+const CODES: usize = 249;
 
 /// The old values of many events, gathered from the newest event on: of each place the one that is written back last. To write
 /// these back leads to the same node as to write all of them back. A contract sees a list of pairs.
@@ -27,7 +27,7 @@ impl Model for Gathered {
 
     ghost view = { λ g. pairs_of g.words };
 
-    ghost invariant = { λ g. (length g.words ≡ 1152) × AreAt 0 g.words };
+    ghost invariant = { λ g. (length g.words ≡ 249) × AreAt 0 g.words };
 }
 
 impl Gathered {
@@ -49,7 +49,7 @@ impl Gathered {
         ensures back { (node : NodeState) → restored node self.new ≡ with_value (restored node self.old) (unpacked word).0 (unpacked word).1 }
         ensures fit { AreFit self.old → IsInRange (unpacked word).0 (unpacked word).1 → AreFit self.new }
     {
-        self.words[(word / 262144) as usize] = word + 1;
+        self.words[(word / 0x1000000) as usize] = word + 1;
     }
 
     /// Adds the values that an event overwrote, to be written back behind those that are there.

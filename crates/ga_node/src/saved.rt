@@ -1,8 +1,9 @@
 //! The values that an event overwrote, each with its place in one word of 32 bits.
 
-ghost use Rattle.std.specs.Prelude.{◌≡◌, ◌<◌, ◌^◌, ◌*◌, ◌/◌, ◌%◌};
+ghost use Rattle.std.specs.Prelude.{◌≡◌, ◌+◌, ◌-◌, ◌<◌, ◌≤◌, ◌^◌, ◌*◌, ◌/◌, ◌%◌, length};
+ghost use Rattle.std.specs.Bool.{OnTrue, OnFalse};
 ghost use Rattle.ga_node.specs.State.{IsPlace};
-ghost use Rattle.ga_node.specs.kept.Packed.{code_of, place_by, packed, unpacked};
+ghost use Rattle.ga_node.specs.kept.Packed.{code_of, place_by, packed, unpacked, free_bits as free_bits_of, spare, with_spare, AreWords, AreKept};
 
 use crate::place::Place;
 use arrayvec::ArrayVec;
@@ -10,26 +11,27 @@ use std::fmt;
 use std::marker::Model;
 
 /// The places that an event overwrote, with their old values: at most seven. A contract sees the list of pairs; here each
-/// pair is packed into one word.
+/// pair is packed into one word, of which six bits are free: those of six words hold a seventh.
 #[derive(Drop)]
 pub struct Saved {
-    words: ArrayVec<u32, 7>,
+    words: ArrayVec<u32, 6>,
 }
 
 impl Model for Saved {
     ghost use Rattle.std.specs.Prelude.{List, ℕ, map};
     ghost use Rattle.ga_node.specs.declared.place.Place.{Place};
-    ghost use Rattle.ga_node.specs.kept.Packed.{unpacked, AreWords};
+    ghost use Rattle.ga_node.specs.kept.Packed.{unpacked, whole, AreKept};
 
     ghost Value = { List (Place × ℕ) };
 
-    ghost view = { λ s. map unpacked s.words.items };
+    ghost view = { λ s. map unpacked (whole s.words.items) };
 
-    ghost invariant = { λ s. AreWords s.words.items };
+    ghost invariant = { λ s. AreKept s.words.items };
 }
 
 impl Saved {
-    ghost use Rattle.std.specs.Prelude.{◌≡◌, ◌<◌, ◌≤◌, ◌^◌, ◌++◌, ◌∷◌, [], length, Some};
+    ghost use Rattle.std.specs.Prelude.{◌≡◌, ◌<◌, ◌≤◌, ◌^◌, ◌++◌, ◌∷◌, [], length, take, Some};
+    ghost use Rattle.std.specs.Bool.{OnTrue, OnFalse};
     ghost use Rattle.std.specs.List.{slice_get};
     ghost use Rattle.ga_node.specs.State.{IsPlace};
     ghost use Rattle.ga_node.specs.kept.Packed.{unpacked, IsWord};
@@ -50,7 +52,33 @@ impl Saved {
         ensures value { result ≡ length self.now }
         ensures within { result ≤ 7 }
     {
+        if is_spread(&self.words) { 7 } else { self.words.len() }
+    }
+
+    /// Whether there are seven.
+    #[inline(always)]
+    pub(crate) fn is_full(&self) -> bool
+        ensures yes { OnTrue result (length self.now ≡ 7) }
+        ensures no { OnFalse result (length self.now < 7) }
+    {
+        is_spread(&self.words)
+    }
+
+    /// How many of the first six there are.
+    #[inline(always)]
+    pub(crate) fn six(&self) -> usize
+        ensures { result ≡ length (take 6 self.now) }
+    {
         self.words.len()
+    }
+
+    /// One of the first six places, with its old value.
+    #[inline(always)]
+    pub(crate) fn six_at(&self, i: usize) -> (Place, u32)
+        requires { i < length (take 6 self.now) }
+        ensures { slice_get (take 6 self.now) i ≡ Some result }
+    {
+        unpack(self.words[i])
     }
 
     /// Takes all pairs away.
@@ -61,6 +89,17 @@ impl Saved {
         self.words = ArrayVec::new();
     }
 
+    /// Adds a place and its old value, where there are fewer than six.
+    #[inline(always)]
+    pub(crate) fn add(&mut self, place: Place, value: u32)
+        requires place { IsPlace place }
+        requires in_range { value < 2 ^ 18 }
+        requires room { length self.old < 6 }
+        ensures { self.new ≡ self.old ++ (place, value) ∷ [] }
+    {
+        self.words.push(pack(place, value));
+    }
+
     /// Adds a place and its old value.
     #[inline(always)]
     pub fn push(&mut self, place: Place, value: u32)
@@ -69,7 +108,11 @@ impl Saved {
         requires room { length self.old < 7 }
         ensures { self.new ≡ self.old ++ (place, value) ∷ [] }
     {
-        self.words.push(pack(place, value));
+        if self.words.len() < 6 {
+            self.add(place, value);
+        } else {
+            self.words = spread(&self.words, pack(place, value));
+        }
     }
 
     /// One of the places, with its old value.
@@ -88,7 +131,7 @@ impl Saved {
         ensures pair { slice_get self.now i ≡ Some (unpacked result) }
         ensures word { IsWord result }
     {
-        self.words[i]
+        if i < self.words.len() { self.words[i] } else { seventh(&self.words) }
     }
 }
 
@@ -102,68 +145,89 @@ impl fmt::Debug for Saved {
     }
 }
 
-/// A number for each place: 64 for each kind before its own, and its cell.
+/// A number for each place.
 #[inline(always)]
 fn code(place: Place) -> u32
     requires { IsPlace place }
     ensures value { result ≡ code_of place }
-    ensures within { result < 1152 }
+    ensures within { result < 249 }
 {
     match place {
         Place::T => 0,
-        Place::S => 64,
-        Place::DataCell(cell) => 128 + cell as u32,
-        Place::DataPointer => 192,
-        Place::R => 256,
-        Place::ReturnCell(cell) => 320 + cell as u32,
-        Place::ReturnPointer => 384,
-        Place::Ram(cell) => 448 + cell as u32,
-        Place::Rom(cell) => 512 + cell as u32,
-        Place::A => 576,
-        Place::B => 640,
-        Place::P => 704,
-        Place::I => 768,
-        Place::Slot => 832,
-        Place::Io => 896,
-        Place::Carry => 960,
-        Place::Wait => 1024,
-        Place::Stop => 1088,
+        Place::S => 8,
+        Place::DataPointer => 16,
+        Place::R => 24,
+        Place::ReturnPointer => 32,
+        Place::A => 40,
+        Place::B => 48,
+        Place::P => 56,
+        Place::Ram(cell) => 64 + cell as u32,
+        Place::Rom(cell) => 128 + cell as u32,
+        Place::DataCell(cell) => 192 + cell as u32,
+        Place::ReturnCell(cell) => 200 + cell as u32,
+        Place::I => 208,
+        Place::Slot => 216,
+        Place::Io => 224,
+        Place::Carry => 232,
+        Place::Wait => 240,
+        Place::Stop => 248,
     }
 }
 
-/// The cell of a word's place.
+/// The cell of a word's place in RAM or ROM.
 #[inline(always)]
 fn cell(word: u32) -> u8
-    requires { word < 1152 * 2 ^ 18 }
-    ensures { result ≡ word / 2 ^ 18 % 64 }
+    ensures { result ≡ word / 2 ^ 24 % 64 }
 {
-    (word / 262144 % 64) as u8
+    (word / 0x1000000 % 64) as u8
 }
 
-/// The place of a word. The cell is taken out only where the place has one.
+/// The cell of a word's place in a stack.
+#[inline(always)]
+fn stack_cell(word: u32) -> u8
+    ensures { result ≡ word / 2 ^ 24 % 8 }
+{
+    (word / 0x1000000 % 8) as u8
+}
+
+/// The place of a word. Each of its 32 kinds has an arm, so that one jump leads there, and a cell is taken out only where
+/// the place has one.
 #[inline(always)]
 fn place(word: u32) -> Place
-    requires { word < 1152 * 2 ^ 18 }
-    ensures { result ≡ place_by (word / 2 ^ 18 / 64) (word / 2 ^ 18 % 64) }
+    ensures { result ≡ place_by (word / 2 ^ 27) (word / 2 ^ 24) }
 {
-    match word / 262144 / 64 {
+    match word / 0x8000000 {
         0 => Place::T,
         1 => Place::S,
-        2 => Place::DataCell(cell(word)),
-        3 => Place::DataPointer,
-        4 => Place::R,
-        5 => Place::ReturnCell(cell(word)),
-        6 => Place::ReturnPointer,
-        7 => Place::Ram(cell(word)),
-        8 => Place::Rom(cell(word)),
-        9 => Place::A,
-        10 => Place::B,
-        11 => Place::P,
-        12 => Place::I,
-        13 => Place::Slot,
-        14 => Place::Io,
-        15 => Place::Carry,
-        16 => Place::Wait,
+        2 => Place::DataPointer,
+        3 => Place::R,
+        4 => Place::ReturnPointer,
+        5 => Place::A,
+        6 => Place::B,
+        7 => Place::P,
+        8 => Place::Ram(cell(word)),
+        9 => Place::Ram(cell(word)),
+        10 => Place::Ram(cell(word)),
+        11 => Place::Ram(cell(word)),
+        12 => Place::Ram(cell(word)),
+        13 => Place::Ram(cell(word)),
+        14 => Place::Ram(cell(word)),
+        15 => Place::Ram(cell(word)),
+        16 => Place::Rom(cell(word)),
+        17 => Place::Rom(cell(word)),
+        18 => Place::Rom(cell(word)),
+        19 => Place::Rom(cell(word)),
+        20 => Place::Rom(cell(word)),
+        21 => Place::Rom(cell(word)),
+        22 => Place::Rom(cell(word)),
+        23 => Place::Rom(cell(word)),
+        24 => Place::DataCell(stack_cell(word)),
+        25 => Place::ReturnCell(stack_cell(word)),
+        26 => Place::I,
+        27 => Place::Slot,
+        28 => Place::Io,
+        29 => Place::Carry,
+        30 => Place::Wait,
         _ => Place::Stop,
     }
 }
@@ -174,16 +238,63 @@ fn pack(at: Place, value: u32) -> u32
     requires place { IsPlace at }
     requires in_range { value < 2 ^ 18 }
     ensures value { result ≡ packed at value }
-    ensures within { result < 1152 * 2 ^ 18 }
+    ensures within { result < 249 * 2 ^ 24 }
 {
-    code(at) * 262144 + value
+    code(at) * 0x1000000 + value
 }
 
 /// The place and the value of a word.
 #[inline(always)]
 pub(crate) fn unpack(word: u32) -> (Place, u32)
-    requires { word < 1152 * 2 ^ 18 }
     ensures { result ≡ unpacked word }
 {
-    (place(word), word % 262144)
+    (place(word), word % 0x40000)
+}
+
+/// What stands in the free bits of a word.
+#[inline(always)]
+fn free_bits(word: u32) -> u32
+    ensures { result ≡ free_bits_of word }
+{
+    word / 0x40000 % 64
+}
+
+/// Whether the free bits hold a seventh word.
+#[inline(always)]
+fn is_spread(words: &ArrayVec<u32, 6>) -> bool
+    requires { AreKept words.now.items }
+    ensures yes { OnTrue result ((length words.now.items ≡ 6) × (0 < spare words.now.items)) }
+    ensures no { OnFalse result (spare words.now.items ≡ 0) }
+    ensures most { length words.now.items ≤ 6 }
+{
+    words.len() == 6 && free_bits(words[5]) > 0
+}
+
+/// The seventh word, which the free bits of six hold.
+fn seventh(words: &ArrayVec<u32, 6>) -> u32
+    requires full { length words.now.items ≡ 6 }
+    requires least { 2 ^ 32 ≤ spare words.now.items }
+    requires fits { spare words.now.items < 2 ^ 33 }
+    ensures { result ≡ spare words.now.items - 2 ^ 32 }
+{
+    let mut spare: u64 = 0;
+    for k in 0..6 {
+        spare = spare * 64 + free_bits(words[5 - k]) as u64;
+    }
+    (spare - 0x100000000) as u32
+}
+
+/// The six words with a seventh in their free bits, behind a bit that says so.
+#[inline(never)]
+fn spread(words: &ArrayVec<u32, 6>, word: u32) -> ArrayVec<u32, 6>
+    requires { AreWords words.now.items }
+    ensures { result.items ≡ with_spare words.now.items (2 ^ 32 + word) }
+{
+    let mut rest = 0x100000000 + word as u64;
+    let mut spread = ArrayVec::new();
+    for old in words.iter() {
+        spread.push(*old + (rest % 64) as u32 * 0x40000);
+        rest /= 64;
+    }
+    spread
 }

@@ -13,4 +13,4 @@ pairs_of (suc w ∷ ws) = unpacked w ∷ pairs_of ws
 abbrev pub AreAt : ℕ → List ℕ → Type 0
 AreAt code [] = Unit {0}
 AreAt code (zero ∷ ws) = AreAt (code + 1) ws
-AreAt code (suc w ∷ ws) = IsWord w × (w / 2 ^ 18 ≡ code) × AreAt (code + 1) ws
+AreAt code (suc w ∷ ws) = IsWord w × (w / 2 ^ 24 ≡ code) × AreAt (code + 1) ws

@@ -15,11 +15,11 @@ use ga_word::Word18;
 #[inline(always)]
 fn save_data(saved: &mut Saved, overwritten: &Overwritten)
     requires fit { AreStackChanges 2 overwritten.now.items }
-    requires room { length saved.old + length overwritten.now.items ≤ 7 }
+    requires room { length saved.old + length overwritten.now.items ≤ 6 }
     ensures { saved.new ≡ saved.old ++ data_values overwritten.now.items }
 {
     for (place, old) in overwritten.iter() {
-        saved.push(Place::of_data(*place), *old);
+        saved.add(Place::of_data(*place), *old);
     }
 }
 
@@ -27,11 +27,11 @@ fn save_data(saved: &mut Saved, overwritten: &Overwritten)
 #[inline(always)]
 fn save_return(saved: &mut Saved, overwritten: &Overwritten)
     requires fit { AreStackChanges 1 overwritten.now.items }
-    requires room { length saved.old + length overwritten.now.items ≤ 7 }
+    requires room { length saved.old + length overwritten.now.items ≤ 6 }
     ensures { saved.new ≡ saved.old ++ return_values overwritten.now.items }
 {
     for (place, old) in overwritten.iter() {
-        saved.push(Place::of_return(*place), *old);
+        saved.add(Place::of_return(*place), *old);
     }
 }
 
@@ -48,12 +48,12 @@ impl Node {
     #[inline(always)]
     pub(super) fn set_p(&mut self, saved: &mut Saved, p: u32)
         requires in_range { p < 2 ^ 10 }
-        requires room { length saved.old < 7 }
+        requires room { length saved.old < 6 }
         ensures change { record_of self.new ≡ changed (SetP p) (record_of self.old) }
         ensures saves { Saves (SetP p ∷ []) self.old saved.old self.new saved.new }
         ensures count { length saved.new ≡ length saved.old + 1 }
     {
-        saved.push(Place::P, self.p);
+        saved.add(Place::P, self.p);
         self.p = p;
     }
 
@@ -61,12 +61,12 @@ impl Node {
     #[tactic(auto, unfolding(crate::specs::Record::record_of))]
     #[inline(always)]
     pub(super) fn set_a(&mut self, saved: &mut Saved, a: Word18)
-        requires room { length saved.old < 7 }
+        requires room { length saved.old < 6 }
         ensures change { record_of self.new ≡ changed (SetA a) (record_of self.old) }
         ensures saves { Saves (SetA a ∷ []) self.old saved.old self.new saved.new }
         ensures count { length saved.new ≡ length saved.old + 1 }
     {
-        saved.push(Place::A, self.a.get());
+        saved.add(Place::A, self.a.get());
         self.a = a;
     }
 
@@ -75,12 +75,12 @@ impl Node {
     #[inline(always)]
     pub(super) fn set_b(&mut self, saved: &mut Saved, b: u32)
         requires in_range { b < 2 ^ 9 }
-        requires room { length saved.old < 7 }
+        requires room { length saved.old < 6 }
         ensures change { record_of self.new ≡ changed (SetB b) (record_of self.old) }
         ensures saves { Saves (SetB b ∷ []) self.old saved.old self.new saved.new }
         ensures count { length saved.new ≡ length saved.old + 1 }
     {
-        saved.push(Place::B, self.b);
+        saved.add(Place::B, self.b);
         self.b = b;
     }
 
@@ -88,12 +88,12 @@ impl Node {
     #[tactic(auto, unfolding(crate::specs::Record::record_of))]
     #[inline(always)]
     pub(super) fn set_i(&mut self, saved: &mut Saved, i: Word18)
-        requires room { length saved.old < 7 }
+        requires room { length saved.old < 6 }
         ensures change { record_of self.new ≡ changed (SetI i) (record_of self.old) }
         ensures saves { Saves (SetI i ∷ []) self.old saved.old self.new saved.new }
         ensures count { length saved.new ≡ length saved.old + 1 }
     {
-        saved.push(Place::I, self.i.get());
+        saved.add(Place::I, self.i.get());
         self.i = i;
     }
 
@@ -101,12 +101,12 @@ impl Node {
     #[tactic(auto, unfolding(crate::specs::Record::record_of))]
     #[inline(always)]
     pub(super) fn set_carry(&mut self, saved: &mut Saved, carry: bool)
-        requires room { length saved.old < 7 }
+        requires room { length saved.old < 6 }
         ensures change { record_of self.new ≡ changed (SetCarry carry) (record_of self.old) }
         ensures saves { Saves (SetCarry carry ∷ []) self.old saved.old self.new saved.new }
         ensures count { length saved.new ≡ length saved.old + 1 }
     {
-        saved.push(Place::Carry, self.carry as u32);
+        saved.add(Place::Carry, self.carry as u32);
         self.carry = carry;
     }
 
@@ -114,6 +114,19 @@ impl Node {
     #[tactic(auto, unfolding(crate::specs::Record::record_of))]
     #[inline(always)]
     pub(super) fn go_on(&mut self, saved: &mut Saved)
+        requires room { length saved.old < 6 }
+        ensures change { record_of self.new ≡ changed GoOn (record_of self.old) }
+        ensures saves { Saves (GoOn ∷ []) self.old saved.old self.new saved.new }
+        ensures count { length saved.new ≡ length saved.old + 1 }
+    {
+        saved.add(Place::Slot, self.slot as u32);
+        self.slot += (self.slot < 4) as u8;
+    }
+
+    /// The next slot comes, or a fetch after the last, behind what takes six places.
+    #[tactic(auto, unfolding(crate::specs::Record::record_of))]
+    #[inline(always)]
+    pub(super) fn go_on_seventh(&mut self, saved: &mut Saved)
         requires room { length saved.old < 7 }
         ensures change { record_of self.new ≡ changed GoOn (record_of self.old) }
         ensures saves { Saves (GoOn ∷ []) self.old saved.old self.new saved.new }
@@ -127,12 +140,12 @@ impl Node {
     #[tactic(auto, unfolding(crate::specs::Record::record_of))]
     #[inline(always)]
     pub(super) fn skip(&mut self, saved: &mut Saved)
-        requires room { length saved.old < 7 }
+        requires room { length saved.old < 6 }
         ensures change { record_of self.new ≡ changed Skip (record_of self.old) }
         ensures saves { Saves (Skip ∷ []) self.old saved.old self.new saved.new }
         ensures count { length saved.new ≡ length saved.old + 1 }
     {
-        saved.push(Place::Slot, self.slot as u32);
+        saved.add(Place::Slot, self.slot as u32);
         self.slot = 4;
     }
 
@@ -141,13 +154,13 @@ impl Node {
     #[inline(always)]
     pub(super) fn leave(&mut self, saved: &mut Saved, p: u32)
         requires in_range { p < 2 ^ 10 }
-        requires room { length saved.old + 2 ≤ 7 }
+        requires room { length saved.old + 2 ≤ 6 }
         ensures change { record_of self.new ≡ after_changes (SetP p ∷ Skip ∷ []) (record_of self.old) }
         ensures saves { Saves (SetP p ∷ Skip ∷ []) self.old saved.old self.new saved.new }
         ensures count { length saved.new ≡ length saved.old + 2 }
     {
-        saved.push(Place::P, self.p);
-        saved.push(Place::Slot, self.slot as u32);
+        saved.add(Place::P, self.p);
+        saved.add(Place::Slot, self.slot as u32);
         self.p = p;
         self.slot = 4;
     }
@@ -157,13 +170,13 @@ impl Node {
     #[inline(always)]
     pub(super) fn begin(&mut self, saved: &mut Saved, i: Word18, p: u32)
         requires in_range { p < 2 ^ 10 }
-        requires room { length saved.old + 3 ≤ 7 }
+        requires room { length saved.old + 3 ≤ 6 }
         ensures change { record_of self.new ≡ after_changes (SetI i ∷ SetP p ∷ StartAgain ∷ []) (record_of self.old) }
         ensures saves { Saves (SetI i ∷ SetP p ∷ StartAgain ∷ []) self.old saved.old self.new saved.new }
     {
-        saved.push(Place::I, self.i.get());
-        saved.push(Place::P, self.p);
-        saved.push(Place::Slot, self.slot as u32);
+        saved.add(Place::I, self.i.get());
+        saved.add(Place::P, self.p);
+        saved.add(Place::Slot, self.slot as u32);
         self.i = i;
         self.p = p;
         self.slot = 0;
@@ -173,12 +186,12 @@ impl Node {
     #[tactic(auto, unfolding(crate::specs::Record::record_of))]
     #[inline(always)]
     pub(super) fn start_again(&mut self, saved: &mut Saved)
-        requires room { length saved.old < 7 }
+        requires room { length saved.old < 6 }
         ensures change { record_of self.new ≡ changed StartAgain (record_of self.old) }
         ensures saves { Saves (StartAgain ∷ []) self.old saved.old self.new saved.new }
         ensures count { length saved.new ≡ length saved.old + 1 }
     {
-        saved.push(Place::Slot, self.slot as u32);
+        saved.add(Place::Slot, self.slot as u32);
         self.slot = 0;
     }
 
@@ -186,7 +199,7 @@ impl Node {
     #[tactic(auto, unfolding(crate::specs::Record::record_of))]
     #[inline(always)]
     pub(super) fn push_data(&mut self, saved: &mut Saved, word: Word18)
-        requires room { length saved.old + 4 ≤ 7 }
+        requires room { length saved.old + 4 ≤ 6 }
         ensures change { record_of self.new ≡ changed (PushData word) (record_of self.old) }
         ensures saves { Saves (PushData word ∷ []) self.old saved.old self.new saved.new }
         ensures count { length saved.new ≡ length saved.old + 4 }
@@ -198,7 +211,7 @@ impl Node {
     #[tactic(auto, unfolding(crate::specs::Record::record_of))]
     #[inline(always)]
     pub(super) fn pop_data(&mut self, saved: &mut Saved)
-        requires room { length saved.old + 3 ≤ 7 }
+        requires room { length saved.old + 3 ≤ 6 }
         ensures change { record_of self.new ≡ changed PopData (record_of self.old) }
         ensures saves { Saves (PopData ∷ []) self.old saved.old self.new saved.new }
         ensures count { length saved.new ≡ length saved.old + 3 }
@@ -210,7 +223,7 @@ impl Node {
     #[tactic(auto, unfolding(crate::specs::Record::record_of))]
     #[inline(always)]
     pub(super) fn set_top(&mut self, saved: &mut Saved, word: Word18)
-        requires room { length saved.old < 7 }
+        requires room { length saved.old < 6 }
         ensures change { record_of self.new ≡ changed (SetTop word) (record_of self.old) }
         ensures saves { Saves (SetTop word ∷ []) self.old saved.old self.new saved.new }
         ensures count { length saved.new ≡ length saved.old + 1 }
@@ -222,7 +235,7 @@ impl Node {
     #[tactic(auto, unfolding(crate::specs::Record::record_of))]
     #[inline(always)]
     pub(super) fn pop_to(&mut self, saved: &mut Saved, word: Word18)
-        requires room { length saved.old + 3 ≤ 7 }
+        requires room { length saved.old + 3 ≤ 6 }
         ensures change { record_of self.new ≡ changed (PopTo word) (record_of self.old) }
         ensures saves { Saves (PopTo word ∷ []) self.old saved.old self.new saved.new }
         ensures count { length saved.new ≡ length saved.old + 3 }
@@ -236,7 +249,7 @@ impl Node {
     #[tactic(auto, unfolding(crate::specs::Record::record_of))]
     #[inline(always)]
     pub(super) fn push_return(&mut self, saved: &mut Saved, word: Word18)
-        requires room { length saved.old + 3 ≤ 7 }
+        requires room { length saved.old + 3 ≤ 6 }
         ensures change { record_of self.new ≡ changed (PushReturn word) (record_of self.old) }
         ensures saves { Saves (PushReturn word ∷ []) self.old saved.old self.new saved.new }
         ensures count { length saved.new ≡ length saved.old + 3 }
@@ -248,7 +261,7 @@ impl Node {
     #[tactic(auto, unfolding(crate::specs::Record::record_of))]
     #[inline(always)]
     pub(super) fn pop_return(&mut self, saved: &mut Saved)
-        requires room { length saved.old + 2 ≤ 7 }
+        requires room { length saved.old + 2 ≤ 6 }
         ensures change { record_of self.new ≡ changed PopReturn (record_of self.old) }
         ensures saves { Saves (PopReturn ∷ []) self.old saved.old self.new saved.new }
         ensures count { length saved.new ≡ length saved.old + 2 }
@@ -260,7 +273,7 @@ impl Node {
     #[tactic(auto, unfolding(crate::specs::Record::record_of))]
     #[inline(always)]
     pub(super) fn set_top_return(&mut self, saved: &mut Saved, word: Word18)
-        requires room { length saved.old < 7 }
+        requires room { length saved.old < 6 }
         ensures change { record_of self.new ≡ changed (SetTopReturn word) (record_of self.old) }
         ensures saves { Saves (SetTopReturn word ∷ []) self.old saved.old self.new saved.new }
         ensures count { length saved.new ≡ length saved.old + 1 }
@@ -273,12 +286,12 @@ impl Node {
     #[inline(always)]
     pub(super) fn post(&mut self, saved: &mut Saved, wait: Wait)
         requires running { IsRunning (record_of self.old) }
-        requires room { length saved.old < 7 }
+        requires room { length saved.old < 6 }
         ensures change { record_of self.new ≡ changed (SetWait wait) (record_of self.old) }
         ensures saves { Saves (SetWait wait ∷ []) self.old saved.old self.new saved.new }
         ensures count { length saved.new ≡ length saved.old + 1 }
     {
-        saved.push(Place::Wait, 0);
+        saved.add(Place::Wait, 0);
         self.wait = wait;
     }
 
@@ -288,12 +301,12 @@ impl Node {
     pub(super) fn halt(&mut self, saved: &mut Saved, code: u8)
         requires running { IsRunning (record_of self.old) }
         requires in_range { code ≤ 3 }
-        requires room { length saved.old < 7 }
+        requires room { length saved.old < 6 }
         ensures change { record_of self.new ≡ changed (SetStop code) (record_of self.old) }
         ensures saves { Saves (SetStop code ∷ []) self.old saved.old self.new saved.new }
         ensures count { length saved.new ≡ length saved.old + 1 }
     {
-        saved.push(Place::Stop, 0);
+        saved.add(Place::Stop, 0);
         self.stop = code;
     }
 
@@ -301,13 +314,13 @@ impl Node {
     #[tactic(auto, unfolding(crate::specs::Record::record_of))]
     #[inline(always)]
     pub(super) fn end_wait(&mut self, saved: &mut Saved)
-        requires room { length saved.old < 7 }
+        requires room { length saved.old < 6 }
         ensures change { record_of self.new ≡ changed (SetWait Wait.Nothing) (record_of self.old) }
         ensures saves { Saves (SetWait Wait.Nothing ∷ []) self.old saved.old self.new saved.new }
         ensures count { length saved.new ≡ length saved.old + 1 }
         ensures apart { IsApart self.old }
     {
-        saved.push(Place::Wait, self.wait.code());
+        saved.add(Place::Wait, self.wait.code());
         self.wait = Wait::Nothing;
     }
 
@@ -316,12 +329,12 @@ impl Node {
     #[inline(always)]
     pub(super) fn set_ram(&mut self, saved: &mut Saved, k: u8, word: Word18)
         requires cell { k < 64 }
-        requires room { length saved.old < 7 }
+        requires room { length saved.old < 6 }
         ensures change { record_of self.new ≡ changed (SetRam k word) (record_of self.old) }
         ensures saves { Saves (SetRam k word ∷ []) self.old saved.old self.new saved.new }
         ensures count { length saved.new ≡ length saved.old + 1 }
     {
-        saved.push(Place::Ram(k), self.ram[k as usize].get());
+        saved.add(Place::Ram(k), self.ram[k as usize].get());
         self.ram[k as usize] = word;
     }
 
@@ -329,12 +342,12 @@ impl Node {
     #[tactic(auto, unfolding(crate::specs::Record::record_of))]
     #[inline(always)]
     pub(super) fn set_io(&mut self, saved: &mut Saved, word: Word18)
-        requires room { length saved.old < 7 }
+        requires room { length saved.old < 6 }
         ensures change { record_of self.new ≡ changed (SetIo word) (record_of self.old) }
         ensures saves { Saves (SetIo word ∷ []) self.old saved.old self.new saved.new }
         ensures count { length saved.new ≡ length saved.old + 1 }
     {
-        saved.push(Place::Io, self.io.get());
+        saved.add(Place::Io, self.io.get());
         self.io = word;
     }
 }

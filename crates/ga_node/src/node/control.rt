@@ -16,7 +16,7 @@ impl Node {
     #[inline(always)]
     fn jump(&mut self, saved: &mut Saved)
         requires slot { (record_of self.old).slot < 3 }
-        requires room { length saved.old + 2 ≤ 7 }
+        requires room { length saved.old + 2 ≤ 6 }
         ensures change { record_of self.new ≡ after_changes (jumps (record_of self.old)) (record_of self.old) }
         ensures saves { Saves (jumps (record_of self.old)) self.old saved.old self.new saved.new }
     {

@@ -7,7 +7,7 @@ use crate::saved::Saved;
 use crate::wait::Wait;
 
 impl Node {
-    ghost use Rattle.std.specs.Prelude.{◌≡◌, ◌≤◌};
+    ghost use Rattle.std.specs.Prelude.{◌≡◌, ◌≤◌, take};
     ghost use Rattle.ga_node.specs.State.{with_value, restored, with_aside, IsInRange, AreFit, IsApart, IsCleared};
 
     /// Writes one old value back, of a node whose wait and stop are set aside.
@@ -44,6 +44,24 @@ impl Node {
         aside
     }
 
+    /// Writes the first six of the values that an event overwrote back, the last of them first, where the wait and the stop
+    /// are set aside.
+    #[inline(always)]
+    fn write_six_back(&mut self, aside: &mut Aside, saved: &Saved)
+        requires fit { AreFit saved.now }
+        requires cleared { IsCleared self.old }
+        requires in_range { aside.old.stop ≤ 3 }
+        ensures back { with_aside self.new aside.new ≡ restored (with_aside self.old aside.old) (take 6 saved.now) }
+        ensures cleared { IsCleared self.new }
+        ensures in_range { aside.new.stop ≤ 3 }
+    {
+        let count = saved.six();
+        for k in 0..count {
+            let (place, old) = saved.six_at(count - 1 - k);
+            self.put_back(aside, place, old);
+        }
+    }
+
     /// Writes the values that an event overwrote back, the last of them first, where the wait and the stop are set aside.
     #[inline(always)]
     pub fn write_back(&mut self, aside: &mut Aside, saved: &Saved)
@@ -54,11 +72,11 @@ impl Node {
         ensures cleared { IsCleared self.new }
         ensures in_range { aside.new.stop ≤ 3 }
     {
-        let count = saved.len();
-        for k in 0..count {
-            let (place, old) = saved.at(count - 1 - k);
+        if saved.is_full() {
+            let (place, old) = saved.at(6);
             self.put_back(aside, place, old);
         }
+        self.write_six_back(aside, saved);
     }
 
     /// Gives the node the wait and the stop that were set aside.
@@ -72,14 +90,29 @@ impl Node {
         self.stop = aside.stop;
     }
 
-    /// Writes the values that an event overwrote back, the last of them first.
-    pub fn restore(&mut self, saved: &Saved)
+    /// Writes seven values back.
+    #[inline(never)]
+    fn restore_seven(&mut self, saved: &Saved)
         requires fit { AreFit saved.now }
         requires apart { IsApart (restored self.old saved.now) }
         ensures { self.new ≡ restored self.old saved.now }
     {
         let mut aside = self.set_aside();
         self.write_back(&mut aside, saved);
+        self.take_back(aside);
+    }
+
+    /// Writes the values that an event overwrote back, the last of them first.
+    pub fn restore(&mut self, saved: &Saved)
+        requires fit { AreFit saved.now }
+        requires apart { IsApart (restored self.old saved.now) }
+        ensures { self.new ≡ restored self.old saved.now }
+    {
+        if saved.is_full() {
+            return self.restore_seven(saved);
+        }
+        let mut aside = self.set_aside();
+        self.write_six_back(&mut aside, saved);
         self.take_back(aside);
     }
 }

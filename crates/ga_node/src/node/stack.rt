@@ -37,7 +37,7 @@ impl Node {
         let top = self.top_return();
         self.push_data(saved, top);
         self.pop_return(saved);
-        self.go_on(saved);
+        self.go_on_seventh(saved);
     }
 
     /// `over`: S is pushed on the data stack.
@@ -76,7 +76,7 @@ impl Node {
         let top = self.top();
         self.push_return(saved, top);
         self.pop_data(saved);
-        self.go_on(saved);
+        self.go_on_seventh(saved);
     }
 
     /// `b!`, b store: B := the low nine bits of T, which is popped.

@@ -13,7 +13,7 @@ unfolding restored
 loop-k-init c =
     let long = c.self.invariant.0 in
     record {
-      back = sym (ap (λ xs. restored (with_aside c.args.node.now c.args.aside.now) (pairs_of xs)) (drop_all 1152 c.self.inside.words (omega (arith, long))));
+      back = sym (ap (λ xs. restored (with_aside c.args.node.now c.args.aside.now) (pairs_of xs)) (drop_all 249 c.self.inside.words (omega (arith, long))));
       cleared = c.requires.cleared;
       in_range = c.requires.in_range;
     }
@@ -22,25 +22,20 @@ loop-k-init c =
 one_more : (word : ℕ) → 0 < word → word ≡ suc (word - 1)
 one_more word l = omega (arith, l)
 
-pub unpack-place-requires : goal.unpack-place-requires
-unpack-place-requires c =
-    let long = c.self.invariant.0 in
-    (word_of 0 (1151 - c.loop-k.k) (get_or c.self.inside.words (1151 - c.loop-k.k) 0 - 1) c.self.inside.words c.self.invariant.1 (omega (arith, long)) (one_more (get_or c.self.inside.words (1151 - c.loop-k.k) 0) c.if-word-gt0.true)).0
-
 pub put_back-requires-clause-fit : goal.put_back-requires-clause-fit
 put_back-requires-clause-fit c =
     let long = c.self.invariant.0 in
     subst (λ (v : Place × ℕ). IsInRange v.0 v.1) (sym c.unpack-place.ensures)
-    (fit_of c.self.inside.words (1151 - c.loop-k.k) (get_or c.self.inside.words (1151 - c.loop-k.k) 0 - 1) (subst AreFit (sym c.self.view_is) c.requires.fit) (omega (arith, long)) (one_more (get_or c.self.inside.words (1151 - c.loop-k.k) 0) c.if-word-gt0.true))
+    (fit_of c.self.inside.words (248 - c.loop-k.k) (get_or c.self.inside.words (248 - c.loop-k.k) 0 - 1) (subst AreFit (sym c.self.view_is) c.requires.fit) (omega (arith, long)) (one_more (get_or c.self.inside.words (248 - c.loop-k.k) 0) c.if-word-gt0.true))
 
 pub loop-k-preserved : goal.loop-k-preserved
 loop-k-preserved c =
     let ws = c.self.inside.words in
     let n : NodeState = with_aside c.args.node.now c.args.aside.now in
     let long = c.self.invariant.0 in
-    let i : ℕ = 1151 - c.loop-k.k in
-    let here : 1152 - (c.loop-k.k + 1) ≡ i = omega arith in
-    let after : 1152 - c.loop-k.k ≡ i + 1 = omega arith in
+    let i : ℕ = 248 - c.loop-k.k in
+    let here : 249 - (c.loop-k.k + 1) ≡ i = omega arith in
+    let after : 249 - c.loop-k.k ≡ i + 1 = omega arith in
     elim c.if-word-gt0.branch [
       | then-word-gt0 w ↦ rw (here, w.node-is, w.aside-is) (record {
         back = w.put_back.ensures.back

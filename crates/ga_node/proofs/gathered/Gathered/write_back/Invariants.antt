@@ -5,7 +5,7 @@ use Rattle.ga_node.proofs.gathered.Gathered.write_back.Given as goal
 
 abbrev pub invariant-loop-k : goal.invariant-loop-k
 invariant-loop-k l = record {
-  back : with_aside l.node l.aside ≡ restored (with_aside l.fn.node l.fn.aside) (pairs_of (drop (1152 - l.k) l.words));
+  back : with_aside l.node l.aside ≡ restored (with_aside l.fn.node l.fn.aside) (pairs_of (drop (249 - l.k) l.words));
   cleared : IsCleared l.node;
   in_range : l.aside.stop ≤ 3;
 }

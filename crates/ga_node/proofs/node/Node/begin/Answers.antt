@@ -6,5 +6,5 @@ use Rattle.ga_node.proofs.node.Node.begin.Goals as goal
 
 pub returns-clause-saves : goal.returns-clause-saves
 returns-clause-saves c = saves_from c.self.view_is
-    (saves_begin _ c.args.i c.args.p _ _ _ _ (c.push.ensures ∙ ap (λ v. c.args.saved.now ++ (I, v) ∷ []) c.get.ensures.value) c.push-2.ensures c.push-3.ensures
+    (saves_begin _ c.args.i c.args.p _ _ _ _ (c.add.ensures ∙ ap (λ v. c.args.saved.now ++ (I, v) ∷ []) c.get.ensures.value) c.add-2.ensures c.add-3.ensures
     (subst (λ v. IsInRange I v) c.get.ensures.value c.get.ensures.in_range) c.self.invariant.1 c.self.invariant.2)

@@ -6,5 +6,5 @@ use Rattle.ga_node.proofs.node.Node.run_pop.Goals as goal
 pub returns : goal.returns
 unfolding restored
 returns c =
-    made c.requires (saves_then (saves_then c.push_data.ensures.saves c.pop_return.ensures.saves (λ n m. refl)) c.go_on.ensures.saves (λ n m. refl)) refl (search rules)
-    (rw (c.go_on.ensures.change, c.pop_return.ensures.change, c.push_data.ensures.change, c.top_return-top.ensures) refl)
+    made c.requires (saves_then (saves_then c.push_data.ensures.saves c.pop_return.ensures.saves (λ n m. refl)) c.go_on_seventh.ensures.saves (λ n m. refl)) refl (search rules)
+    (rw (c.go_on_seventh.ensures.change, c.pop_return.ensures.change, c.push_data.ensures.change, c.top_return-top.ensures) refl)

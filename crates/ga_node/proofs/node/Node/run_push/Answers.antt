@@ -6,5 +6,5 @@ use Rattle.ga_node.proofs.node.Node.run_push.Goals as goal
 pub returns : goal.returns
 unfolding restored
 returns c =
-    made c.requires (saves_then (saves_then c.push_return.ensures.saves c.pop_data.ensures.saves (λ n m. refl)) c.go_on.ensures.saves (λ n m. refl)) refl (search rules)
-    (rw (c.go_on.ensures.change, c.pop_data.ensures.change, c.push_return.ensures.change, c.top-top.ensures) refl)
+    made c.requires (saves_then (saves_then c.push_return.ensures.saves c.pop_data.ensures.saves (λ n m. refl)) c.go_on_seventh.ensures.saves (λ n m. refl)) refl (search rules)
+    (rw (c.go_on_seventh.ensures.change, c.pop_data.ensures.change, c.push_return.ensures.change, c.top-top.ensures) refl)

@@ -4,11 +4,11 @@ use Rattle.ga_node.specs.State.{IsPlace}
 use Rattle.ga_node.proofs.Saving.{word_in, data_place_in}
 use Rattle.ga_node.proofs.node.changes.save_data.Goals as goal
 
-pub push-requires-clause-place : goal.push-requires-clause-place
-push-requires-clause-place c =
+pub add-requires-clause-place : goal.add-requires-clause-place
+add-requires-clause-place c =
     subst (λ z. IsPlace z) (sym c.of_data.ensures)
     (data_place_in 2 c.deref-place-items.result.now c.loop-place.place-index _ (subst (λ z. AreStackChanges 2 z) (sym c.deref-place-items.ensures.0) c.requires.fit) c.loop-place-test.true)
 
-pub push-requires-clause-in_range : goal.push-requires-clause-in_range
-push-requires-clause-in_range c =
+pub add-requires-clause-in_range : goal.add-requires-clause-in_range
+add-requires-clause-in_range c =
     word_in 2 c.deref-place-items.result.now c.loop-place.place-index _ (subst (λ z. AreStackChanges 2 z) (sym c.deref-place-items.ensures.0) c.requires.fit) c.loop-place-test.true
