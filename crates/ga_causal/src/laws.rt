@@ -17,6 +17,7 @@ ghost use Rattle.ga_causal.specs.Words.{account_read};
 
 /// Two events can be swapped that touch no common node, and of which neither looks at a node that the other touches: in either
 /// order they lead to the same chip, and each looks alike and the same is told of it, or neither order can be.
+#[tactic(auto, using(crate::proofs::Swaps::replay_swapped, crate::proofs::Swaps::run_swapped))]
 pub fn swap()
     ensures chip { (chip : List NodeRecord) (e f : Event) → AreApart (cause_of chip e) (cause_of chip f) →
         replay chip (e ∷ f ∷ []) ≡ replay chip (f ∷ e ∷ []) }
@@ -39,6 +40,7 @@ pub fn rest_replays()
 
 /// The flags of `dependents` are the places of the events that depend on the one at the place `i`. There must be one: past the end
 /// nothing is flagged, while by definition each place depends on itself.
+#[tactic(auto, using(crate::proofs::Exact::dependents_exact))]
 pub fn marks_exact()
     ensures { (events : List Cause) (i j : ℕ) → i < length events →
         (IsTrue (slice_index_or (dependents events i) j false) ↔ DependsOn events i j) }
@@ -48,6 +50,7 @@ pub fn marks_exact()
 /// numbers of its steps, has no event that depends on it. A look keeps its own numbers also where what it saw is gone, so this
 /// holds of lists without looks, and of any list where each look also keeps the number of the next step of each node at which
 /// it looks.
+#[tactic(auto, using(crate::proofs::Largest::largest, crate::proofs::Largest::largest_seen))]
 pub fn largest_rest()
     ensures steps { (events : List Cause) → NoneLooks events →
         (i : ℕ) (dropped : List Bool) → IsTrue (slice_index_or dropped i false) →
@@ -71,6 +74,7 @@ pub fn steps()
 {}
 
 /// Rollbacks leave the same list in any order. Of two, the second is refused exactly where its step depends on the first.
+#[tactic(auto, using(crate::proofs::Rollbacks::rewound_twice, crate::proofs::Rollbacks::rewound_any_order, crate::proofs::Refusals::refused_exactly))]
 pub fn two_rollbacks()
     ensures either { (events : List Cause) (n k m j : ℕ) → rewound_list (rewound_list events n k) m j ≡ rewound_list (rewound_list events m j) n k }
     ensures refused { (events : List Cause) (n k m j i q : ℕ) → place_of events n k ≡ Some i → place_of events m j ≡ Some q →
@@ -80,6 +84,7 @@ pub fn two_rollbacks()
 {}
 
 /// Equivalent lists, which differ by swaps of independent neighbours, lead to the same chip.
+#[tactic(auto, using(crate::proofs::Swaps::replay_equivalent))]
 pub fn equivalent()
     ensures { (chip : List NodeRecord) (events others : List Event) → AreEquivalent chip events others →
         replay chip events ≡ replay chip others }
@@ -87,6 +92,7 @@ pub fn equivalent()
 
 /// Equivalent lists run alike: to the same chip, with the same numbered events, of each of which the same is told, and with the
 /// same account of each node. The first list must run: what can't run has no chip and no accounts to compare.
+#[tactic(auto, using(crate::proofs::Consistent::kept_alike))]
 pub fn equivalent_keeps()
     ensures { (chip last : List NodeRecord) (events others : List Event) (steps : List (Cause × Told)) →
         run chip events ≡ Some (last, steps) → AreEquivalent chip events others →
@@ -98,6 +104,7 @@ pub fn equivalent_keeps()
 /// independent neighbours exactly where each node has the same account after both, and exactly where both have the same numbered
 /// events. Both must run, since nothing is swapped in a list that can't be made. Without looks the numbers of the steps are
 /// enough; a look also wants how far each neighbour was when it looked, which these numbers don't say.
+#[tactic(auto, using(crate::proofs::Consistent::same_accounts, crate::proofs::Consistent::same_events, crate::proofs::Blind::same_steps))]
 pub fn causal_consistency()
     ensures accounts { (chip last now : List NodeRecord) (events others : List Event) (steps made : List (Cause × Told)) →
         run chip events ≡ Some (last, steps) → run chip others ≡ Some (now, made) →
@@ -119,6 +126,7 @@ pub fn causal_consistency()
 /// do. So lists that run from one chip leave the same chip where each node has the same account with the same words. They need not
 /// be equivalent: a look can read the same word before and after a step of a neighbour. Lists that are equivalent have the same.
 /// Both lists must run, since what can't be made leaves no chip.
+#[tactic(auto, using(crate::proofs::Words::same_node, crate::proofs::Words::same_chip, crate::proofs::Received::same_received))]
 pub fn accounts_determine()
     ensures node { (chip other last now : List NodeRecord) (events others : List Event) (n : ℕ) →
         replay chip events ≡ Some last → replay other others ≡ Some now → length chip ≡ length other →
@@ -133,6 +141,7 @@ pub fn accounts_determine()
 {}
 
 /// Rollbacks of equivalent lists, to the same steps, leave equivalent lists. Both must run, so that there are steps to roll back.
+#[tactic(auto, using(crate::proofs::Rolled::rolled_back))]
 pub fn equivalent_rollbacks()
     ensures { (chip last now : List NodeRecord) (events others : List Event) (steps made : List (Cause × Told)) →
         run chip events ≡ Some (last, steps) → run chip others ≡ Some (now, made) → AreEquivalent chip events others →
@@ -158,6 +167,7 @@ pub fn account_kept()
 /// What a rollback takes can be brought to the end of the list by swaps of independent neighbours, where no look is among it: such
 /// a rollback is undos, after swaps. A look that is taken can stand before a step that is kept, of a node at which it looked, and
 /// isn't swapped with it.
+#[tactic(auto, using(crate::proofs::Taken::taken_last))]
 pub fn taken_last()
     ensures { (chip last : List NodeRecord) (events : List Event) (steps : List (Cause × Told)) (i : ℕ) →
         run chip events ≡ Some (last, steps) →
@@ -168,6 +178,7 @@ pub fn taken_last()
 
 /// A chain in one of two equivalent lists is one in the other too: the same steps, each of which depends directly on the one before
 /// it by the same rule. Both lists must run, so that they have chains.
+#[tactic(auto, using(crate::proofs::Moved::equivalent_chains))]
 pub fn equivalent_chains()
     ensures { (chip last now : List NodeRecord) (events others : List Event) (steps made : List (Cause × Told)) (links : List Link) →
         run chip events ≡ Some (last, steps) → run chip others ≡ Some (now, made) → AreEquivalent chip events others →
@@ -177,6 +188,7 @@ pub fn equivalent_chains()
 {}
 
 /// There is one chain from a place to another, it is a chain, and `chain_of` tells whether there is one, and which.
+#[tactic(auto, using(crate::proofs::ChainLaws::chain_one, crate::proofs::ChainLaws::chain_chain, crate::proofs::ChainOf::chain_found, crate::proofs::ChainOf::chain_is))]
 pub fn chains()
     ensures one { (events : List Cause) (cause place : ℕ) (links others : List Link) →
         IsChainTo events cause place links → IsChainTo events cause place others → links ≡ others }

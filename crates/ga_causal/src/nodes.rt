@@ -129,6 +129,7 @@ impl Nodes {
     }
 
     // Adds the neighbours of a node.
+    #[tactic(auto, using(crate::proofs::Flags::four_sides, crate::proofs::Looks::any_neighbours))]
     fn add_beside(&mut self, node: NodeId)
         ensures { (n : ℕ) → is_marked self.new n ≡ (is_marked self.old n || list_any (λ m. m == n) (neighbours node.number)) }
     {

@@ -14,18 +14,21 @@ ghost use Rattle.ga_event.specs.Agree.{Agree, Alike};
 ghost use Rattle.ga_grid.specs.Steady.{AreSteady};
 
 /// An event changes the nodes that it touches alone.
+#[tactic(auto, using(crate::proofs::Locality::apply_keeps))]
 pub fn changes_touched_alone()
     ensures { (chip : List NodeRecord) (event : Event) →
         IfSome (apply chip event) (λ done. Agree (touches event) chip done.0) }
 {}
 
 /// The event that a step of a node makes can be made.
+#[tactic(auto, using(crate::proofs::Nexts::next_can))]
 pub fn next_can_be_made()
     ensures { (chip : List NodeRecord) (node : NodeId) (event : Event) → next chip node ≡ Ok event → refusal_of chip event ≡ None }
 {}
 
 /// Whether an event can be, whether it looks, what is told of it and what it does depends on the nodes that it sees alone: on
 /// chips that agree there it is refused alike, or tells the same and leaves chips that agree as much as before.
+#[tactic(auto, using(crate::proofs::Locality::refusal_alike, crate::proofs::Locality::apply_alike, crate::proofs::Locality::cause_alike))]
 pub fn depends_on_seen_alone()
     ensures refused { (marks : ℕ → Bool) (chip other : List NodeRecord) (event : Event) →
         Agree marks chip other → meets marks (cause_of chip event) ≡ false →
@@ -39,6 +42,7 @@ pub fn depends_on_seen_alone()
 {}
 
 /// The effect of an event says whether it looked.
+#[tactic(auto, using(crate::proofs::Applied::applied_cause))]
 pub fn effect_gives_cause()
     ensures { (old new : List NodeState) (event : Event) (effect : Effect) →
         IsApplied old event effect new → cause_of (records_of old) event ≡ cause_with event effect }
@@ -57,6 +61,7 @@ pub fn taken_back()
 
 /// On a chip of which each node's wait fits its slot and its stop, every event leaves such a chip, and so does every list of
 /// events.
+#[tactic(auto, using(crate::proofs::Steadiness::apply_steady, crate::proofs::Steadiness::replay_steady))]
 pub fn stays_steady()
     ensures event { (chip : List NodeRecord) (event : Event) → AreSteady chip →
         IfSome (apply chip event) (λ done. AreSteady done.0) }

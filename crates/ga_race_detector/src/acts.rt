@@ -235,6 +235,7 @@ impl Behind {
     }
 
     // Goes back by the last step of a node, and says on which sides it changed what the node shows.
+    #[tactic(auto, using(crate::proofs::Acting::stood_before))]
     fn back(&mut self, lab: &Lab, node: NodeId) -> Sides
         requires steps { 0 < slice_index self.old.steps node.number }
         requires valid { IsWaitCode (slice_index self.old.waits node.number) }
@@ -319,6 +320,7 @@ fn plain(cause: &Cause) -> EventAccess
 }
 
 // The events, with no sides yet.
+#[tactic(auto, using(crate::proofs::Acting::plain_more, std::proofs::lemmas::List::take_all))]
 fn plain_acts(alloc: Global, causes: &[Cause]) -> Result<Vec<EventAccess>, LabFault>
     ensures causes { IfOk result (λ acts. causes_in (actions_in acts.items) ≡ causes.now) }
     ensures err { IfErr result (λ why. why ≡ LabFault.Memory) }

@@ -207,6 +207,7 @@ impl LeftAround {
     }
 
     /// Where this step is taken back.
+    #[tactic(auto, using(crate::proofs::Lefts::around_at, crate::proofs::Lefts::by_sides))]
     pub(crate) fn at(&self, step: u32) -> Around
         requires { 0 < step }
         ensures { (causes : List Cause) (from node : ℕ) → AreAround causes from node self.now → step ≤ touching from causes →

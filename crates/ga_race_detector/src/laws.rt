@@ -18,6 +18,7 @@ ghost use Rattle.ga_race_detector.specs.Races.{races_asked, has_looks, first_rea
 /// Where what one session keeps has no race, and no node of its chip has an event, every other session from that load, whatever was
 /// stepped, undone or rewound in it, stands on the way there: its kept events can be gone on with to those of the first in another
 /// order. Once no node has an event there either, its chip is the same: the nodes that are stopped are stopped in both.
+#[tactic(auto, using(crate::proofs::Sessions::on_the_way, crate::proofs::Sessions::same_end))]
 pub fn any_session()
     ensures way { (load : List NodeRecord) (limit bound : ℕ) (calls others : List MachineCall) →
         let s = called_all (first load limit) calls in
@@ -49,6 +50,7 @@ pub fn none_offered()
 /// Where of a session no step is told (`races_asked`), nothing that is kept or comes next looks, and no node has an event, every other
 /// session from that load stands on the way there, whatever was stepped, undone or rewound in it; and once no node has an event there
 /// either, its chip is the same. This is what `find_races` leaves to say of a run that has ended.
+#[tactic(auto, using(crate::proofs::Untold::every_way, crate::proofs::Untold::every_end))]
 pub fn every_order()
     ensures way { (load : List NodeRecord) (limit bound : ℕ) (calls others : List MachineCall) →
         let s = called_all (first load limit) calls in
@@ -63,6 +65,7 @@ pub fn every_order()
 {}
 
 /// The same where a node may have an event: every other session from that load in which no node made more steps stands on the way.
+#[tactic(auto, using(crate::proofs::Untold::no_other))]
 pub fn no_other_order()
     ensures { (load : List NodeRecord) (limit bound : ℕ) (calls others : List MachineCall) →
         let s = called_all (first load limit) calls in
@@ -74,6 +77,7 @@ pub fn no_other_order()
 
 /// Each step that is told could have come out as it is told, with looks kept or not: where it is taken back, a step of the other
 /// neighbour is the pass to the node, of the other word.
+#[tactic(auto, using(crate::proofs::Untold::all_made))]
 pub fn other_word()
     ensures { (s : State) (only : Option NodeId) → All (IsOther s) (races_asked s only) }
 {}

@@ -68,6 +68,7 @@ struct Besides {
 }
 
 // The same of the word that this neighbour would give, where that isn't the writer.
+#[tactic(auto, using(std::proofs::lemmas::Result::on_ok_weaker, crate::proofs::Racing::added))]
 fn add_from(
     list: &mut Vec<Race>,
     taken: &Taken,

@@ -62,6 +62,7 @@ fn shows(wait: &Wait, side: Side) -> Beside
 }
 
 // What a node showed on a side when it had made so many steps, of which the next wrote over its wait, if that is kept.
+#[tactic(auto, using(crate::proofs::Silent::steps_take))]
 fn shown_before(lab: &Lab, node: NodeId, steps: u32, side: Side) -> Beside
     ensures { (place : ℕ) → steps_of node.number (take place lab.now.kept) ≡ steps →
         result ≡ shows (record_at (chip_of (earlier lab.now place)) node.number).wait side }

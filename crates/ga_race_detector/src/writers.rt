@@ -108,6 +108,7 @@ fn read_then(lab: &Lab, node: NodeId, step: u32, side: Side) -> bool
 }
 
 // The same, by what is kept of the step.
+#[tactic(auto, using(crate::proofs::Silent::waited, ga_lab::proofs::Called::runs_of))]
 fn reads_before(lab: &Lab, node: NodeId, step: u32, side: Side) -> bool
     requires { stands lab.now node.number step ≡ true }
     ensures { result ≡ reads_from (record_at (chip_of (rewound lab.now node.number step)) node.number).wait side }
@@ -121,6 +122,7 @@ fn reads_before(lab: &Lab, node: NodeId, step: u32, side: Side) -> bool
 
 /// Whether a word may be offered to the node over the side, were its step taken back, which none is where this is false: the neighbour
 /// ever waited to write there, and the node waited for a word there right before the step.
+#[tactic(auto, using(crate::proofs::Silent::unread))]
 pub(crate) fn may_come(lab: &Lab, writers: &Writers, node: NodeId, step: u32, side: Side) -> bool
     requires silent { AreSilent lab.now node.number writers.now }
     requires stands { stands lab.now node.number step ≡ true }

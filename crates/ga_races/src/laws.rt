@@ -37,6 +37,7 @@ pub fn diamond()
 /// Where a list has no race, whatever else can be made from the same chip, in which no node makes more steps than in the list, is a
 /// beginning of the list in another order: it can be gone on with, until each node has the account with the words that it has in the
 /// list.
+#[tactic(auto, using(crate::proofs::Orders::beginning_within))]
 pub fn beginnings()
     ensures { (chip : List NodeRecord) (events others : List Event) → IsSome (replay chip events) → HasNoRace chip events →
         IsSome (replay chip others) → ((n : ℕ) → steps_of n others ≤ steps_of n events) →
@@ -93,6 +94,7 @@ pub fn one_writer()
 
 /// Lists that differ by swaps of neighbours that are apart are orders of one another: where neither sees what the other touches, both
 /// have the same words. The first list must be one that can be made. Orders have the same chip.
+#[tactic(auto, using(crate::proofs::Swaps::order_of, crate::proofs::Orders::order_replay, crate::proofs::Orders::order_read))]
 pub fn orders()
     ensures swaps { (chip : List NodeRecord) (events others : List Event) → AreEquivalent chip events others → IsSome (replay chip events) →
         AreOrders chip events others }
@@ -173,12 +175,14 @@ pub fn clocks()
 {}
 
 /// An event changes what the next event of a node is at the nodes that it touches and at their neighbours alone.
+#[tactic(auto, using(crate::proofs::Nexts::changes_near))]
 pub fn next_changes_near_alone()
     ensures { (chip : List NodeRecord) (event : Event) →
         IfSome (apply chip event) (λ done. (node : NodeId) → IsMarkedOrBeside (touches event) node.number ⊎ (next chip node ≡ next done.0 node)) }
 {}
 
 /// Whatever further events are made, each of some nodes that are stuck stays as it is.
+#[tactic(auto, using(crate::proofs::Stuck::stays))]
 pub fn stuck_stay()
     ensures { (chip : List NodeRecord) (events : List Event) (marks : ℕ → Bool) → AreStuck chip marks →
         IfSome (replay chip events) (λ later. (n : ℕ) → marks n ≡ true → record_at chip n ≡ record_at later n) }

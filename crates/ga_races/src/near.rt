@@ -398,6 +398,7 @@ fn add_look_over(
 }
 
 // The same of the neighbours on the sides.
+#[tactic(auto, using(crate::proofs::Asking::four_sides))]
 fn add_looks_beside(
     list: &mut Vec<Near>,
     acts: &[EventAccess],

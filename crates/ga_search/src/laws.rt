@@ -16,6 +16,7 @@ use crate::watch::Watch;
 
 /// Two runs, the second by the schedule that the first hands back, are one run by the schedule of the first: where no condition held in
 /// the first, the second ends as the one does.
+#[tactic(auto, using(crate::proofs::Events::after_after, crate::proofs::Events::ended_later))]
 pub fn slices_are_one_run()
     ensures events { (r : Running) (first second : ℕ) → after_events (after_events r first) second ≡ after_events r (first + second) }
     ensures end { (r : Running) (until : List Condition) (first most second : ℕ) (end : End) → NeverHolds until r first →
@@ -48,6 +49,7 @@ pub fn newest_is_found()
 
 /// The step of a node that is taken back then is the event that is found, so that its rollback isn't refused: some events go just where
 /// there is one to be found.
+#[tactic(auto, using(crate::proofs::FoundSteps::found_placed, crate::proofs::FoundSteps::found_some))]
 pub fn found_goes()
     ensures step { (until : List Condition) (node : NodeId) (s : State) (place : ℕ) → newest_held until (Some node) s ≡ Some place →
         place_of (causes_of s) node.number (number_of_step node.number (made_in (told_of_kept s) place)) ≡ Some place }
@@ -56,6 +58,7 @@ pub fn found_goes()
 {}
 
 /// Going back to a place is as many undos as there are kept events from it on.
+#[tactic(auto, using(crate::proofs::Backing::undone_from))]
 pub fn undos_lead_back()
     ensures { (s : State) (place : ℕ) → place ≤ length s.kept → undone_often (length s.kept - place) s ≡ earlier s place }
 {}

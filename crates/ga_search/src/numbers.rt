@@ -11,6 +11,7 @@ pub(crate) struct Numbers {
 }
 
 // The lowest place from this one on at which the word has a 1.
+#[tactic(auto, using(crate::proofs::Bits::none_above, crate::proofs::Bits::lowest_is))]
 fn lowest(word: u64, from: u32) -> Option<u32>
     requires { from < 64 }
     ensures least { IfSome result (λ place. from ≤ place) }

@@ -16,6 +16,7 @@ pub const MOST_CONDITIONS: usize = 8;
 pub(crate) type LinkCounts = [u32; MOST_CONDITIONS];
 
 /// The conditions before the first one that holds never.
+#[tactic(auto, using(std::proofs::lemmas::Option::slice_get_read, crate::proofs::Held::asked_before, crate::proofs::Held::none_more, crate::proofs::Held::all_asked))]
 pub fn conditions_asked(until: &[Condition]) -> &[Condition]
     ensures asked { result.now ≡ conditions_asked until.now }
     ensures most { length result.now ≤ length until.now }

@@ -22,6 +22,7 @@ impl Lab {
 
     /// What is told of a node's step, the first of which is at place 0; none past its steps. Takes no memory, and as long whatever
     /// is kept.
+    #[tactic(auto, using(crate::proofs::Replays::told_tied))]
     pub fn told(&self, node: NodeId, place: u32) -> Option<Made>
         ensures { result ≡ slice_get (history_of self.now node.number) place }
     {

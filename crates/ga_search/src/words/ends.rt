@@ -8,6 +8,7 @@ use ga_grid::NodeId;
 use ga_lab::Lab;
 
 // Whether the reader has fewer steps than the writer. The steps of either tell the words.
+#[tactic(auto, using(crate::proofs::Ends::by_either))]
 pub(crate) fn is_shorter(lab: &Lab, writer: NodeId, reader: NodeId) -> bool
     ensures { words_after writer.number reader.number 0 (history_of lab.now (end_of result writer reader))
         ≡ words_of lab.now writer.number reader.number }

@@ -54,6 +54,7 @@ impl Words {
     }
 
     // Whether the reader's steps are to be read: at first where they are fewer than the writer's, then as before.
+    #[tactic(auto, using(crate::proofs::Ends::at_first))]
     fn reads_reader(&self, lab: &Lab) -> bool
         ensures { words_left lab.now (record self.now { by_reader = result }) ≡ words_left lab.now self.now }
     {

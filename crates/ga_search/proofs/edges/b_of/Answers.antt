@@ -1,7 +1,0 @@
-use Rattle.std.proofs.Common.{◌∙◌, ap}
-use Rattle.ga_node.specs.Record.{NodeRecord, record_of}
-use Rattle.ga_search.proofs.edges.b_of.Goals as goal
-
-pub returns : goal.returns
-unfolding record_of
-returns c = c.get.ensures.value ∙ ap (λ (z : NodeRecord). z.b) c.node.ensures.value
