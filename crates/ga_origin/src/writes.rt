@@ -1,13 +1,11 @@
 //! The steps that wrote a cell of memory.
 
 ghost use Rattle.std.specs.Prelude.{◌≡◌, ◌<◌, ◌≤◌, ◌+◌, ◌-◌, ◌^◌, IfSome, slice_index};
-ghost use Rattle.std.specs.List.{slice_get};
 ghost use Rattle.ga_node.specs.Record.{record_of};
 ghost use Rattle.ga_event.specs.Told.{steps_of};
-ghost use Rattle.ga_lab.specs.Machine.{history_of, standing};
 ghost use Rattle.ga_flow.specs.Following.{flow_of};
 ghost use Rattle.ga_origin.specs.Writes.{is_written, written_at, newest_written};
-ghost use Rattle.ga_origin.specs.kept.Searching.{IsReached};
+ghost use Rattle.ga_origin.specs.kept.Searching.{IsReached, IsFollowedBack};
 ghost use Rattle.ga_origin.specs.kept.Stores.{ran_store};
 
 use crate::kept::{Kept, word_before, word_behind};
@@ -81,9 +79,7 @@ struct Reached {
 fn back_to_store(lab: &Lab, node: NodeId, cell: u8, from: Reached) -> Reached
     requires cell { cell < 64 }
     requires held { IsReached lab.now node.number cell from }
-    ensures held { IsReached lab.now node.number cell result }
-    ensures same { newest_written lab.now node.number cell result.step ≡ newest_written lab.now node.number cell from.step }
-    ensures within { result.step ≤ from.step }
+    ensures { IsFollowedBack lab.now node.number cell from result }
 {
     let Reached {
         mut step,
@@ -146,9 +142,7 @@ fn back_past_store(lab: &Lab, node: NodeId, cell: u8, from: Reached) -> Option<R
 fn back_to_write(lab: &Lab, node: NodeId, cell: u8, from: Reached) -> Reached
     requires cell { cell < 64 }
     requires held { IsReached lab.now node.number cell from }
-    ensures held { IsReached lab.now node.number cell result }
-    ensures same { newest_written lab.now node.number cell result.step ≡ newest_written lab.now node.number cell from.step }
-    ensures within { result.step ≤ from.step }
+    ensures { IsFollowedBack lab.now node.number cell from result }
 {
     let mut reached = back_to_store(lab, node, cell, from);
     'missing: while let Some(before) = back_past_store(lab, node, cell, reached) {
