@@ -178,6 +178,7 @@ fn value_of(node: NodeId, place: u32, asked: Asked) -> Option<Value>
 /// The value that is asked for where a step is named (DB001, opcodes): what it left on a stack, in a cell or in a register; of a
 /// word that was sent T before it; of a wait, a stop or a branch what decided it. None where it made no value, as `drop` or `.`, or
 /// doesn't stand. Takes time by how many steps the node made since.
+#[tactic(auto, using(crate::proofs::Made::stands_so))]
 pub fn asked_of(lab: &Lab, node: NodeId, step: u32) -> Option<Value>
     ensures value { result ≡ asked_of lab.now node step }
     ensures part { IfSome result (λ value. IsPart value.part) }

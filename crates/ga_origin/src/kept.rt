@@ -92,6 +92,7 @@ pub(crate) fn word_before(lab: &Lab, node: NodeId, at: u32, kept: Kept, word: u3
 
 /// The same of a word that the step may have left as it was, as what is told of it says.
 #[inline(always)]
+#[tactic(auto, using(crate::proofs::Resting::word_rests))]
 pub(crate) fn word_behind(
     lab: &Lab,
     node: NodeId,

@@ -77,6 +77,7 @@ fn choice_at(lab: &Lab, trail: &mut Trail<'_>, node: NodeId, place: u32, due: Du
 }
 
 // What an own event leaves in a part, which the step at a place was.
+#[tactic(auto, using(crate::proofs::Dues::own_where))]
 fn own_flow_at(
     lab: &Lab,
     trail: &mut Trail<'_>,

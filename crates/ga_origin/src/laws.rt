@@ -24,6 +24,7 @@ pub fn named_steps_are_causes()
 
 /// Where all rows are told, none is missing: the step that made the value asked for is told, and with each row the steps that made
 /// the values from which its own came.
+#[tactic(auto, using(crate::proofs::Closed::asked_told, crate::proofs::Closed::sources_told))]
 pub fn whole_listings_miss_nothing()
     ensures asked { (s : State) (value : Value) (rows : List Row) → AreRows s [] (row_at 0 value ∷ []) rows true → IsToldIn s rows value }
     ensures sources { (s : State) (value : Value) (rows : List Row) → AreRows s [] (row_at 0 value ∷ []) rows true →
@@ -39,6 +40,7 @@ pub fn asked_steps_are_causes()
 
 /// Each step that a value decided is a cause of every later step of its node, so that `why` leads from it there; and so is the step
 /// that made the value, but where that was loaded. The later step must be kept, as each of a node's is.
+#[tactic(auto, using(crate::proofs::Decided::step_cause, crate::proofs::Decided::source_cause))]
 pub fn deciding_steps_are_causes()
     ensures step { (s : State) (node : NodeId) (step k place : ℕ) (decision : Decision) →
         place_of (causes_of s) node.number step ≡ Some place → k < step → decided_at s node k ≡ Some decision →

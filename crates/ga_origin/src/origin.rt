@@ -115,6 +115,7 @@ pub(crate) fn flow_behind(lab: &Lab, walk: &Walk<'_>, node: NodeId, part: Part) 
 }
 
 // The value's step, or the last of the node where it made fewer: behind that nothing is made.
+#[tactic(auto, using(crate::proofs::Made::origin_last))]
 pub(crate) fn kept_step(lab: &Lab, value: Value) -> u32
     requires { IsPart value.part }
     ensures same { origin_from lab.now value.node result value.part ≡ origin_of lab.now value }

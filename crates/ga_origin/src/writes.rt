@@ -108,6 +108,7 @@ fn back_to_store(lab: &Lab, node: NodeId, cell: u8, from: Reached) -> Reached
 }
 
 // Goes back over a step that ran a store by A or B which named another cell.
+#[tactic(auto, using(crate::proofs::Newest::wrote_before, crate::proofs::Missing::misses_writes))]
 fn back_past_store(lab: &Lab, node: NodeId, cell: u8, from: Reached) -> Option<Reached>
     requires cell { cell < 64 }
     requires held { IsReached lab.now node.number cell from }

@@ -39,6 +39,7 @@ fn elsewhere(alloc: Global) -> Result<Value, AllocError>
 }
 
 /// What is told of each where another file is asked for.
+#[tactic(auto, using(std::proofs::lemmas::List::map_push, std::proofs::lemmas::List::replicate_more))]
 fn place_nowhere(alloc: Global, count: usize) -> Result<Vec<Value>, AllocError>
     ensures { IfOk result (λ list. map view list.items ≡ replicate count elsewhere) }
 {
@@ -107,6 +108,7 @@ fn placing_new(alloc: Global, placed: Vec<SetBy>, next: u64) -> Placing
 }
 
 /// What comes of the breakpoints that are asked for.
+#[tactic(auto, using(crate::proofs::Placed::placed_so))]
 fn placing_of(
     alloc: Global,
     program: &Debuggee,
@@ -147,6 +149,7 @@ fn set_placing(
 }
 
 /// The breakpoints that one request set are replaced by those that are asked for.
+#[tactic(auto, using(ga_responses::proofs::Sent::ok_then))]
 pub fn set_points(
     alloc: Global,
     program: &Debuggee,
@@ -231,6 +234,7 @@ fn set_filters_if(
 }
 
 /// `setExceptionBreakpoints`.
+#[tactic(auto, using(ga_responses::proofs::Sent::ok_then, crate::proofs::Placed::filters_so))]
 pub fn set_filters(
     settings: &mut Configuration,
     request: &ClientRequest,

@@ -305,6 +305,7 @@ fn cells_given(asked: &Value) -> u32
     cells_on(offset_at(asked, "offset"))
 }
 
+#[tactic(auto, using(crate::proofs::Referred::referred_so, crate::proofs::Referred::referred_on))]
 fn found_at_address(program: &Debuggee, asked: &Value) -> Option<FoundPlace>
     ensures { IsPlaceOf program.now Family.Instruction (view asked.now) result }
 {
@@ -347,6 +348,7 @@ fn writes_text(text: &str) -> Option<Breakpoint>
     }
 }
 
+#[tactic(auto, using(crate::proofs::Referred::referred_so))]
 fn found_cell(program: &Debuggee, asked: &Value) -> Option<FoundPlace>
     ensures { IsPlaceOf program.now Family.Data (view asked.now) result }
 {

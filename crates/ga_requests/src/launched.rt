@@ -26,6 +26,7 @@ pub struct Launched {
 }
 
 /// `setBreakpoints`. Hits are counted anew.
+#[tactic(auto, using(crate::proofs::Answered::sets_so))]
 fn set_lines_of(
     alloc: Global,
     launched: &mut Launched,
@@ -59,6 +60,7 @@ fn set_points_of(
 }
 
 /// The same of filters.
+#[tactic(auto, using(crate::proofs::Answered::sets_so))]
 fn set_filters_of(
     launched: &mut Launched,
     request: &ClientRequest,

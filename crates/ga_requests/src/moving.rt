@@ -28,6 +28,7 @@ fn continued(alloc: Global) -> Result<Value, AllocError>
 }
 
 /// `continue`.
+#[tactic(auto, using(ga_responses::proofs::Sent::sent_one))]
 pub fn begin_continue(
     alloc: Global,
     execution: &mut Execution,

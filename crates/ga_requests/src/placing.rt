@@ -154,6 +154,7 @@ fn place_one(
 }
 
 /// Sets each breakpoint that is asked for where it can stand, and tells of it.
+#[tactic(auto, using(crate::proofs::Placed::places_on, crate::proofs::Placed::behind_one))]
 pub(crate) fn place_all(
     alloc: Global,
     program: &Debuggee,

@@ -59,6 +59,7 @@ fn tell_fault(
 }
 
 /// `stopped` where a run ended so.
+#[tactic(auto, using(ga_responses::proofs::Sent::ok_then))]
 pub fn tell_stop(
     alloc: Global,
     program: &Debuggee,

@@ -165,6 +165,7 @@ impl Input {
 }
 
 /// Where the first line feed stands.
+#[tactic(auto, using(crate::proofs::PartLemmas::no_feed))]
 pub fn feed_at(bytes: &[u8]) -> Option<usize>
     ensures found { IfSome result (λ count. (count < length bytes.now)
         × HasNoFeed (take count bytes.now) × (slice_index bytes.now count ≡ 10)) }

@@ -94,6 +94,7 @@ fn four_of(number: u32) -> [u8; 4]
 
 /// Two decimal digits of a number.
 #[inline(always)]
+#[tactic(auto, using(crate::proofs::TableLemmas::decimal_pair))]
 fn two_of(number: u32) -> [u8; 2]
     requires { number < 100 }
     ensures { result ≡ two_digits number }
@@ -221,6 +222,7 @@ pub fn push_spaced<const ROOM: usize>(out: &mut ArrayVec<u8, ROOM>, word: Word18
 
 /// The six hexadecimal digits of a word.
 #[inline(always)]
+#[tactic(auto, using(crate::proofs::TableLemmas::three_bytes))]
 fn hex6(word: Word18) -> [u8; WORD_ROOM]
     ensures { result ≡ hex6_of word }
 {
@@ -242,6 +244,7 @@ pub fn push_byte<const ROOM: usize>(out: &mut ArrayVec<u8, ROOM>, number: u8)
 
 /// The two hexadecimal digits of a number, in lower case.
 #[inline(always)]
+#[tactic(auto, using(crate::proofs::TableLemmas::hexadecimal_pair))]
 pub fn hex2(number: u8) -> [u8; BYTE_ROOM]
     ensures { result ≡ hex2_of number }
 {
