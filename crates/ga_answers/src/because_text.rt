@@ -10,6 +10,7 @@ ghost use Rattle.ga_text.specs.kept.Output.{Says};
 ghost use Rattle.ga_answers.specs.Because.{decided_text, decision_text, decisions_text, because_text};
 ghost use Rattle.ga_answers.specs.Trees.{part_name};
 
+use crate::Said;
 use crate::deed_text::push_deed;
 use crate::part_text::{PART_ROOM, push_part};
 use crate::tail_text::say_step_tail;
@@ -63,7 +64,7 @@ fn say_decisions<'l, W: Write>(
     most: u32,
     output: &mut Output,
     writer: &mut W,
-) -> Result<(), WriteFailed>
+) -> Said
     requires { near.now ≡ standing lab.now node near.now.step }
     ensures { Says result (λ text. text ≡ decisions_text notes.now lab.now node most (near.now.step - 1))
         (W.contents writer.old) output.old (W.contents writer.new) output.new }
@@ -89,7 +90,7 @@ fn say_decision<W: Write>(
     decision: Decision,
     output: &mut Output,
     writer: &mut W,
-) -> Result<(), WriteFailed>
+) -> Said
     requires { near.now ≡ standing lab.now node near.now.step }
     ensures { (before said : Bytes) → IsSaid (W.contents writer.old) before said output.old →
         IsSaidOrCut result (W.contents writer.new) before (said ++ decision_text notes.now lab.now node decision) output.new }

@@ -7,6 +7,7 @@ ghost use Rattle.ga_text.specs.kept.Output.{Says};
 ghost use Rattle.ga_answers.specs.Texts.{effect_text, effects_head, effects_text};
 ghost use Rattle.ga_answers.specs.Telling.{TellsEffects};
 
+use crate::Said;
 use arrayvec::ArrayVec;
 use ga_display::refusal_text;
 use ga_grid::NodeId;
@@ -40,11 +41,7 @@ pub fn say_effects<W: Write>(
 }
 
 /// Says how many events would go, then what would go of each node.
-fn say_found<W: Write>(
-    effects: &Effects,
-    output: &mut Output,
-    writer: &mut W,
-) -> Result<(), WriteFailed>
+fn say_found<W: Write>(effects: &Effects, output: &mut Output, writer: &mut W) -> Said
     ensures { Says result (λ text. text ≡ effects_text effects.now.events effects.now.nodes.items)
         (W.contents writer.old) output.old (W.contents writer.new) output.new }
 {
@@ -56,7 +53,7 @@ fn say_nodes<W: Write>(
     nodes: &[RollbackEffect],
     output: &mut Output,
     writer: &mut W,
-) -> Result<(), WriteFailed>
+) -> Said
     ensures { Says result (λ text. text ≡ effects_text events nodes.now)
         (W.contents writer.old) output.old (W.contents writer.new) output.new }
 {
@@ -68,11 +65,7 @@ fn say_nodes<W: Write>(
 }
 
 /// Says what would go of a node.
-fn say_effect<W: Write>(
-    effect: RollbackEffect,
-    output: &mut Output,
-    writer: &mut W,
-) -> Result<(), WriteFailed>
+fn say_effect<W: Write>(effect: RollbackEffect, output: &mut Output, writer: &mut W) -> Said
     ensures { (before said : Bytes) → IsSaid (W.contents writer.old) before said output.old →
         IsSaidOrCut result (W.contents writer.new) before (said ++ effect_text effect) output.new }
 {

@@ -8,6 +8,7 @@ mod chip_text;
 mod deed_text;
 mod effects_text;
 mod part_text;
+mod passed_text;
 mod races_text;
 mod ring_text;
 mod run_text;
@@ -23,6 +24,7 @@ pub use back_text::say_back;
 pub use because_text::say_because;
 pub use chip_text::glance;
 pub use effects_text::say_effects;
+use ga_text::WriteFailed;
 pub use races_text::say_races;
 pub use run_text::ran_text;
 pub use saved_text::say_saved;
@@ -30,3 +32,6 @@ pub use whence_text::say_whence;
 pub use who_text::say_who;
 pub use words_text::say_words;
 pub use writes_text::say_writes;
+
+/// What comes of saying a text: a write may fail.
+type Said = Result<(), WriteFailed>;

@@ -7,6 +7,7 @@ ghost use Rattle.ga_text.specs.kept.Output.{Says};
 ghost use Rattle.ga_race_detector.specs.Readings.{back_of};
 ghost use Rattle.ga_answers.specs.Races.{race_text, reading_text, before_or_behind, races_head, race_lines_text, last_line, listed_text, TellsRaces};
 
+use crate::Said;
 use arrayvec::ArrayVec;
 use ga_display::refusal_text;
 use ga_grid::NodeId;
@@ -47,7 +48,7 @@ fn say_found<W: Write>(
     races: &Races,
     output: &mut Output,
     writer: &mut W,
-) -> Result<(), WriteFailed>
+) -> Said
     ensures { Says result (λ text. text ≡ listed_text only races.now.list.items races.now.readings.items races.now.looks races.now.quiet)
         (W.contents writer.old) output.old (W.contents writer.new) output.new }
 {
@@ -60,12 +61,7 @@ fn say_found<W: Write>(
 }
 
 /// Says that so many lines follow, then each of these.
-fn say_list<W: Write>(
-    races: &[Race],
-    count: u64,
-    output: &mut Output,
-    writer: &mut W,
-) -> Result<(), WriteFailed>
+fn say_list<W: Write>(races: &[Race], count: u64, output: &mut Output, writer: &mut W) -> Said
     ensures { Says result (λ text. text ≡ race_lines_text races.now count)
         (W.contents writer.old) output.old (W.contents writer.new) output.new }
 {
@@ -82,7 +78,7 @@ fn say_rest<W: Write>(
     last: &'static [u8],
     output: &mut Output,
     writer: &mut W,
-) -> Result<(), WriteFailed>
+) -> Said
     ensures { Says result (λ text. text ≡ flat_map reading_text readings.now ++ last.now)
         (W.contents writer.old) output.old (W.contents writer.new) output.new }
 {
@@ -93,11 +89,7 @@ fn say_rest<W: Write>(
 }
 
 /// Says one of them.
-fn say_reading<W: Write>(
-    reading: Reading,
-    output: &mut Output,
-    writer: &mut W,
-) -> Result<(), WriteFailed>
+fn say_reading<W: Write>(reading: Reading, output: &mut Output, writer: &mut W) -> Said
     ensures { (before said : Bytes) → IsSaid (W.contents writer.old) before said output.old →
         IsSaidOrCut result (W.contents writer.new) before (said ++ reading_text reading) output.new }
 {
@@ -105,7 +97,7 @@ fn say_reading<W: Write>(
 }
 
 /// Says one of them.
-fn say_race<W: Write>(race: Race, output: &mut Output, writer: &mut W) -> Result<(), WriteFailed>
+fn say_race<W: Write>(race: Race, output: &mut Output, writer: &mut W) -> Said
     ensures { (before said : Bytes) → IsSaid (W.contents writer.old) before said output.old →
         IsSaidOrCut result (W.contents writer.new) before (said ++ race_text race) output.new }
 {

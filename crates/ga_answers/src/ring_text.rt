@@ -1,20 +1,18 @@
 //! Rings of nodes that can never go on, told line by line.
 
 ghost use Rattle.std.specs.Prelude.{◌≡◌, ◌++◌, ◌+◌, ◌≤◌, [], Some};
-ghost use Rattle.ga_text.specs.Lines.{Bytes};
-ghost use Rattle.arrayvec.specs.ArrayVec.{array_vec_len};
 ghost use Rattle.ga_grid.specs.Grid.{number_where_any};
 ghost use Rattle.ga_grid.specs.Chip.{records_of};
 ghost use Rattle.ga_causal.specs.Dependence.{is_marked};
-ghost use Rattle.ga_text.specs.Output.{IsSaid, IsSaidOrCut};
 ghost use Rattle.ga_text.specs.kept.Output.{Says};
 ghost use Rattle.ga_answers.specs.Waiting.{awaited_at, sole, sole_awaited, name_text, ring_names, ring_line, ring_text, all_rings};
 
+use crate::Said;
 use arrayvec::ArrayVec;
 use ga_grid::{Chip, NodeId, neighbour};
 use ga_ports::Side;
 use ga_races::awaits;
-use ga_text::{Output, WriteFailed, push_node, push_text};
+use ga_text::{Output, push_node, push_text};
 use std::io::Write;
 
 /// Room for a line: a name behind a space for each node, and one more behind the last that is followed.
@@ -29,30 +27,18 @@ pub(crate) fn say_rings<W: Write>(
     stuck: &[bool; 144],
     output: &mut Output,
     writer: &mut W,
-) -> Result<(), WriteFailed>
+) -> Said
     ensures { Says result (λ text. text ≡ all_rings (records_of chip.now) (is_marked stuck.now))
         (W.contents writer.old) output.old (W.contents writer.new) output.new }
 {
     'nodes: for number in 0..144u8 {
-        say_ring(chip, stuck, NodeId::new(number), output, writer)?;
+        let line = line_of_ring(chip, stuck, NodeId::new(number));
+        output.say_blocks(writer, line.as_slice())?;
     }
     Ok(())
 }
 
-/// Says the line of a ring at its node of the lowest number, where that is marked.
-fn say_ring<W: Write>(
-    chip: &Chip,
-    stuck: &[bool; 144],
-    node: NodeId,
-    output: &mut Output,
-    writer: &mut W,
-) -> Result<(), WriteFailed>
-    ensures { (before said : Bytes) → IsSaid (W.contents writer.old) before said output.old →
-        IsSaidOrCut result (W.contents writer.new) before (said ++ ring_text (records_of chip.now) (is_marked stuck.now) node.number) output.new }
-{
-    output.say_blocks(writer, line_of_ring(chip, stuck, node).as_slice())
-}
-
+/// The line of a ring at its node of the lowest number, where that is marked.
 fn line_of_ring(chip: &Chip, stuck: &[bool; 144], node: NodeId) -> RingLine
     ensures { result.items ≡ ring_text (records_of chip.now) (is_marked stuck.now) node.number }
 {

@@ -9,6 +9,7 @@ ghost use Rattle.ga_text.specs.kept.Output.{Says};
 ghost use Rattle.ga_answers.specs.Saved.{step_line, with_feed, saved_text};
 ghost use Rattle.ga_answers.specs.kept.Saved.{actor_in, line_at, cause_line};
 
+use crate::Said;
 use arrayvec::ArrayVec;
 use ga_event::{Cause, Event};
 use ga_grid::NodeId;
@@ -38,11 +39,7 @@ pub fn say_saved<W: Write>(
 }
 
 /// Says the lines of these events.
-fn say_listed<W: Write>(
-    causes: &[Cause],
-    output: &mut Output,
-    writer: &mut W,
-) -> Result<(), WriteFailed>
+fn say_listed<W: Write>(causes: &[Cause], output: &mut Output, writer: &mut W) -> Said
     ensures { Says result (λ text. text ≡ flat_map cause_line causes.now)
         (W.contents writer.old) output.old (W.contents writer.new) output.new }
 {
@@ -53,7 +50,7 @@ fn say_listed<W: Write>(
 }
 
 /// Says the line of an event.
-fn say_event<W: Write>(event: Event, output: &mut Output, writer: &mut W) -> Result<(), WriteFailed>
+fn say_event<W: Write>(event: Event, output: &mut Output, writer: &mut W) -> Said
     ensures { (before said : Bytes) → IsSaid (W.contents writer.old) before said output.old →
         IsSaidOrCut result (W.contents writer.new) before (said ++ with_feed (step_line (actor_of event))) output.new }
 {
@@ -71,7 +68,7 @@ fn actor_of(event: Event) -> NodeId
 }
 
 /// Says the lines of the kept events, each of which is looked up by itself.
-fn say_unlisted<W: Write>(lab: &Lab, output: &mut Output, writer: &mut W) -> Result<(), WriteFailed>
+fn say_unlisted<W: Write>(lab: &Lab, output: &mut Output, writer: &mut W) -> Said
     ensures { Says result (λ text. text ≡ saved_text lab.now)
         (W.contents writer.old) output.old (W.contents writer.new) output.new }
 {
@@ -82,12 +79,7 @@ fn say_unlisted<W: Write>(lab: &Lab, output: &mut Output, writer: &mut W) -> Res
 }
 
 /// Says the line of the event at a place.
-fn say_step<W: Write>(
-    lab: &Lab,
-    place: u32,
-    output: &mut Output,
-    writer: &mut W,
-) -> Result<(), WriteFailed>
+fn say_step<W: Write>(lab: &Lab, place: u32, output: &mut Output, writer: &mut W) -> Said
     ensures { Says result (λ text. text ≡ line_at (slice_get lab.now.kept place))
         (W.contents writer.old) output.old (W.contents writer.new) output.new }
 {

@@ -10,13 +10,14 @@ ghost use Rattle.ga_origin.specs.Fetched.{fetched_cell as cell_fetched};
 ghost use Rattle.ga_origin.specs.Origins.{node_after};
 ghost use Rattle.ga_answers.specs.Tails.{noted_cell, noted_slot as noted_slot_of, noted_text, tail_text, slot_before, step_tail, part_cell, value_tail};
 
+use crate::Said;
 use ga_flow::Part;
 use ga_grid::NodeId;
 use ga_lab::{Lab, Walk};
 use ga_node::{Node, Place};
 use ga_notes::Notes;
 use ga_origin::{Value, fetched_near};
-use ga_text::{Output, WriteFailed};
+use ga_text::Output;
 use std::io::Write;
 
 /// The slot of a fetch.
@@ -163,7 +164,7 @@ fn say_tail<W: Write>(
     slot: usize,
     output: &mut Output,
     writer: &mut W,
-) -> Result<(), WriteFailed>
+) -> Said
     ensures { (before said : Bytes) → IsSaid (W.contents writer.old) before said output.old →
         IsSaidOrCut result (W.contents writer.new) before (said ++ tail_text notes.now node cell slot) output.new }
 {
@@ -179,7 +180,7 @@ fn say_noted<W: Write>(
     slot: usize,
     output: &mut Output,
     writer: &mut W,
-) -> Result<(), WriteFailed>
+) -> Said
     ensures { (before said : Bytes) → IsSaid (W.contents writer.old) before said output.old →
         IsSaidOrCut result (W.contents writer.new) before (said ++ noted_text notes.now node cell slot) output.new }
 {
@@ -200,7 +201,7 @@ pub(crate) fn say_step_tail<W: Write>(
     step: u32,
     output: &mut Output,
     writer: &mut W,
-) -> Result<(), WriteFailed>
+) -> Said
     requires { near.now ≡ standing lab.now at near.now.step }
     ensures { (before said : Bytes) → IsSaid (W.contents writer.old) before said output.old →
         IsSaidOrCut result (W.contents writer.new) before (said ++ step_tail notes.now lab.now node step) output.new }
@@ -221,7 +222,7 @@ pub(crate) fn say_walk_tail<W: Write>(
     walk: &Walk<'_>,
     output: &mut Output,
     writer: &mut W,
-) -> Result<(), WriteFailed>
+) -> Said
     requires { walk.now ≡ standing lab.now node walk.now.step }
     ensures { (before said : Bytes) → IsSaid (W.contents writer.old) before said output.old →
         IsSaidOrCut result (W.contents writer.new) before (said ++ step_tail notes.now lab.now node walk.now.step) output.new }
@@ -242,7 +243,7 @@ pub(crate) fn say_value_tail<W: Write>(
     value: Value,
     output: &mut Output,
     writer: &mut W,
-) -> Result<(), WriteFailed>
+) -> Said
     requires { near.now ≡ standing lab.now at near.now.step }
     ensures { (before said : Bytes) → IsSaid (W.contents writer.old) before said output.old →
         IsSaidOrCut result (W.contents writer.new) before (said ++ value_tail notes.now lab.now value) output.new }

@@ -5,12 +5,12 @@ ghost use Rattle.ga_text.specs.Lines.{Bytes};
 ghost use Rattle.arrayvec.specs.ArrayVec.{array_vec_len};
 ghost use Rattle.ga_flow.specs.Flow.{IsPart};
 ghost use Rattle.ga_lab.specs.Machine.{stands, standing};
-ghost use Rattle.ga_event.specs.Told.{steps_of};
 ghost use Rattle.ga_text.specs.Output.{IsSaid, IsSaidOrCut};
 ghost use Rattle.ga_text.specs.kept.Output.{Says};
 ghost use Rattle.ga_answers.specs.Trees.{blanks, tree_row_text, rows_by, value_text, did_text, head_text, more_text, TellsAsked, TellsWhence};
 ghost use Rattle.ga_answers.specs.kept.Trees.{is_first};
 
+use crate::Said;
 use crate::deed_text::{DEED_ROOM, push_deed};
 use crate::part_text::{push_mark, push_part};
 use crate::tail_text::{say_value_tail, say_walk_tail};
@@ -68,7 +68,7 @@ fn say_asked<W: Write>(
     value: Value,
     output: &mut Output,
     writer: &mut W,
-) -> Result<(), WriteFailed>
+) -> Said
     requires part { IsPart value.part }
     requires near { near.now ≡ standing lab.now node near.now.step }
     ensures { Says result (λ text. TellsAsked notes.now lab.now node near.now.step (Some value) text)
@@ -110,7 +110,7 @@ fn say_rows<W: Write>(
     rows: &[Row],
     output: &mut Output,
     writer: &mut W,
-) -> Result<(), WriteFailed>
+) -> Said
     requires { near.now ≡ standing lab.now node near.now.step }
     ensures { Says result (λ text. text ≡ rows_by notes.now lab.now node near.now.step (is_first near.now.step rows.now) rows.now)
         (W.contents writer.old) output.old (W.contents writer.new) output.new }
@@ -130,7 +130,7 @@ fn say_head<W: Write>(
     node: NodeId,
     output: &mut Output,
     writer: &mut W,
-) -> Result<(), WriteFailed>
+) -> Said
     requires { near.now ≡ standing lab.now node near.now.step }
     ensures { Says result (λ text. text ≡ head_text notes.now lab.now node near.now.step)
         (W.contents writer.old) output.old (W.contents writer.new) output.new }
@@ -149,7 +149,7 @@ fn say_lines<W: Write>(
     rows: &[Row],
     output: &mut Output,
     writer: &mut W,
-) -> Result<(), WriteFailed>
+) -> Said
     requires { near.now ≡ standing lab.now at near.now.step }
     ensures { Says result (λ text. text ≡ flat_map (tree_row_text notes.now lab.now deeper) rows.now)
         (W.contents writer.old) output.old (W.contents writer.new) output.new }
@@ -170,7 +170,7 @@ pub(crate) fn say_row<W: Write>(
     row: Row,
     output: &mut Output,
     writer: &mut W,
-) -> Result<(), WriteFailed>
+) -> Said
     requires { near.now ≡ standing lab.now at near.now.step }
     ensures { (before said : Bytes) → IsSaid (W.contents writer.old) before said output.old →
         IsSaidOrCut result (W.contents writer.new) before (said ++ tree_row_text notes.now lab.now deeper row) output.new }
@@ -181,7 +181,7 @@ pub(crate) fn say_row<W: Write>(
 }
 
 /// Says two blanks for each level.
-fn say_blanks<W: Write>(levels: u64, output: &mut Output, writer: &mut W) -> Result<(), WriteFailed>
+fn say_blanks<W: Write>(levels: u64, output: &mut Output, writer: &mut W) -> Said
     ensures { (before said : Bytes) → IsSaid (W.contents writer.old) before said output.old →
         IsSaidOrCut result (W.contents writer.new) before (said ++ blanks levels) output.new }
 {

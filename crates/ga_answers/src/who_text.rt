@@ -12,6 +12,7 @@ ghost use Rattle.ga_answers.specs.Waiting.{doing_word, does_text, beside_text, a
 ghost use Rattle.ga_answers.specs.Telling.{TellsWho};
 
 use super::ring_text::say_rings;
+use crate::Said;
 use arrayvec::ArrayVec;
 use ga_grid::{Chip, NodeId, neighbour};
 use ga_lab::Lab;
@@ -71,7 +72,7 @@ fn say_waiting<W: Write>(
     idle: &[bool; 144],
     output: &mut Output,
     writer: &mut W,
-) -> Result<(), WriteFailed>
+) -> Said
     ensures { Says result (λ text. text ≡ all_waiting (records_of chip.now) (is_marked idle.now))
         (W.contents writer.old) output.old (W.contents writer.new) output.new }
 {
@@ -88,7 +89,7 @@ fn say_node<W: Write>(
     node: NodeId,
     output: &mut Output,
     writer: &mut W,
-) -> Result<(), WriteFailed>
+) -> Said
     ensures { (before said : Bytes) → IsSaid (W.contents writer.old) before said output.old →
         IsSaidOrCut result (W.contents writer.new) before
         (said ++ busy_text (records_of chip.now) (is_marked idle.now) node.number) output.new }

@@ -6,6 +6,7 @@ ghost use Rattle.ga_text.specs.Output.{IsSaid, IsSaidOrCut};
 ghost use Rattle.ga_text.specs.kept.Output.{Says};
 ghost use Rattle.ga_answers.specs.Texts.{sent_text, words_head, linked_text, link_words_text};
 
+use crate::Said;
 use arrayvec::ArrayVec;
 use ga_grid::NodeId;
 use ga_lab::Lab;
@@ -45,7 +46,7 @@ fn say_linked<W: Write>(
     to: NodeId,
     output: &mut Output,
     writer: &mut W,
-) -> Result<(), WriteFailed>
+) -> Said
     ensures { Says result (λ text. text ≡ linked_text lab.now from to)
         (W.contents writer.old) output.old (W.contents writer.new) output.new }
 {
@@ -68,7 +69,7 @@ fn say_sent<W: Write>(
     sent: &Sent,
     output: &mut Output,
     writer: &mut W,
-) -> Result<(), WriteFailed>
+) -> Said
     ensures { (before said : Bytes) → IsSaid (W.contents writer.old) before said output.old →
         IsSaidOrCut result (W.contents writer.new) before (said ++ sent_text from to sent.now) output.new }
 {

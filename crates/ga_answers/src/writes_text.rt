@@ -7,6 +7,7 @@ ghost use Rattle.ga_event.specs.Told.{steps_of};
 ghost use Rattle.ga_text.specs.kept.Output.{Says};
 ghost use Rattle.ga_answers.specs.Writing.{written_text, cell_writes, writes_text};
 
+use crate::Said;
 use crate::deed_text::push_deed;
 use arrayvec::ArrayVec;
 use ga_grid::NodeId;
@@ -44,7 +45,7 @@ fn say_cell<W: Write>(
     cell: u8,
     output: &mut Output,
     writer: &mut W,
-) -> Result<(), WriteFailed>
+) -> Said
     requires { cell < 64 }
     ensures { Says result (λ text. text ≡ cell_writes lab.now node cell (steps_of node.number lab.now.kept))
         (W.contents writer.old) output.old (W.contents writer.new) output.new }

@@ -1,7 +1,7 @@
 use Rattle.std.specs.Prelude.{codes}
 use Rattle.std.proofs.Common.{◌≡◌, ℕ, ◌++◌, ap, ◌∙◌, arith}
 use Rattle.ga_word.specs.Word.{hex6_of}
-use Rattle.ga_answers.proofs.at_text.push_value.Goals as goal
+use Rattle.ga_answers.proofs.passed_text.push_value.Goals as goal
 
 pub returns-clause-text : goal.returns-clause-text
 returns-clause-text c =

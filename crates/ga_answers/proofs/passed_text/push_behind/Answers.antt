@@ -3,7 +3,7 @@ use Rattle.std.proofs.Common.{ℕ, List, ◌++◌, ap, ◌∙◌}
 use Rattle.ga_display.specs.Texts.{register_text}
 use Rattle.ga_node.specs.Record.{record_of}
 use Rattle.ga_display.proofs.Pieces.{six_pieces}
-use Rattle.ga_answers.proofs.at_text.push_behind.Goals as goal
+use Rattle.ga_answers.proofs.passed_text.push_behind.Goals as goal
 
 pub returns-clause-text : goal.returns-clause-text
 unfolding record_of
