@@ -29,7 +29,7 @@ fn sum_kinds(node: &mut Node, count: u32) -> u32 {
     let mut sum = 0u32;
     let mut saved = Saved::new();
     for _ in 0..count {
-        saved.clear();
+        saved = Saved::new();
         if let Ok(Kind::Run(code)) = node.own_into(Seen::nobody(), &mut saved) {
             sum = sum.wrapping_add(u32::from(code));
         }

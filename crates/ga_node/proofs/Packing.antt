@@ -1,5 +1,5 @@
 -- Unpacking a packed word gives the pair back, also where the free bits of six hold it.
-use Rattle.std.proofs.Common.{◌≡◌, ℕ, ◌+◌, ◌-◌, ◌*◌, ◌/◌, ◌%◌, ◌^◌, ◌<◌, ◌≤◌, ◌==◌, if◌then◌else◌, nat_lt, Bool, List, [], ◌∷◌, ◌++◌, length, map, true, false, refl, sym, ◌∙◌, ap, subst, arith, rules, get_or, take, drop, drop-cons, zero, suc}
+use Rattle.std.proofs.Common.{◌≡◌, ℕ, ◌+◌, ◌-◌, ◌*◌, ◌/◌, ◌%◌, ◌^◌, ◌<◌, ◌≤◌, ◌==◌, if◌then◌else◌, nat_lt, Bool, List, [], ◌∷◌, ◌++◌, length, map, true, false, refl, sym, ◌∙◌, ap, subst, arith, get_or, take, drop, drop-cons, zero, suc}
 use Rattle.ga_node.specs.declared.place.Place.{Place}
 use Rattle.ga_node.specs.declared.place.Place.TheVariants.{T, S, DataCell, DataPointer, R, ReturnCell, ReturnPointer, Ram, Rom, A, B, P, I, Slot, Io, Carry, Wait, Stop}
 use Rattle.std.specs.Prelude.{Some}
@@ -125,11 +125,6 @@ first_free w ws free = omega (arith, free)
 rest_free : (w : ℕ) (ws : List ℕ) → spare (w ∷ ws) ≡ 0 → spare ws ≡ 0
 rest_free w ws free = omega (arith, free)
 
-pub free_at : (ws : List ℕ) (i : ℕ) → spare ws ≡ 0 → i < length ws → free_bits (get_or ws i 0) ≡ 0
-free_at [] i free l = absurd (omega (arith, l))
-free_at (w ∷ ws) zero free l = first_free w ws free
-free_at (w ∷ ws) (suc i) free l = free_at ws i (rest_free w ws free) (omega (arith, l))
-
 spare_push : (ws : List ℕ) (w : ℕ) → spare ws ≡ 0 → free_bits w ≡ 0 → spare (ws ++ w ∷ []) ≡ 0
 spare_push [] w free none = omega (arith, none)
 spare_push (x ∷ xs) w free none =
@@ -202,12 +197,20 @@ full_free ws pairs six is l = go (spare ws) refl
     go (suc n) at = absurd (let count = count_one ws pairs (omega (arith, at)) is in omega (arith, count, six, l))
 
 -- there are six where it is
-pub is_full : (ws : List ℕ) → AreKept ws → length ws ≤ 6 → 0 < spare ws → length ws ≡ 6
+is_full : (ws : List ℕ) → AreKept ws → length ws ≤ 6 → 0 < spare ws → length ws ≡ 6
 is_full ws kept l some = go (nat_lt (length ws) 6) refl
   where
     go : (b : Bool) → nat_lt (length ws) 6 ≡ b → length ws ≡ 6
     go true is = absurd (let none = kept.few (ltb-true _ _ is) in omega (arith, none, some))
     go false is = let least = ltb-false _ _ is in omega (arith, l, least)
+
+-- and else fewer than seven pairs
+pub few_pairs : (ws : List ℕ) (pairs : List (Place × ℕ)) → AreKept ws → map unpacked (whole ws) ≡ pairs → length ws ≤ 6 → (length ws ≡ 6 → ⊥) → length pairs < 7
+few_pairs ws pairs kept is l other = go (spare ws) refl
+  where
+    go : (n : ℕ) → spare ws ≡ n → length pairs < 7
+    go zero free = let count = count_none ws pairs free is in omega (arith, count, l)
+    go (suc n) at = absurd (other (is_full ws kept l (omega (arith, at))))
 
 -- of six numbers of six bits the last is the highest
 highest : (a b c d e f : ℕ) → a < 64 → b < 64 → c < 64 → d < 64 → e < 64 → (a + 64 * (b + 64 * (c + 64 * (d + 64 * (e + 64 * (f + 64 * 0)))))) / 1073741824 ≡ f
@@ -317,7 +320,7 @@ pair_of_six ws pairs i is l = ap (λ z. slice_get z i) (sym is) ∙ go (spare ws
         ∙ pair_at (ws ++ (spare ws - 2 ^ 32) ∷ []) i (let count = length-append ws ((spare ws - 2 ^ 32) ∷ []) in omega (arith, count, l))
         ∙ ap (λ z. Some (unpacked z)) (get_or-append ws ((spare ws - 2 ^ 32) ∷ []) 0 i l)
 
-pub pair_behind_six : (ws : List ℕ) (pairs : List (Place × ℕ)) (i : ℕ) → map unpacked (whole ws) ≡ pairs → length ws ≤ i → i < length pairs
+pair_behind_six : (ws : List ℕ) (pairs : List (Place × ℕ)) (i : ℕ) → map unpacked (whole ws) ≡ pairs → length ws ≤ i → i < length pairs
     → (0 < spare ws) × (slice_get pairs i ≡ Some (unpacked (spare ws - 2 ^ 32)))
 pair_behind_six ws pairs i is least l = go (spare ws) refl
   where
@@ -326,13 +329,21 @@ pair_behind_six ws pairs i is least l = go (spare ws) refl
     go (suc n) at =
         let some : 0 < spare ws = omega (arith, at) in
         let count = count_one ws pairs some is in
-        let here : i ≡ length ws = omega (arith, count, least, l) in
-        (some,
+        let here : i ≡ length ws = omega (arith, count, least, l) in (
+          some,
           ap (λ z. slice_get z i) (sym is)
-          ∙ ap (λ z. slice_get (map unpacked z) i) (one_whole ws some)
-          ∙ pair_at (ws ++ (spare ws - 2 ^ 32) ∷ []) i (let more = length-append ws ((spare ws - 2 ^ 32) ∷ []) in omega (arith, more, here))
-          ∙ ap (λ z. Some (unpacked (get_or (ws ++ (spare ws - 2 ^ 32) ∷ []) z 0))) here
-          ∙ ap (λ z. Some (unpacked z)) (get_or-append_seam ws (spare ws - 2 ^ 32) [] 0))
+              ∙ ap (λ z. slice_get (map unpacked z) i) (one_whole ws some)
+              ∙ pair_at (ws ++ (spare ws - 2 ^ 32) ∷ []) i (let more = length-append ws ((spare ws - 2 ^ 32) ∷ []) in omega (arith, more, here))
+              ∙ ap (λ z. Some (unpacked (get_or (ws ++ (spare ws - 2 ^ 32) ∷ []) z 0))) here
+              ∙ ap (λ z. Some (unpacked z)) (get_or-append_seam ws (spare ws - 2 ^ 32) [] 0),
+        )
+
+-- what the free bits of six hold
+pub seventh_is : (ws : List ℕ) (pairs : List (Place × ℕ)) (i count : ℕ) → AreKept ws → map unpacked (whole ws) ≡ pairs → count ≡ length ws → count ≤ 6 → count ≤ i → i < length pairs
+    → (length ws ≡ 6) × (2 ^ 32 ≤ spare ws) × IsWord (spare ws - 2 ^ 32) × (slice_get pairs i ≡ Some (unpacked (spare ws - 2 ^ 32)))
+seventh_is ws pairs i count kept is value most least l =
+    let here : (0 < spare ws) × (slice_get pairs i ≡ Some (unpacked (spare ws - 2 ^ 32))) = pair_behind_six ws pairs i is (omega (arith, value, least)) l in
+    (is_full ws kept (omega (arith, value, most)) here.0, kept.least here.0, kept.last here.0, here.1)
 
 -- the first six
 pub first_six : (ws : List ℕ) (pairs : List (Place × ℕ)) → AreKept ws → length ws ≤ 6 → map unpacked (whole ws) ≡ pairs → take 6 pairs ≡ map unpacked ws
@@ -340,6 +351,7 @@ first_six ws pairs kept l is = ap (take 6) (sym is) ∙ go (spare ws) refl
   where
     count : length (map unpacked ws) ≡ length ws
     count = length-map ws unpacked
+
     go : (n : ℕ) → spare ws ≡ n → take 6 (map unpacked (whole ws)) ≡ map unpacked ws
     go zero free = ap (λ z. take 6 (map unpacked z)) (none_whole ws free) ∙ take_all 6 (map unpacked ws) (omega (arith, count, l))
     go (suc n) at =

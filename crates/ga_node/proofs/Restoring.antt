@@ -31,6 +31,15 @@ pub wait_back : (m n : NodeState) → m ≡ n → (record_of n).wait ≡ Nothing
 unfolding record_of
 wait_back m n same none = ap (λ (k : NodeState). record k { wait = Nothing }) same ∙ ap (λ (k : Wait). record n { wait = k }) (sym none)
 
+-- the record of a node that begins to wait, and of one that stops
+pub record_waits : (m n : NodeState) (wait : Wait) → m ≡ n → record_of (record m { wait = wait }) ≡ record (record_of n) { wait = wait }
+unfolding record_of
+record_waits m n wait same = ap (λ (k : NodeState). record (record_of k) { wait = wait }) same
+
+pub record_stops : (m n : NodeState) (stop : ℕ) → m ≡ n → record_of (record m { stop = stop }) ≡ record (record_of n) { stop = stop }
+unfolding record_of
+record_stops m n stop same = ap (λ (k : NodeState). record (record_of k) { stop = stop }) same
+
 carry_same : (b : Bool) → (from_bool b == 1) ≡ b
 carry_same true = refl
 carry_same false = refl

@@ -52,16 +52,16 @@ impl Saved {
         ensures value { result ≡ length self.now }
         ensures within { result ≤ 7 }
     {
-        if is_spread(&self.words) { 7 } else { self.words.len() }
+        if self.is_full() { 7 } else { self.words.len() }
     }
 
-    /// Whether there are seven.
+    /// Whether there are seven: the free bits of the sixth word then say so.
     #[inline(always)]
     pub(crate) fn is_full(&self) -> bool
         ensures yes { OnTrue result (length self.now ≡ 7) }
         ensures no { OnFalse result (length self.now < 7) }
     {
-        is_spread(&self.words)
+        self.words.len() == 6 && self.words[5] / 0x40000 % 64 > 0
     }
 
     /// How many of the first six there are.
@@ -79,14 +79,6 @@ impl Saved {
         ensures { slice_get (take 6 self.now) i ≡ Some result }
     {
         unpack(self.words[i])
-    }
-
-    /// Takes all pairs away.
-    #[inline(always)]
-    pub fn clear(&mut self)
-        ensures { self.new ≡ [] }
-    {
-        self.words = ArrayVec::new();
     }
 
     /// Adds a place and its old value, where there are fewer than six.
@@ -131,7 +123,14 @@ impl Saved {
         ensures pair { slice_get self.now i ≡ Some (unpacked result) }
         ensures word { IsWord result }
     {
-        if i < self.words.len() { self.words[i] } else { seventh(&self.words) }
+        if i < self.words.len() {
+            return self.words[i];
+        }
+        let mut spare: u64 = 0;
+        for k in 0..6 {
+            spare = spare * 64 + (self.words[5 - k] / 0x40000 % 64) as u64;
+        }
+        (spare - 0x100000000) as u32
     }
 }
 
@@ -145,14 +144,15 @@ impl fmt::Debug for Saved {
     }
 }
 
-/// A number for each place.
+/// The word of a place and a value: a number for each place, six free bits, and the value.
 #[inline(always)]
-fn code(place: Place) -> u32
-    requires { IsPlace place }
-    ensures value { result ≡ code_of place }
-    ensures within { result < 249 }
+fn pack(at: Place, value: u32) -> u32
+    requires place { IsPlace at }
+    requires in_range { value < 2 ^ 18 }
+    ensures value { result ≡ packed at value }
+    ensures within { result < 249 * 2 ^ 24 }
 {
-    match place {
+    let code = match at {
         Place::T => 0,
         Place::S => 8,
         Place::DataPointer => 16,
@@ -171,7 +171,8 @@ fn code(place: Place) -> u32
         Place::Carry => 232,
         Place::Wait => 240,
         Place::Stop => 248,
-    }
+    };
+    code * 0x1000000 + value
 }
 
 /// The cell of a word's place in RAM or ROM.
@@ -182,106 +183,47 @@ fn cell(word: u32) -> u8
     (word / 0x1000000 % 64) as u8
 }
 
-/// The cell of a word's place in a stack.
-#[inline(always)]
-fn stack_cell(word: u32) -> u8
-    ensures { result ≡ word / 2 ^ 24 % 8 }
-{
-    (word / 0x1000000 % 8) as u8
-}
-
-/// The place of a word. Each of its 32 kinds has an arm, so that one jump leads there, and a cell is taken out only where
-/// the place has one.
-#[inline(always)]
-fn place(word: u32) -> Place
-    ensures { result ≡ place_by (word / 2 ^ 27) (word / 2 ^ 24) }
-{
-    match word / 0x8000000 {
-        0 => Place::T,
-        1 => Place::S,
-        2 => Place::DataPointer,
-        3 => Place::R,
-        4 => Place::ReturnPointer,
-        5 => Place::A,
-        6 => Place::B,
-        7 => Place::P,
-        8 => Place::Ram(cell(word)),
-        9 => Place::Ram(cell(word)),
-        10 => Place::Ram(cell(word)),
-        11 => Place::Ram(cell(word)),
-        12 => Place::Ram(cell(word)),
-        13 => Place::Ram(cell(word)),
-        14 => Place::Ram(cell(word)),
-        15 => Place::Ram(cell(word)),
-        16 => Place::Rom(cell(word)),
-        17 => Place::Rom(cell(word)),
-        18 => Place::Rom(cell(word)),
-        19 => Place::Rom(cell(word)),
-        20 => Place::Rom(cell(word)),
-        21 => Place::Rom(cell(word)),
-        22 => Place::Rom(cell(word)),
-        23 => Place::Rom(cell(word)),
-        24 => Place::DataCell(stack_cell(word)),
-        25 => Place::ReturnCell(stack_cell(word)),
-        26 => Place::I,
-        27 => Place::Slot,
-        28 => Place::Io,
-        29 => Place::Carry,
-        30 => Place::Wait,
-        _ => Place::Stop,
-    }
-}
-
-/// The word of a place and a value.
-#[inline(always)]
-fn pack(at: Place, value: u32) -> u32
-    requires place { IsPlace at }
-    requires in_range { value < 2 ^ 18 }
-    ensures value { result ≡ packed at value }
-    ensures within { result < 249 * 2 ^ 24 }
-{
-    code(at) * 0x1000000 + value
-}
-
-/// The place and the value of a word.
+/// The place and the value of a word. Each of the 32 kinds of places has an arm, so that one jump leads there, and a cell is
+/// taken out only where the place has one.
 #[inline(always)]
 pub(crate) fn unpack(word: u32) -> (Place, u32)
     ensures { result ≡ unpacked word }
 {
-    (place(word), word % 0x40000)
-}
-
-/// What stands in the free bits of a word.
-#[inline(always)]
-fn free_bits(word: u32) -> u32
-    ensures { result ≡ free_bits_of word }
-{
-    word / 0x40000 % 64
-}
-
-/// Whether the free bits hold a seventh word.
-#[inline(always)]
-fn is_spread(words: &ArrayVec<u32, 6>) -> bool
-    requires { AreKept words.now.items }
-    ensures yes { OnTrue result ((length words.now.items ≡ 6) × (0 < spare words.now.items)) }
-    ensures no { OnFalse result (spare words.now.items ≡ 0) }
-    ensures most { length words.now.items ≤ 6 }
-{
-    words.len() == 6 && free_bits(words[5]) > 0
-}
-
-/// The seventh word, which the free bits of six hold.
-fn seventh(words: &ArrayVec<u32, 6>) -> u32
-    requires full { length words.now.items ≡ 6 }
-    requires least { 2 ^ 32 ≤ spare words.now.items }
-    requires fits { spare words.now.items < 2 ^ 33 }
-    ensures { result ≡ spare words.now.items - 2 ^ 32 }
-{
-    let mut spare: u64 = 0;
-    for k in 0..6 {
-        spare = spare * 64 + free_bits(words[5 - k]) as u64;
+    let value = word % 0x40000;
+    match word / 0x8000000 {
+        0 => (Place::T, value),
+        1 => (Place::S, value),
+        2 => (Place::DataPointer, value),
+        3 => (Place::R, value),
+        4 => (Place::ReturnPointer, value),
+        5 => (Place::A, value),
+        6 => (Place::B, value),
+        7 => (Place::P, value),
+        8 => (Place::Ram(cell(word)), value),
+        9 => (Place::Ram(cell(word)), value),
+        10 => (Place::Ram(cell(word)), value),
+        11 => (Place::Ram(cell(word)), value),
+        12 => (Place::Ram(cell(word)), value),
+        13 => (Place::Ram(cell(word)), value),
+        14 => (Place::Ram(cell(word)), value),
+        15 => (Place::Ram(cell(word)), value),
+        16 => (Place::Rom(cell(word)), value),
+        17 => (Place::Rom(cell(word)), value),
+        18 => (Place::Rom(cell(word)), value),
+        19 => (Place::Rom(cell(word)), value),
+        20 => (Place::Rom(cell(word)), value),
+        21 => (Place::Rom(cell(word)), value),
+        22 => (Place::Rom(cell(word)), value),
+        23 => (Place::Rom(cell(word)), value),
+        24 => (Place::DataCell((word / 0x1000000 % 8) as u8), value),
+        25 => (Place::ReturnCell((word / 0x1000000 % 8) as u8), value),
+        26 => (Place::I, value),
+        27 => (Place::Slot, value),
+        28 => (Place::Io, value),
+        29 => (Place::Carry, value),
+        30 => (Place::Wait, value),
+        _ => (Place::Stop, value),
     }
-    (spare - 0x100000000) as u32
 }
 
 /// The six words with a seventh in their free bits, behind a bit that says so.

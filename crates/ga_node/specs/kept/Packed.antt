@@ -28,16 +28,16 @@ code_of Stop = 248
 abbrev pub place_by : ℕ → ℕ → Place
 place_by kind code =
     if nat_lt 7 kind then (
-      if nat_lt kind 16 then Ram (code % 64)
-      else if nat_lt kind 24 then Rom (code % 64)
-      else if kind == 24 then DataCell (code % 8)
-      else if kind == 25 then ReturnCell (code % 8)
-      else if kind == 26 then I
-      else if kind == 27 then Slot
-      else if kind == 28 then Io
-      else if kind == 29 then Carry
-      else if kind == 30 then Wait
-      else Stop
+    if nat_lt kind 16 then Ram (code % 64)
+    else if nat_lt kind 24 then Rom (code % 64)
+    else if kind == 24 then DataCell (code % 8)
+    else if kind == 25 then ReturnCell (code % 8)
+    else if kind == 26 then I
+    else if kind == 27 then Slot
+    else if kind == 28 then Io
+    else if kind == 29 then Carry
+    else if kind == 30 then Wait
+    else Stop
     )
     else if kind == 0 then T
     else if kind == 1 then S

@@ -2,6 +2,7 @@
 
 use super::Node;
 use crate::kind::Kind;
+use crate::place::Place;
 use crate::saved::Saved;
 use crate::seen::Seen;
 use crate::wait::{Reader, Wait};
@@ -17,6 +18,7 @@ impl Node {
     ghost use Rattle.ga_node.specs.Ready.{IsRunning};
 
     /// The node waits, in place of the event's whole effect.
+    #[tactic(auto, unfolding(crate::specs::Record::record_of))]
     #[inline(always)]
     fn wait_for(&mut self, saved: &mut Saved, wait: Wait) -> Kind
         requires running { IsRunning (record_of self.old) }
@@ -24,11 +26,13 @@ impl Node {
         ensures kind { result ≡ (posts wait).0 }
         ensures made { IsMade (posts wait).1 self.old self.new saved.new }
     {
-        self.post(saved, wait);
+        saved.add(Place::Wait, 0);
+        self.wait = wait;
         Kind::Wait
     }
 
     /// The node stops, in place of the event's whole effect.
+    #[tactic(auto, unfolding(crate::specs::Record::record_of))]
     #[inline(always)]
     fn stop_with(&mut self, saved: &mut Saved, code: u8) -> Kind
         requires running { IsRunning (record_of self.old) }
@@ -37,7 +41,8 @@ impl Node {
         ensures kind { result ≡ (halts code).0 }
         ensures made { IsMade (halts code).1 self.old self.new saved.new }
     {
-        self.halt(saved, code);
+        saved.add(Place::Stop, 0);
+        self.stop = code;
         Kind::Stop(code)
     }
 

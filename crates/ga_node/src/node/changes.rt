@@ -281,35 +281,6 @@ impl Node {
         save_return(saved, &self.returns.replace_top(word));
     }
 
-    /// A wait begins.
-    #[tactic(auto, unfolding(crate::specs::Record::record_of))]
-    #[inline(always)]
-    pub(super) fn post(&mut self, saved: &mut Saved, wait: Wait)
-        requires running { IsRunning (record_of self.old) }
-        requires room { length saved.old < 6 }
-        ensures change { record_of self.new ≡ changed (SetWait wait) (record_of self.old) }
-        ensures saves { Saves (SetWait wait ∷ []) self.old saved.old self.new saved.new }
-        ensures count { length saved.new ≡ length saved.old + 1 }
-    {
-        saved.add(Place::Wait, 0);
-        self.wait = wait;
-    }
-
-    /// The node stops.
-    #[tactic(auto, unfolding(crate::specs::Record::record_of))]
-    #[inline(always)]
-    pub(super) fn halt(&mut self, saved: &mut Saved, code: u8)
-        requires running { IsRunning (record_of self.old) }
-        requires in_range { code ≤ 3 }
-        requires room { length saved.old < 6 }
-        ensures change { record_of self.new ≡ changed (SetStop code) (record_of self.old) }
-        ensures saves { Saves (SetStop code ∷ []) self.old saved.old self.new saved.new }
-        ensures count { length saved.new ≡ length saved.old + 1 }
-    {
-        saved.add(Place::Stop, 0);
-        self.stop = code;
-    }
-
     /// The wait ends.
     #[tactic(auto, unfolding(crate::specs::Record::record_of))]
     #[inline(always)]

@@ -72,7 +72,7 @@ impl Node {
             Op::Pop => self.run_pop(saved),
             Op::Over => self.run_over(saved),
             Op::A => self.run_a(saved),
-            Op::Nop => self.run_nop(saved),
+            Op::Nop => self.go_on(saved),
             Op::Push => self.run_push(saved),
             Op::BStore => self.run_b_store(saved),
             Op::AStore => self.run_a_store(saved),

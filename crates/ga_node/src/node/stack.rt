@@ -60,14 +60,6 @@ impl Node {
         self.go_on(saved);
     }
 
-    /// `.`, nop: nothing but the next slot.
-    pub(super) fn run_nop(&mut self, saved: &mut Saved)
-        requires { saved.old ≡ [] }
-        ensures { IsDoneBy (does Op.Nop (record_of self.old)) self.old self.new saved.new }
-    {
-        self.go_on(saved);
-    }
-
     /// `push`: T is pushed on the return stack, and popped.
     pub(super) fn run_push(&mut self, saved: &mut Saved)
         requires { saved.old ≡ [] }

@@ -1,4 +1,4 @@
-use Rattle.std.proofs.Common.{◌≡◌, ◌<◌, ◌≤◌, ◌+◌, ◌-◌, ◌*◌, ◌%◌, ◌/◌, ◌^◌, ℕ, ◌++◌, ◌∷◌, [], ap, get_or, drop, length, length-append, append_assoc, append-nil, arith, subst, sym, ◌∙◌}
+use Rattle.std.proofs.Common.{◌≡◌, ◌<◌, ◌≤◌, ◌+◌, ◌*◌, ◌%◌, ◌/◌, ◌^◌, ℕ, ◌++◌, ◌∷◌, [], ap, get_or, drop, length, length-append, append_assoc, append-nil, arith, subst, sym, ◌∙◌}
 use Rattle.std.proofs.lemmas.List.{drop_all}
 use Rattle.ga_node.specs.kept.Packed.{with_spare}
 use Rattle.ga_node.proofs.Packing.{with_spare_past, words_at}
@@ -26,7 +26,7 @@ loop-old-preserved c =
     let word : ℕ = get_or ws c.loop-old.old-index 0 + c.loop-old.rest % 64 * 2 ^ 18 in
     let count = c.loop-old.invariant.count in
     let more : c.push.new.self.items ≡ c.loop-old.spread.items ++ word ∷ [] =
-        subst (λ z. c.push.new.self.items ≡ c.loop-old.spread.items ++ (get_or z c.loop-old.old-index 0 + c.loop-old.rest % 64 * 2 ^ 18) ∷ []) items c.push.ensures.items in
+    subst (λ z. c.push.new.self.items ≡ c.loop-old.spread.items ++ (get_or z c.loop-old.old-index 0 + c.loop-old.rest % 64 * 2 ^ 18) ∷ []) items c.push.ensures.items in
     record {
       count = ap length more ∙ length-append c.loop-old.spread.items (word ∷ []) ∙ omega (arith, count);
       rest = ap (λ z. z ++ with_spare (drop (c.loop-old.old-index + 1) ws) (c.loop-old.rest / 64)) more

@@ -1,4 +1,4 @@
-use Rattle.std.proofs.Common.{◌≡◌, ◌<◌, ◌∙◌, ◌++◌, ◌∷◌, [], ap, length, arith, map}
+use Rattle.std.proofs.Common.{◌<◌, ◌∙◌, ◌++◌, ◌∷◌, [], ap, length, map}
 use Rattle.ga_node.specs.kept.Packed.{IsWord, packed, unpacked, whole}
 use Rattle.ga_node.proofs.Packing.{packed_word, few_words, kept_push, pairs_push}
 use Rattle.ga_node.proofs.saved.Saved.add.Goals as goal
