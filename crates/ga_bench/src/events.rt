@@ -1,6 +1,6 @@
 //! The events of a node.
 
-use ga_node::{Kind, Node, Place, Saved, Seen};
+use ga_node::{Kind, Node, Place, Seen};
 use std::io;
 use std::time::Instant;
 
@@ -23,14 +23,12 @@ fn loaded(words: &[u32]) -> Node {
     node
 }
 
-/// Makes so many events with a list that is kept from one event to the next, and sums their codes.
+/// Makes so many events, and sums their codes.
 #[inline(never)]
 fn sum_kinds(node: &mut Node, count: u32) -> u32 {
     let mut sum = 0u32;
-    let mut saved = Saved::new();
     for _ in 0..count {
-        saved = Saved::new();
-        if let Ok(Kind::Run(code)) = node.own_into(Seen::nobody(), &mut saved) {
+        if let Ok((Kind::Run(code), _)) = node.own(Seen::nobody()) {
             sum = sum.wrapping_add(u32::from(code));
         }
     }
@@ -42,8 +40,7 @@ fn sum_kinds(node: &mut Node, count: u32) -> u32 {
 fn sum_backs(node: &mut Node, count: u32) -> u32 {
     let mut sum = 0u32;
     for _ in 0..count {
-        let mut saved = Saved::new();
-        if node.own_into(Seen::nobody(), &mut saved).is_ok() {
+        if let Ok((_, saved)) = node.own(Seen::nobody()) {
             node.restore(&saved);
         }
         if let Ok((Kind::Run(code), _)) = node.own(Seen::nobody()) {

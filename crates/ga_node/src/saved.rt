@@ -183,47 +183,54 @@ fn cell(word: u32) -> u8
     (word / 0x1000000 % 64) as u8
 }
 
-/// The place and the value of a word. Each of the 32 kinds of places has an arm, so that one jump leads there, and a cell is
-/// taken out only where the place has one.
+/// The place of a word. Each of its 32 kinds has an arm, so that one jump leads there, and a cell is taken out only where
+/// the place has one.
+#[inline(always)]
+fn place(word: u32) -> Place
+    ensures { result ≡ place_by (word / 2 ^ 27) (word / 2 ^ 24) }
+{
+    match word / 0x8000000 {
+        0 => Place::T,
+        1 => Place::S,
+        2 => Place::DataPointer,
+        3 => Place::R,
+        4 => Place::ReturnPointer,
+        5 => Place::A,
+        6 => Place::B,
+        7 => Place::P,
+        8 => Place::Ram(cell(word)),
+        9 => Place::Ram(cell(word)),
+        10 => Place::Ram(cell(word)),
+        11 => Place::Ram(cell(word)),
+        12 => Place::Ram(cell(word)),
+        13 => Place::Ram(cell(word)),
+        14 => Place::Ram(cell(word)),
+        15 => Place::Ram(cell(word)),
+        16 => Place::Rom(cell(word)),
+        17 => Place::Rom(cell(word)),
+        18 => Place::Rom(cell(word)),
+        19 => Place::Rom(cell(word)),
+        20 => Place::Rom(cell(word)),
+        21 => Place::Rom(cell(word)),
+        22 => Place::Rom(cell(word)),
+        23 => Place::Rom(cell(word)),
+        24 => Place::DataCell((word / 0x1000000 % 8) as u8),
+        25 => Place::ReturnCell((word / 0x1000000 % 8) as u8),
+        26 => Place::I,
+        27 => Place::Slot,
+        28 => Place::Io,
+        29 => Place::Carry,
+        30 => Place::Wait,
+        _ => Place::Stop,
+    }
+}
+
+/// The place and the value of a word.
 #[inline(always)]
 pub(crate) fn unpack(word: u32) -> (Place, u32)
     ensures { result ≡ unpacked word }
 {
-    let value = word % 0x40000;
-    match word / 0x8000000 {
-        0 => (Place::T, value),
-        1 => (Place::S, value),
-        2 => (Place::DataPointer, value),
-        3 => (Place::R, value),
-        4 => (Place::ReturnPointer, value),
-        5 => (Place::A, value),
-        6 => (Place::B, value),
-        7 => (Place::P, value),
-        8 => (Place::Ram(cell(word)), value),
-        9 => (Place::Ram(cell(word)), value),
-        10 => (Place::Ram(cell(word)), value),
-        11 => (Place::Ram(cell(word)), value),
-        12 => (Place::Ram(cell(word)), value),
-        13 => (Place::Ram(cell(word)), value),
-        14 => (Place::Ram(cell(word)), value),
-        15 => (Place::Ram(cell(word)), value),
-        16 => (Place::Rom(cell(word)), value),
-        17 => (Place::Rom(cell(word)), value),
-        18 => (Place::Rom(cell(word)), value),
-        19 => (Place::Rom(cell(word)), value),
-        20 => (Place::Rom(cell(word)), value),
-        21 => (Place::Rom(cell(word)), value),
-        22 => (Place::Rom(cell(word)), value),
-        23 => (Place::Rom(cell(word)), value),
-        24 => (Place::DataCell((word / 0x1000000 % 8) as u8), value),
-        25 => (Place::ReturnCell((word / 0x1000000 % 8) as u8), value),
-        26 => (Place::I, value),
-        27 => (Place::Slot, value),
-        28 => (Place::Io, value),
-        29 => (Place::Carry, value),
-        30 => (Place::Wait, value),
-        _ => (Place::Stop, value),
-    }
+    (place(word), word % 0x40000)
 }
 
 /// The six words with a seventh in their free bits, behind a bit that says so.

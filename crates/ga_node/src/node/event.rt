@@ -193,31 +193,13 @@ impl Node {
         }
     }
 
-    /// Makes the node's next event, as [`Node::own`] does, and puts the values that it overwrote into a list that the
-    /// caller keeps, which is empty before.
-    #[tactic(auto, using(crate::proofs::Restoring::apart_from_ready))]
-    pub fn own_into(&mut self, seen: Seen, saved: &mut Saved) -> Result<Kind, NotReady>
-        requires { saved.old ≡ [] }
-        ensures ready { MatchResult result (λ _. refusal (record_of self.old) ≡ None) (λ reason. refusal (record_of self.old) ≡ Some reason) }
-        ensures event { IfOk result (λ kind. (kind, record_of self.new) ≡ own seen (record_of self.old)) }
-        ensures saves { OnOk result (Overwrites (own_event seen (record_of self.old)).1 self.old self.new saved.new) }
-        ensures apart { OnOk result (IsApart self.old) }
-        ensures same { OnErr result (self.new ≡ self.old) }
-        ensures unsaved { OnErr result (saved.new ≡ []) }
-    {
-        if let Some(reason) = self.not_ready() {
-            return Err(reason);
-        }
-        let due = self.due();
-        Ok(self.do_into(due, seen, saved))
-    }
-
     /// Makes the node's next event, where this stands beside it: a fetch where one is due, else the opcode in the slot. An
     /// access to a port becomes a wait, and a bad one a stop, in place of the whole event (DB001, opcodes and ports). Only
     /// a look depends on what stands beside the node ([`Node::looks`]).
     ///
     /// # Errors
     /// `Waiting` or `Stopped`, where the node waits or is stopped.
+    #[tactic(auto, using(crate::proofs::Restoring::apart_from_ready))]
     pub fn own(&mut self, seen: Seen) -> Result<(Kind, Saved), NotReady>
         ensures ready { MatchResult result (λ _. refusal (record_of self.old) ≡ None) (λ reason. refusal (record_of self.old) ≡ Some reason) }
         ensures event { IfOk result (λ event. (event.0, record_of self.new) ≡ own seen (record_of self.old)) }
@@ -225,8 +207,12 @@ impl Node {
         ensures apart { OnOk result (IsApart self.old) }
         ensures same { OnErr result (self.new ≡ self.old) }
     {
+        if let Some(reason) = self.not_ready() {
+            return Err(reason);
+        }
         let mut saved = Saved::new();
-        let kind = self.own_into(seen, &mut saved)?;
+        let due = self.due();
+        let kind = self.do_into(due, seen, &mut saved);
         Ok((kind, saved))
     }
 }
