@@ -15,7 +15,7 @@ use adapter::{out_of_memory, serve_editor};
 use arriving::begin_reading;
 use ga_check::orders::Bounds;
 use ga_console::{LineFault, Settings, Status, arguments, race_report, session};
-use ga_explorer::{close, explore, is_cut_off};
+use ga_explorer::{Usage, close, explore, is_cut_off};
 use ga_listing::{assemble_source, disassemble, list_source};
 use ga_orders::{Verdict, check_orders};
 use ga_picture::{View, draw_session};
@@ -353,9 +353,13 @@ fn exit_with(rt: &HostRuntime, verdict: Verdict) -> ExitCode {
     }
 }
 
-/// Writes the help that was asked for.
+/// Writes the help that was asked for. That of `explore` has a line where the commands go that a session tells of.
 fn help(rt: &HostRuntime, text: &str) -> ExitCode {
-    match print!(rt; "{text}") {
+    let written = match text.split_once("{commands}\n") {
+        Some((above, below)) => print!(rt; "{above}{}{below}", Usage),
+        None => print!(rt; "{text}"),
+    };
+    match written {
         Ok(_) => exit(rt, Status::Done),
         Err(_) => exit(rt, Status::StreamFault),
     }

@@ -8,7 +8,6 @@ use Rattle.std.proofs.lemmas.Bool.{ne_eqb}
 use Rattle.std.proofs.lemmas.Bool.Decides.{eqb_tells}
 use Rattle.std.proofs.lemmas.List.Sums.{sum_by-cons}
 use Rattle.ga_node.specs.Record.{NodeRecord}
-use Rattle.ga_node.specs.declared.kind.Kind.{Kind}
 use Rattle.ga_node.specs.declared.kind.NotReady.{NotReady}
 use Rattle.ga_grid.specs.declared.node_id.NodeId.{NodeId}
 use Rattle.ga_grid.specs.Chip.{record_at}
@@ -19,11 +18,11 @@ use Rattle.ga_event.specs.declared.event.Cause.{Cause}
 use Rattle.ga_event.specs.declared.made.Made.{Made}
 use Rattle.ga_event.specs.declared.made.Made.TheVariants as made
 use Rattle.ga_event.specs.Touches.{touches}
-use Rattle.ga_event.specs.Apply.{Told, apply, after, unless, cause_of, refusal_of, run, replay}
+use Rattle.ga_event.specs.Apply.{Told, apply, after, unless, refusal_of, run, replay}
 use Rattle.ga_event.specs.Told.{steps_of, made_after, mades_after, mades_of}
 use Rattle.ga_causal.proofs.Runs.{FirstOf, first_of_run}
 use Rattle.ga_lab.specs.declared.fault.LabFault.{LabFault}
-use Rattle.ga_lab.specs.Machine.{State, chip_of, history_of, step_answer, stepped, told_next, told_of_kept}
+use Rattle.ga_lab.specs.Machine.{State, chip_of, history_of, step_answer, stepped, told_next}
 use Rattle.ga_lab.proofs.Called.{Runs, runs_of, told_is}
 use Rattle.ga_origin.specs.Origins.{node_after}
 use Rattle.ga_origin.specs.Fetched.{fetched_cell}
@@ -31,17 +30,17 @@ use Rattle.ga_origin.proofs.Made.{none_past}
 use Rattle.ga_search.specs.Conditions.{is_step_of}
 use Rattle.ga_search.specs.Running.{Running, told_by_step, moved_by}
 use Rattle.ga_adapter.specs.declared.spots.Spot.{Spot}
-use Rattle.ga_adapter.specs.Spots.{spot, spot_by, spot_behind}
+use Rattle.ga_adapter.specs.Spots.{spot_by, spot_behind}
 use Rattle.ga_breakpoints.specs.declared.back.Watched.{Watched}
 use Rattle.ga_breakpoints.specs.declared.back.Watched.TheVariants.{Comes, Writes}
 use Rattle.ga_breakpoints.specs.declared.breakpoint.Breakpoint.{Breakpoint}
 use Rattle.ga_breakpoints.specs.declared.hits.HitTally.{HitTally}
 use Rattle.ga_breakpoints.specs.Back.{arrives, is_at_spot, comes_to}
-use Rattle.ga_breakpoints.specs.Breakpoints.{has_done, hit_counted, one_counted, counted_from, tally_behind}
+use Rattle.ga_breakpoints.specs.Breakpoints.{has_done, hit_counted, one_counted, counted_from}
 use Rattle.ga_breakpoints.specs.Conditions.{meets_test}
 use Rattle.ga_breakpoints.specs.Going.{tally_told}
 use Rattle.ga_breakpoints.specs.kept.Words.{keeps_kind, awaits_code, keeps_word, word_after, word_seen}
-use Rattle.ga_breakpoints.specs.kept.Cells.{Cells, cells_left, cell_known, cell_in, asks_word, cells_with, cells_asked, comes_by, has_done_by, cells_done, one_counted_by, counted_by, cells_from, tally_by, cells_behind}
+use Rattle.ga_breakpoints.specs.kept.Cells.{Cells, cells_left, cell_known, cell_in, asks_word, cells_with, cells_asked, comes_by, has_done_by, cells_done, counted_by, cells_from, tally_by, cells_behind}
 use Rattle.ga_breakpoints.proofs.Following.{IsCounted, IsWell, IsWord, Step, step_of, steps_more, word_more, well_more, refused_stays, well_next}
 use Rattle.ga_breakpoints.proofs.NodesNow.{node_now, none_came}
 

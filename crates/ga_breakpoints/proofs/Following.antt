@@ -6,7 +6,7 @@ use Rattle.std.specs.Result.{result_ok}
 use Rattle.std.proofs.lemmas.Option.{same_Some}
 use Rattle.std.proofs.lemmas.Bool.{ne_eqb}
 use Rattle.std.proofs.lemmas.Bool.Decides.{eqb_tells}
-use Rattle.std.proofs.lemmas.List.{append-nil, take-append-le}
+use Rattle.std.proofs.lemmas.List.{take-append-le}
 use Rattle.std.proofs.lemmas.List.Sums.{sum_by-append, sum_by-cons}
 use Rattle.ga_slots.specs.declared.op.Op.{Op}
 use Rattle.ga_node.specs.Record.{NodeRecord}
@@ -23,7 +23,7 @@ use Rattle.ga_event.specs.declared.made.Made.{Made}
 use Rattle.ga_event.specs.declared.made.Made.TheVariants as made
 use Rattle.ga_event.specs.Touches.{touches}
 use Rattle.ga_event.specs.Apply.{Told, apply, after, unless, cause_of, refusal_of, replay}
-use Rattle.ga_event.specs.Told.{steps_of, made_after, mades_of, events_told}
+use Rattle.ga_event.specs.Told.{steps_of, made_after, mades_of}
 use Rattle.ga_event.proofs.Nexts.{next_can}
 use Rattle.ga_rollback.proofs.Replays.{run_snoc}
 use Rattle.ga_event.specs.Next.{next}
@@ -36,7 +36,7 @@ use Rattle.ga_flow.specs.declared.part.Part.{Part}
 use Rattle.ga_flow.specs.declared.part.Part.TheVariants as part
 use Rattle.ga_flow.specs.Flow.{Flow, send_flow, take_flow}
 use Rattle.ga_origin.specs.declared.value.Value.{Value}
-use Rattle.ga_origin.specs.Origins.{place_after, node_after, flow_told, flow_at, moved_from, moved_at, told_part, value_of_step, origin_from, origin_of}
+use Rattle.ga_origin.specs.Origins.{place_after, node_after, flow_told, flow_at, moved_from, moved_at, told_part, value_of_step, origin_from}
 use Rattle.ga_origin.specs.Fetched.{cell_of_target, fetched_by, fetched_cell}
 use Rattle.ga_origin.specs.kept.Moving.{by_kind}
 use Rattle.ga_origin.proofs.Made.{moved_on}

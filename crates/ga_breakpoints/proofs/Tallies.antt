@@ -1,6 +1,6 @@
 -- The hits that a run counts are those that are counted over the kept events.
 use Rattle.std.proofs.Common.{◌≡◌, ◌≢◌, ℕ, zero, suc, ◌+◌, ◌-◌, ◌%◌, ◌^◌, ◌<◌, ◌≤◌, ◌==◌, Bool, true, false, ◌&&◌, cond, List, [], ◌∷◌, ◌++◌, length, take, length-append, Option, Some, None, Ok, Err, IsSome, refl, sym, subst, ◌∙◌, ap, arith}
-use Rattle.std.specs.Prelude.{Result, nat_lt, slice_set, slice_index_or, replicate, unwrap_or}
+use Rattle.std.specs.Prelude.{Result, nat_lt, slice_set, replicate, unwrap_or}
 use Rattle.std.specs.Int.{from_bool}
 use Rattle.std.specs.List.{slice_get}
 use Rattle.std.specs.Result.{result_ok}
@@ -29,7 +29,6 @@ use Rattle.ga_origin.specs.Fetched.{fetched_cell}
 use Rattle.ga_search.specs.Conditions.{is_step_of, is_own_at, stores_in, node_before}
 use Rattle.ga_search.specs.Running.{Running, told_by_step, moved_by}
 use Rattle.ga_search.specs.Watched.{chosen_first, told_first, first_moved, after_first}
-use Rattle.ga_adapter.specs.declared.spots.Spot.{Spot}
 use Rattle.ga_adapter.specs.Spots.{spot_by}
 use Rattle.ga_breakpoints.specs.declared.back.Watched.{Watched}
 use Rattle.ga_breakpoints.specs.declared.back.Watched.TheVariants.{Comes, Writes}
@@ -37,7 +36,7 @@ use Rattle.ga_breakpoints.specs.declared.breakpoint.Breakpoint.{Breakpoint}
 use Rattle.ga_breakpoints.specs.declared.condition.HitCount.{HitCount}
 use Rattle.ga_breakpoints.specs.declared.hits.HitTally.{HitTally}
 use Rattle.ga_breakpoints.specs.Back.{arrives, is_at_spot, comes_to}
-use Rattle.ga_breakpoints.specs.Breakpoints.{has_done, is_hit, counts_at, one_hit_more, hit_counted, one_counted, counted_from, tally_behind}
+use Rattle.ga_breakpoints.specs.Breakpoints.{has_done, is_hit, counts_at, one_hit_more, hit_counted, one_counted, counted_from}
 use Rattle.ga_breakpoints.specs.Conditions.{meets_test}
 use Rattle.ga_breakpoints.specs.Going.{tally_told, tally_on}
 use Rattle.ga_breakpoints.specs.Reversing.{stores_told, did, has_hit, hits_among, counted_by, counted_kept, with_count, hits_from, kept_tally}

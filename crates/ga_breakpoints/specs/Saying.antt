@@ -1,6 +1,6 @@
 -- Conditions and hit conditions as a client says them (Debug Adapter Protocol, "SourceBreakpoint": the forms are the debugger's own). A condition is NAME
 -- SIGN NUMBER, one space between: NAME is that of a register or a word of a stack, as "VariablesRequest" shows them, or a cell in brackets.
-use Rattle.std.specs.Prelude.{ℕ, ◌+◌, ◌-◌, ◌*◌, ◌%◌, ◌==◌, nat_lt, nat_le, ◌&&◌, ◌||◌, if◌then◌else◌, [], ◌∷◌, take, drop, length, slice_index, slice_range, codes, bytes_eq, Option, Some, None, option_map, option_and_then}
+use Rattle.std.specs.Prelude.{ℕ, ◌+◌, ◌-◌, ◌*◌, ◌%◌, ◌==◌, nat_le, ◌&&◌, ◌||◌, if◌then◌else◌, [], ◌∷◌, take, drop, length, slice_index, slice_range, codes, bytes_eq, Option, Some, None, option_map, option_and_then}
 use Rattle.ga_text.specs.Lines.{Text}
 use Rattle.ga_text.specs.Parsing.{cut, number_in, fitting}
 use Rattle.ga_ports.specs.Steps.{◌>>=◌}

@@ -31,7 +31,7 @@ Commands (NNN is a node, three decimal digits; K a step, counted from 1; HH two 
 
 Exit status: 0 done, 1 image refused, 2 a stream failed, 3 command line refused.";
 
-/// What `ga144 explore --help` says behind the options.
+/// What `ga144 explore --help` says behind the options. The lines of the commands that only tell go where `{commands}` stands.
 const EXPLORING: &str = "\
 Reads an image or source (up to its line `end`) from FILE, or from standard input where none is given, and then commands from
 standard input, and knows each command of debug. So a person at a terminal types: ga144 explore fault.f18
@@ -44,17 +44,7 @@ Further commands (N is a number of events; NNN and MMM are nodes, K a step, HH t
   run random SEED ..     nodes drawn by a generator with this seed
   back until COND        take the newest event back behind which COND held, and all since
   back NNN until COND    take the newest such step of NNN back, with all that depends on it
-  chip                   show what each node does
-  who                    show who waits for whom, and which nodes can never go on
-  effects NNN K          show what rewind NNN K would take, and take nothing
-  words NNN MMM          show the words that went from NNN to MMM
-  writes NNN HH          show the steps that wrote the cell HH of NNN, the newest first
-  at NNN K [N]           show the steps from K - N to K + N of NNN, each with registers behind it [N: 3]
-  whence NNN K           show the steps whose values went into what step K of NNN made, down to literals and loaded cells
-  because NNN K [N]      show the last N steps of NNN before its step K at which a value decided where it went on [N: 3]
-  races [NNN]            show the steps that could have come out otherwise in another order, and by which commands
-  save                   show the kept events as lines step NNN
-  help                   show the commands
+{commands}
 
 COND is one of:
   pass NNN MMM = W       the word W went from NNN to MMM
@@ -200,7 +190,7 @@ pub enum Settings {
 /// Why there are no settings.
 #[derive(Debug, Drop, Error)]
 pub enum LineFault {
-    /// Help or the version was asked for. This is its text.
+    /// Help or the version was asked for. This is its text; in that of `explore` a line `{commands}` stands for the session's own lines.
     #[error("{0}")]
     Help(String),
     /// The words are no command line of the program. The text tells which word, and what is expected.

@@ -6,7 +6,7 @@ use Rattle.std.proofs.lemmas.List.{drop_more, drop_all}
 use Rattle.ga_explorer.specs.Forms.{place_from, form_row_text, form_rows_text}
 use Rattle.ga_explorer.specs.NoCommand.{form_of_command, near_form_in, is_near, is_upper}
 use Rattle.ga_explorer.specs.kept.Forms.{entry_of}
-use Rattle.ga_explorer.specs.declared.commands.Row.{Row}
+use Rattle.ga_explorer.specs.declared.forms.Row.{Row}
 
 named : (word : List ℕ) (rows : List Row) (i : ℕ) (d : Row) → i < length rows → (b : Bool) → b ≡ pointwise nat_eq (get_or rows i d).name.now word
     → form_of_command word (map entry_of (drop i rows)) ≡ (if b then Some (get_or rows i d).form.now else form_of_command word (map entry_of (drop (i + 1) rows)))

@@ -1,8 +1,7 @@
 //! The commands of exploring: of each how a line spells it, what `help` says of it, and what answers it.
 
 ghost use Rattle.std.specs.Prelude.{◌≡◌, map};
-ghost use Rattle.ga_text.specs.kept.Output.{Says};
-ghost use Rattle.ga_explorer.specs.Commands.{rows, request_in, lone_request, lone_question, named_request, named_question, Explored};
+ghost use Rattle.ga_explorer.specs.Commands.{rows, request_in, lone_request, lone_question, named_request, named_question};
 ghost use Rattle.ga_explorer.specs.kept.Exploring.{exploring};
 ghost use Rattle.ga_explorer.specs.kept.Telling.{IsTold};
 ghost use Rattle.ga_explorer.specs.kept.Forms.{entry_of};
@@ -10,13 +9,17 @@ ghost use Rattle.ga_explorer.specs.kept.Forms.{entry_of};
 use crate::arguments::{node_and_cell, node_and_step, node_and_steps, two_nodes};
 use crate::back_request::back_of;
 use crate::conditions_request::{Conditions, no_condition};
-use crate::forms::{place_of, say_command, say_help};
+use crate::forms::{Row, place_of, say_command, say_help};
 use crate::run_request::{MOST_EVENTS, run_of};
 use crate::which::Which;
+use ga_answers::{
+    glance, say_around, say_because, say_effects, say_races, say_saved, say_whence, say_who,
+    say_words, say_writes,
+};
 use ga_grid::NodeId;
 use ga_lab::Lab;
 use ga_notes::Notes;
-use ga_search::{Schedule, conditions_asked, run_schedule};
+use ga_search::Schedule;
 use ga_text::{Output, WriteFailed, cut, node_in};
 use std::alloc::Global;
 use std::io::Write;
@@ -61,7 +64,7 @@ pub enum Question {
     At {
         node: NodeId,
         which: Which,
-        around: u32,
+        most: u32,
     },
     /// `whence`: tells the steps whose values went into what a step of a node made.
     Whence {
@@ -159,12 +162,8 @@ fn named_question(name: &[u8], arguments: &[u8]) -> Option<Question>
         let (node, address) = node_and_cell(arguments)?;
         Some(Question::Writes { node, address })
     } else if name == b"at".as_slice() {
-        let (node, which, around) = node_and_steps(arguments)?;
-        Some(Question::At {
-            node,
-            which,
-            around,
-        })
+        let (node, which, most) = node_and_steps(arguments)?;
+        Some(Question::At { node, which, most })
     } else if name == b"whence".as_slice() {
         let (node, which) = node_and_step(arguments)?;
         Some(Question::Whence { node, which })
@@ -181,43 +180,11 @@ fn named_question(name: &[u8], arguments: &[u8]) -> Option<Question>
     }
 }
 
-/// Carries a command of exploring out.
-///
-/// # Errors
-/// A write failed.
-pub(crate) fn explored<W: Write>(
-    alloc: Global,
-    lab: &mut Lab,
-    notes: &Option<Notes>,
-    asked: ExplorerCommand,
-    output: &mut Output,
-    writer: &mut W,
-) -> Result<(), WriteFailed>
-    ensures { Says result (λ text. Explored (exploring lab.old notes.now) asked text (exploring lab.new notes.now))
-        (W.contents writer.old) output.old (W.contents writer.new) output.new }
-{
-    match asked {
-        ExplorerCommand::Run {
-            schedule,
-            most,
-            until,
-        } => {
-            let watched = conditions_asked(&until);
-            let ran = run_schedule(lab, schedule, u64::from(most), watched);
-            output.say_blocks(writer, ga_answers::ran_text(&ran, watched.len()).as_slice())
-        }
-        ExplorerCommand::BackUntil { only, until } => {
-            ga_answers::say_back(lab, conditions_asked(&until), only, output, writer)
-        }
-        ExplorerCommand::Tell(question) => told(alloc, lab, notes, question, output, writer),
-    }
-}
-
 /// Tells what is asked for.
 ///
 /// # Errors
 /// A write failed.
-fn told<W: Write>(
+pub(crate) fn told<W: Write>(
     alloc: Global,
     lab: &mut Lab,
     notes: &Option<Notes>,
@@ -231,47 +198,29 @@ fn told<W: Write>(
     match asked {
         Question::Effects { node, which } => {
             let step = which.meant(lab, node);
-            ga_answers::say_effects(alloc, lab, node, step, output, writer)
+            say_effects(alloc, lab, node, step, output, writer)
         }
-        Question::Words { from, to } => ga_answers::say_words(lab, from, to, output, writer),
-        Question::Writes { node, address } => ga_answers::say_writes(
-            lab, node, address, output, writer,
-        ),
-        Question::At {
-            node,
-            which,
-            around,
-        } => {
+        Question::Words { from, to } => say_words(lab, from, to, output, writer),
+        Question::Writes { node, address } => say_writes(lab, node, address, output, writer),
+        Question::At { node, which, most } => {
             let step = which.meant(lab, node);
-            ga_answers::say_around(lab, notes, node, step, around, output, writer)
+            say_around(lab, notes, node, step, most, output, writer)
         }
         Question::Whence { node, which } => {
             let step = which.meant(lab, node);
-            ga_answers::say_whence(alloc, lab, notes, node, step, output, writer)
+            say_whence(alloc, lab, notes, node, step, output, writer)
         }
         Question::Because { node, which, most } => {
             let step = which.meant(lab, node);
-            ga_answers::say_because(lab, notes, node, step, most, output, writer)
+            say_because(lab, notes, node, step, most, output, writer)
         }
-        Question::Races { only } => ga_answers::say_races(alloc, lab, only, output, writer),
-        Question::Who => ga_answers::say_who(lab, output, writer),
-        Question::Chip => output.say_blocks(writer, ga_answers::glance(lab).as_slice()),
-        Question::Save => ga_answers::say_saved(lab, output, writer),
+        Question::Races { only } => say_races(alloc, lab, only, output, writer),
+        Question::Who => say_who(lab, output, writer),
+        Question::Chip => output.say_blocks(writer, glance(lab).as_slice()),
+        Question::Save => say_saved(lab, output, writer),
         Question::Help => say_help(output, writer),
         Question::HelpOf(place) => say_command(place, output, writer),
     }
-}
-
-/// A command of a session of exploring.
-pub(crate) struct Row {
-    /// The word that a line of it begins with.
-    pub(crate) name: &'static [u8],
-    /// How it is spelled. What stands in brackets may be left out.
-    pub(crate) form: &'static [u8],
-    /// What `help` says behind the form, up to the line's end.
-    pub(crate) does: &'static [u8],
-    /// What `help` of this command says besides: what it answers, and an example.
-    pub(crate) more: &'static [u8],
 }
 
 /// The commands, in the order of `help`.
@@ -281,132 +230,154 @@ static ROWS: &[Row] = &[
         form: b"run [greedy|random SEED] [N] [until COND]",
         does: b"\n                      make up to N events, in rounds or in this order\nCOND: pass NNN MMM = W, pass NNN MMM J, step NNN K, stop, stop NNN, wait NNN,\n      mem NNN HH = W, p NNN X, reach NNN X, change NNN HH [= W], COND or COND\nX: an address, a label, line N\n",
         more: b"answers: reached M EVENT, made M, quiet M or full M: how many events, and why no more\nexample: run 1000 until stop or reach 001 000012\n",
+        usage: "",
     },
     Row {
         name: b"chip",
         form: b"chip",
         does: b"                  what each node does\n",
         more: b"answers: rows 7 to 0 of nodes: . made no step, * runs, x stopped, @ waits for code, ? reads, ! writes\nexample: chip\n",
+        usage: "  chip                   show what each node does\n",
     },
     Row {
         name: b"who",
         form: b"who",
         does: b"                   who waits for whom, and which nodes can never go on\n",
         more: b"answers: for each that waits what it does, and the nodes that it awaits; then stuck, ring and idle\nexample: who\n",
+        usage: "  who                    show who waits for whom, and which nodes can never go on\n",
     },
     Row {
         name: b"effects",
         form: b"effects NNN K",
         does: b"         what rewind NNN K would take\n",
         more: b"answers: effects X N, and for each of N nodes its first step that would go, and how many would\nexample: effects 001 last\n",
+        usage: "  effects NNN K          show what rewind NNN K would take, and take nothing\n",
     },
     Row {
         name: b"words",
         form: b"words NNN MMM",
         does: b"         the words that went from NNN to MMM\n",
         more: b"answers: words NNN MMM C, and for each of C words its number, the steps of both nodes and the word\nexample: words 000 001\n",
+        usage: "  words NNN MMM          show the words that went from NNN to MMM\n",
     },
     Row {
         name: b"writes",
         form: b"writes NNN HH",
         does: b"         the steps that wrote the cell HH of NNN, the newest first\n",
         more: b"answers: for each the step, the opcode and the word that stood there then\nexample: writes 001 20\n",
+        usage: "  writes NNN HH          show the steps that wrote the cell HH of NNN, the newest first\n",
     },
     Row {
         name: b"at",
         form: b"at NNN K [N]",
         does: b"          N steps before and behind step K of NNN, with registers\n",
         more: b"answers: for each the step, what it did, and the registers t, s, r, a, b and p behind it\nexample: at 001 last 5\n",
+        usage: "  at NNN K [N]           show the steps from K - N to K + N of NNN, each with registers behind it [N: 3]\n",
     },
     Row {
         name: b"whence",
         form: b"whence NNN K",
         does: b"          the steps whose values went into what step K of NNN made\n",
         more: b"answers: a tree: below each step, two blanks deeper, the steps that made the values it used\nexample: whence 001 last\n",
+        usage: "  whence NNN K           show the steps whose values went into what step K of NNN made, down to literals and loaded cells\n",
     },
     Row {
         name: b"because",
         form: b"because NNN K [N]",
         does: b"     N steps before step K at which a value decided where NNN went on\nK of effects, at, whence, because: a step's number, or last\n",
         more: b"answers: for each the step and the word that it tested, and below it the step that made that word\nexample: because 001 last\n",
+        usage: "  because NNN K [N]      show the last N steps of NNN before its step K at which a value decided where it went on [N: 3]\n",
     },
     Row {
         name: b"races",
         form: b"races [NNN]",
         does: b"           steps that could have come out otherwise, and how\n",
         more: b"answers: races N, and for each of N steps what else it could have got, and two commands that lead there\nexample: races 001\n",
+        usage: "  races [NNN]            show the steps that could have come out otherwise in another order, and by which commands\n",
     },
     Row {
         name: b"save",
         form: b"save",
         does: b"                  the kept events as lines of debug\n",
         more: b"answers: step NNN for each kept event, the oldest first\nexample: save\n",
+        usage: "  save                   show the kept events as lines step NNN\n",
     },
     Row {
         name: b"help",
         form: b"help [COMMAND]",
         does: b"        these lines, or more of one command\n",
         more: b"answers: the command's form and what it does, what it answers, and an example\nexample: help why\n",
+        usage: "  help                   show the commands\n",
     },
     Row {
         name: b"step",
         form: b"step NNN",
         does: b"              make the next event of NNN\n",
         more: b"answers: NNN K and what the step did, or pass WWW K RRR J W: the word W went from WWW to RRR\nexample: step 001\n",
+        usage: "",
     },
     Row {
         name: b"back",
         form: b"back [[NNN] until COND]",
         does: b"\n                      take the newest event back; or that behind which COND held last,\n                      with all since; or such a step of NNN, with what depends on it\n",
         more: b"answers: removed X kept M: X events went, and M are left; or none, and nothing changes, where COND held behind no event\nexample: back until change 001 20\n",
+        usage: "",
     },
     Row {
         name: b"rewind",
         form: b"rewind NNN K",
         does: b"          take step K of NNN back, with all that depends on it\n",
         more: b"answers: removed X kept M: X events went, and M are left\nexample: rewind 001 4\n",
+        usage: "",
     },
     Row {
         name: b"node",
         form: b"node NNN",
         does: b"              what NNN holds\n",
         more: b"answers: the state, the registers and both stacks, the top first\nexample: node 001\n",
+        usage: "",
     },
     Row {
         name: b"mem",
         form: b"mem NNN HH",
         does: b"            the word at HH of the memory of NNN\n",
         more: b"answers: mem NNN HH W: RAM below 80, ROM from there on\nexample: mem 001 20\n",
+        usage: "",
     },
     Row {
         name: b"trace",
         form: b"trace NNN",
         does: b"             the steps of NNN\n",
         more: b"answers: trace NNN C, and C events, the oldest first\nexample: trace 001\n",
+        usage: "",
     },
     Row {
         name: b"why",
         form: b"why NNN K MMM J",
         does: b"       by which events step K of NNN led to step J of MMM\n",
         more: b"answers: chain C, and C events from the cause to what came of it; or independent\nexample: why 000 3 001 7, the cause first: did step 3 of 000 lead to step 7 of 001?\n",
+        usage: "",
     },
     Row {
         name: b"count",
         form: b"count",
         does: b"                 how many events are kept and were made\n",
         more: b"answers: kept K made M limit L\nexample: count\n",
+        usage: "",
     },
     Row {
         name: b"dump",
         form: b"dump",
         does: b"                  the chip as an image\n",
         more: b"answers: an image of format 2, which every command reads\nexample: dump\n",
+        usage: "",
     },
     Row {
         name: b"quit",
         form: b"quit",
         does: b"                  end\n",
         more: b"answers: nothing\nexample: quit\n",
+        usage: "",
     },
 ];
 

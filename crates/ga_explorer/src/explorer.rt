@@ -4,17 +4,18 @@ ghost use Rattle.std.specs.Prelude.{◌≡◌, ◌≤◌, ◌++◌, length, Some
 ghost use Rattle.ga_text.specs.Lines.{Bytes};
 ghost use Rattle.ga_text.specs.Output.{IsSaid, IsSaidOrCut};
 ghost use Rattle.ga_text.specs.kept.Output.{Says};
-ghost use Rattle.ga_explorer.specs.Commands.{request_in};
+ghost use Rattle.ga_explorer.specs.Commands.{request_in, Explored};
 ghost use Rattle.ga_explorer.specs.kept.Exploring.{exploring};
 ghost use Rattle.ga_explorer.specs.Answers.{ExploresOrQuits, AnswersOther, IsOfDebugger, IsNoCommand};
 ghost use Rattle.ga_console.specs.kept.Turns.{Turns};
 
-use crate::commands::{ExplorerCommand, explored, request_of};
+use crate::commands::{ExplorerCommand, request_of, told};
 use crate::forms::say_no_command;
 use ga_console::{Command, Responder, Turn, command_of};
 use ga_image::LINE_LIMIT;
 use ga_lab::Lab;
 use ga_notes::Notes;
+use ga_search::{conditions_asked, run_schedule};
 use ga_text::{Output, WriteFailed};
 use std::alloc::Global;
 use std::io::Write;
@@ -117,6 +118,38 @@ pub fn answer_line<W: Write>(
             Ok(Turn::Answered)
         }
         None => answer_other(alloc, lab, line, output, writer),
+    }
+}
+
+/// Carries a command of exploring out.
+///
+/// # Errors
+/// A write failed.
+fn explored<W: Write>(
+    alloc: Global,
+    lab: &mut Lab,
+    notes: &Option<Notes>,
+    asked: ExplorerCommand,
+    output: &mut Output,
+    writer: &mut W,
+) -> Result<(), WriteFailed>
+    ensures { Says result (λ text. Explored (exploring lab.old notes.now) asked text (exploring lab.new notes.now))
+        (W.contents writer.old) output.old (W.contents writer.new) output.new }
+{
+    match asked {
+        ExplorerCommand::Run {
+            schedule,
+            most,
+            until,
+        } => {
+            let watched = conditions_asked(&until);
+            let ran = run_schedule(lab, schedule, u64::from(most), watched);
+            output.say_blocks(writer, ga_answers::ran_text(&ran, watched.len()).as_slice())
+        }
+        ExplorerCommand::BackUntil { only, until } => {
+            ga_answers::say_back(lab, conditions_asked(&until), only, output, writer)
+        }
+        ExplorerCommand::Tell(question) => told(alloc, lab, notes, question, output, writer),
     }
 }
 

@@ -9,9 +9,24 @@ ghost use Rattle.ga_explorer.specs.Commands.{rows, command_text, place_of_form};
 ghost use Rattle.ga_explorer.specs.NoCommand.{form_of_command, near_form_in, form_for, is_near, are_exchanged, is_mark, is_return, has_blank_end, is_upper, cure, no_command};
 ghost use Rattle.ga_explorer.specs.kept.Forms.{entry_of};
 
-use crate::commands::{Row, rows};
+use crate::commands::rows;
 use ga_text::{Output, WriteFailed, cut};
+use std::fmt;
 use std::io::Write;
+
+/// A command of a session of exploring.
+pub(crate) struct Row {
+    /// The word that a line of it begins with.
+    pub(crate) name: &'static [u8],
+    /// How it is spelled. What stands in brackets may be left out.
+    pub(crate) form: &'static [u8],
+    /// What `help` says behind the form, up to the line's end.
+    pub(crate) does: &'static [u8],
+    /// What `help` of this command says besides: what it answers, and an example.
+    pub(crate) more: &'static [u8],
+    /// Its line in what `ga144 explore --help` says of those that only tell; none of others.
+    pub(crate) usage: &'static str,
+}
 
 /// Says what `help` answers: each command's form, and what it does.
 ///
@@ -40,6 +55,18 @@ fn say_row<W: Write>(row: &Row, output: &mut Output, writer: &mut W) -> Result<(
 {
     output.say_blocks(writer, row.form)?;
     output.say_blocks(writer, row.does)
+}
+
+/// What `ga144 explore --help` says of the commands that only tell, a line each.
+pub struct Usage;
+
+impl fmt::Display for Usage {
+    fn fmt<W: fmt::Write>(&self, f: &mut fmt::Formatter<W>) -> fmt::Result {
+        for row in rows() {
+            f.write_str(row.usage)?;
+        }
+        Ok(())
+    }
 }
 
 /// Says what `help` of one command answers, by its place: its form, what it does, what it answers, and an example.

@@ -19,6 +19,7 @@ mod which;
 pub use beginning::begin;
 pub use commands::{ExplorerCommand, Question};
 pub use explorer::{Explorer, answer_line};
+pub use forms::Usage;
 pub use front::{close, is_cut_off};
 pub use session::explore;
 pub use which::Which;

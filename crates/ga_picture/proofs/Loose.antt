@@ -1,10 +1,10 @@
 -- From what is marked of nodes to those that work by themselves.
-use Rattle.std.proofs.Common.{◌≡◌, ◌≢◌, ℕ, ◌<◌, ◌==◌, Bool, true, false, ◌&&◌, ◌||◌, List, length, Option, Some, None, refl, sym, ap, ◌∙◌, subst, ⊎_elim, eqb-true, eq-eqb, get_or, IsTrue}
+use Rattle.std.proofs.Common.{◌≡◌, ◌≢◌, ℕ, ◌<◌, ◌==◌, Bool, true, false, ◌&&◌, ◌||◌, List, length, Option, Some, None, refl, sym, ap, ◌∙◌, subst, ⊎_elim, eqb-true, eq-eqb}
 use Rattle.std.specs.Prelude.{not}
 use Rattle.std.specs.List.{list_any, All}
 use Rattle.std.proofs.lemmas.List.{get_or_default}
 use Rattle.std.proofs.lemmas.List.Folds.{Any-from_list_any, list_any-from_Any, list_any-append}
-use Rattle.std.proofs.lemmas.Bool.{not-true, not_from_false, both_ways, and_parts, and_from, or_cases, or_left, or_right, cases_Bool, false_from_ne_true, true_from_ne_false}
+use Rattle.std.proofs.lemmas.Bool.{not-true, not_from_false, both_ways, and_parts, and_from, or_cases, or_left, or_right, false_from_ne_true}
 use Rattle.ga_ports.specs.declared.side.Side.{Side}
 use Rattle.ga_ports.specs.declared.side.Side.TheVariants.{Right, Down, Left, Up}
 use Rattle.ga_grid.specs.Grid.{neighbour_of}
@@ -17,7 +17,7 @@ use Rattle.ga_event.specs.Touches.{nodes_of, looked_at, neighbours, seen_by}
 use Rattle.ga_event.specs.Touches as Touches
 use Rattle.ga_causal.specs.kept.Firsts.{any_of}
 use Rattle.ga_causal.specs.Dependence.{cause_touches, is_a_pass}
-use Rattle.ga_causal.specs.Equivalence.{sees, AreApart}
+use Rattle.ga_causal.specs.Equivalence.{sees}
 use Rattle.ga_causal.proofs.Looks.{any_neighbours}
 use Rattle.ga_picture.specs.declared.item.PictureItem.{PictureItem}
 use Rattle.ga_picture.specs.Runs.{at_place, no_item}

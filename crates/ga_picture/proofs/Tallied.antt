@@ -1,26 +1,22 @@
 -- Which nodes work by themselves by what was taken in of events, and what is told of them.
-use Rattle.std.proofs.Common.{◌≡◌, ℕ, ◌+◌, ◌<◌, ◌≤◌, ◌==◌, ◌↔◌, ◌%◌, Bool, true, false, ◌&&◌, ◌||◌, List, [], ◌∷◌, ◌++◌, length, map, set, get_or, refl, sym, ap, ◌∙◌, subst, inl, inr, ⊎_elim, arith, IsTrue, length-set, get_or-set_other, eq-eqb}
+use Rattle.std.proofs.Common.{◌≡◌, ℕ, ◌+◌, ◌<◌, ◌↔◌, ◌%◌, Bool, true, false, ◌&&◌, ◌||◌, List, [], ◌∷◌, ◌++◌, length, map, refl, sym, ap, ◌∙◌, ⊎_elim, arith, IsTrue}
 use Rattle.std.specs.Prelude.{not, if◌then◌else◌}
-use Rattle.std.specs.List.{All, list_any, count_by, filter, range_with_len}
-use Rattle.std.proofs.lemmas.List.Folds.{list_any-append}
-use Rattle.std.proofs.lemmas.List.Sums.{sum_by-append}
-use Rattle.std.proofs.lemmas.Grind.{get_or-set_at}
-use Rattle.std.proofs.lemmas.Bool.{not-true, not_from_false, both_ways, and_parts, and_from, and_left, cases_Bool, cases_eq, cases_lt, ne_eqb, true_from_ne_false, false_from_ne_true}
+use Rattle.std.specs.List.{All, list_any, filter, range_with_len}
+use Rattle.std.proofs.lemmas.Bool.{not-true, not_from_false, both_ways, and_parts, and_from, cases_lt, false_from_ne_true}
 use Rattle.std.proofs.lemmas.List.{get_or_past}
 use Rattle.std.proofs.lemmas.List.FromFn.{filter_of_map_range_with_len_more}
 use Rattle.ga_grid.specs.Grid.{node_id}
 use Rattle.ga_grid.specs.declared.node_id.NodeId.{NodeId}
 use Rattle.ga_grid.proofs.NodeIds.{node_id-number}
 use Rattle.ga_event.specs.Touches.{neighbours}
-use Rattle.ga_causal.specs.Dependence.{cause_touches, is_marked}
+use Rattle.ga_causal.specs.Dependence.{is_marked}
 use Rattle.ga_picture.specs.declared.item.PictureItem.{PictureItem}
 use Rattle.ga_picture.specs.declared.by_itself.ByItself.{ByItself}
 use Rattle.ga_picture.specs.declared.by_itself.Tally.{Tally}
-use Rattle.ga_picture.specs.Items.{actor}
 use Rattle.ga_picture.specs.Runs.{at_place}
 use Rattle.ga_picture.specs.Drawing.{IsTouched}
 use Rattle.ga_picture.specs.ByItself.{IsByItself, IsFree, steps_made}
-use Rattle.ga_picture.specs.kept.ByItself.{AreTallied, HasFew, HasJoined, IsHeld, is_on, is_look, touched_in, held_in, looking_in, is_loose, works_loose, works_joined}
+use Rattle.ga_picture.specs.kept.ByItself.{AreTallied, HasJoined, IsHeld, touched_in, held_in, looking_in, is_loose, works_loose, works_joined}
 use Rattle.ga_picture.proofs.Touching.{touched_below}
 use Rattle.ga_picture.proofs.Loose.{touched_from, into_touched, loose_in, free_from, loose_from}
 

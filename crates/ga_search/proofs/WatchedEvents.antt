@@ -1,9 +1,8 @@
 -- Events made one after another, where a node may go first and a watch looks on.
-use Rattle.std.proofs.Common.{◌≡◌, ℕ, zero, suc, ◌+◌, ◌-◌, ◌<◌, Bool, true, false, if◌then◌else◌, List, Some, None, Ok, inl, inr, refl, sym, ◌∙◌, ap, subst, arith, add-one}
+use Rattle.std.proofs.Common.{◌≡◌, ℕ, zero, suc, ◌+◌, ◌-◌, ◌<◌, Bool, true, false, if◌then◌else◌, Some, None, Ok, inl, inr, refl, sym, ◌∙◌, ap, subst, arith, add-one}
 use Rattle.std.specs.Prelude.{Option, is_some, IsSome}
 use Rattle.std.specs.Result.{result_ok}
 use Rattle.std.proofs.lemmas.Bool.{cases_lt}
-use Rattle.ga_node.specs.Record.{NodeRecord}
 use Rattle.ga_grid.specs.declared.node_id.NodeId.{NodeId}
 use Rattle.ga_event.specs.declared.made.Made.{Made}
 use Rattle.ga_lab.specs.Machine.{State, chip_of, step_answer, stepped}
@@ -12,7 +11,7 @@ use Rattle.ga_search.specs.declared.watched.WatchedEnd.TheVariants as the_end
 use Rattle.ga_search.specs.declared.schedule.Schedule.{Schedule}
 use Rattle.ga_search.specs.Schedules.{passed_on}
 use Rattle.ga_races.specs.Ready.{can_go}
-use Rattle.ga_search.specs.Running.{Running, running, chosen, told_by_step, moved_by, run_moved, after_events, IsQuiet}
+use Rattle.ga_search.specs.Running.{Running, running, chosen, told_by_step, moved_by, run_moved, after_events}
 use Rattle.ga_search.specs.Watched.{chosen_first, told_first, first_moved, after_first, AreMadeFirst, Watching, seen_told, ends_told, watch_after, ends_behind, NeverEnds, IsHaltedFirst, HasEndedWatched}
 
 -- ---- who makes the next event

@@ -1,5 +1,5 @@
 -- What the events of each node are like, as the code keeps it.
-use Rattle.std.specs.Prelude.{◌≡◌, ℕ, ◌<◌, ◌≤◌, Bool, true, ◌&&◌, not, List, length, slice_index, slice_index_or}
+use Rattle.std.specs.Prelude.{◌≡◌, ℕ, ◌<◌, ◌≤◌, Bool, true, ◌&&◌, not, List, length, slice_index}
 use Rattle.std.specs.List.{list_any}
 use Rattle.ga_event.specs.Touches.{neighbours}
 use Rattle.ga_causal.specs.Dependence.{cause_touches, is_a_pass, is_marked}

@@ -1,5 +1,5 @@
 -- What an own event needs so that one of the conditions of a run can hold right after it.
-use Rattle.std.specs.Prelude.{◌≡◌, ℕ, ◌+◌, ◌%◌, ◌≤◌, ◌==◌, nat_lt, Bool, true, false, ◌&&◌, not, List, Some}
+use Rattle.std.specs.Prelude.{◌≡◌, ℕ, ◌+◌, ◌%◌, ◌≤◌, ◌==◌, nat_lt, Bool, false, ◌&&◌, not, List, Some}
 use Rattle.std.specs.List.{slice_get}
 use Rattle.ga_node.specs.Record.{NodeRecord}
 use Rattle.ga_node.specs.declared.kind.Kind.{Kind}

@@ -1,4 +1,4 @@
-use Rattle.std.proofs.Common.{◌≡◌, ◌∙◌, ◌||◌, ℕ, Option, Some, ap, sym, subst}
+use Rattle.std.proofs.Common.{◌∙◌, ◌||◌, ℕ, Option, Some, ap, sym, subst}
 use Rattle.std.specs.Prelude.{is_some}
 use Rattle.ga_event.specs.declared.made.Made.{Made}
 use Rattle.ga_grid.specs.declared.node_id.NodeId.{NodeId}

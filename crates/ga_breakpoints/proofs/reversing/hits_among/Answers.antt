@@ -1,6 +1,4 @@
-use Rattle.std.proofs.Common.{◌≡◌, ◌∙◌, ◌+◌, ◌-◌, sym, arith}
-use Rattle.std.specs.Int.{from_bool}
-use Rattle.ga_breakpoints.specs.Reversing.{hits_among}
+use Rattle.std.proofs.Common.{◌∙◌, ◌-◌, arith}
 use Rattle.ga_breakpoints.proofs.Reversals.{hit_more, no_hits}
 use Rattle.ga_breakpoints.proofs.reversing.hits_among.Goals as goal
 

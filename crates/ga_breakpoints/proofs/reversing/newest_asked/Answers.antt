@@ -1,4 +1,4 @@
-use Rattle.std.proofs.Common.{◌≡◌, ◌∙◌, ◌-◌, Some, sym, arith}
+use Rattle.std.proofs.Common.{◌∙◌, ◌-◌, sym, arith}
 use Rattle.ga_breakpoints.specs.declared.condition.HitCount.{HitCount}
 use Rattle.ga_breakpoints.proofs.Reversals.{hit_more, newest_here, newest_before, newest_never}
 use Rattle.ga_breakpoints.proofs.reversing.newest_asked.Goals as goal

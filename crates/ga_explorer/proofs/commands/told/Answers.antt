@@ -10,7 +10,7 @@ returns-in-Effects-clause-said g c = record {
 
 pub returns-in-At-clause-said : goal.returns-in-At-clause-said
 returns-in-At-clause-said g c = record {
-  meant = question.At c.in-At.node c.in-At.which c.in-At.around;
+  meant = question.At c.in-At.node c.in-At.which c.in-At.most;
   is = c.in-At.is;
   said = rw (← c.meant-step-in-At.ensures) c.say_around.ensures;
 }

@@ -1,4 +1,4 @@
-use Rattle.std.proofs.Common.{◌≡◌, ◌∙◌, sym}
+use Rattle.std.proofs.Common.{sym}
 use Rattle.ga_lab.specs.Machine.{chip_of}
 use Rattle.ga_search.specs.Running.{running}
 use Rattle.ga_search.proofs.Stepping.{quiet_is}

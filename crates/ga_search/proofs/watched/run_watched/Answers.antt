@@ -1,4 +1,4 @@
-use Rattle.std.proofs.Common.{◌≡◌, ◌∙◌, true, false, refl, ap, sym, arith, subst}
+use Rattle.std.proofs.Common.{◌≡◌, ◌∙◌, true, false, refl, ap, arith, subst}
 use Rattle.std.specs.Prelude.{is_some}
 use Rattle.ga_search.specs.kept.Ready.{HoldsReady}
 use Rattle.ga_search.specs.Running.{Running, running}

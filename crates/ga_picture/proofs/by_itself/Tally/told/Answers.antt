@@ -1,4 +1,4 @@
-use Rattle.std.proofs.Common.{◌≡◌, ◌+◌, ◌<◌, List, [], Vec, Global, ap, subst, sym, ◌∙◌, arith}
+use Rattle.std.proofs.Common.{◌≡◌, ◌+◌, Vec, Global, ap, ◌∙◌, arith}
 use Rattle.ga_causal.specs.Dependence.{is_marked}
 use Rattle.ga_picture.specs.declared.by_itself.ByItself.{ByItself}
 use Rattle.ga_picture.proofs.Tallied.{told_below, told_more, told_same}

@@ -5,7 +5,7 @@ use Rattle.ga_explorer.specs.kept.Exploring.{exploring}
 use Rattle.ga_explorer.specs.declared.commands.ExplorerCommand.TheVariants as command
 use Rattle.ga_explorer.proofs.Done.{answered, run_done, back_done}
 use Rattle.ga_answers.proofs.Told.{told_as}
-use Rattle.ga_explorer.proofs.commands.explored.Goals as goal
+use Rattle.ga_explorer.proofs.explorer.explored.Goals as goal
 
 pub returns-in-Run : goal.returns-in-Run
 returns-in-Run g c = λ before said h.
