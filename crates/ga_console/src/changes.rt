@@ -3,20 +3,16 @@ ghost use Rattle.ga_text.specs.kept.Output.{Says};
 ghost use Rattle.ga_console.specs.Replies.{Does};
 ghost use Rattle.ga_console.specs.declared.command.Command.TheVariants.{Step, Back, Rewind};
 
+use super::reply::Said;
 use ga_display::{refusal_text, say_made, say_removed};
 use ga_grid::NodeId;
 use ga_lab::Lab;
-use ga_text::{Output, WriteFailed};
+use ga_text::Output;
 use std::io::Write;
 
 /// `step NNN`: makes the node's next event.
 #[inline(always)]
-pub fn step<W: Write>(
-    lab: &mut Lab,
-    node: NodeId,
-    output: &mut Output,
-    writer: &mut W,
-) -> Result<(), WriteFailed>
+pub fn step<W: Write>(lab: &mut Lab, node: NodeId, output: &mut Output, writer: &mut W) -> Said
     ensures { Says result (λ text. Does lab.old (Step node) text lab.new)
         (W.contents writer.old) output.old (W.contents writer.new) output.new }
 {
@@ -27,7 +23,7 @@ pub fn step<W: Write>(
 }
 
 /// `back`: takes the newest event back.
-pub fn back<W: Write>(lab: &mut Lab, output: &mut Output, writer: &mut W) -> Result<(), WriteFailed>
+pub fn back<W: Write>(lab: &mut Lab, output: &mut Output, writer: &mut W) -> Said
     ensures { Says result (λ text. Does lab.old Back text lab.new)
         (W.contents writer.old) output.old (W.contents writer.new) output.new }
 {
@@ -44,7 +40,7 @@ pub fn rewind<W: Write>(
     step: u32,
     output: &mut Output,
     writer: &mut W,
-) -> Result<(), WriteFailed>
+) -> Said
     ensures { Says result (λ text. Does lab.old (Rewind node step) text lab.new)
         (W.contents writer.old) output.old (W.contents writer.new) output.new }
 {

@@ -2,7 +2,6 @@
 
 ghost use Rattle.std.specs.Prelude.{◌≡◌, false, IfSome, IfNone, option_map};
 ghost use Rattle.ga_console.specs.Commands.{SpellsCommand};
-ghost use Rattle.ga_text.specs.Digits.{byte_in};
 ghost use Rattle.ga_text.specs.Parsing.{cut, node_in, number_in};
 ghost use Rattle.ga_console.specs.kept.Parsing.{step_in, rewind_in, memory_in, why_in, alone, with_arguments, is_head};
 ghost use Rattle.ga_console.specs.declared.command.Command.{Command};
@@ -156,16 +155,12 @@ fn spelled_by(line: &[u8]) -> Option<Command>
 fn alone(name: &[u8]) -> Option<Command>
     ensures { result ≡ alone name.now }
 {
-    if name == b"back".as_slice() {
-        Some(Command::Back)
-    } else if name == b"count".as_slice() {
-        Some(Command::Count)
-    } else if name == b"dump".as_slice() {
-        Some(Command::Dump)
-    } else if name == b"quit".as_slice() {
-        Some(Command::Quit)
-    } else {
-        None
+    match name {
+        b"back" => Some(Command::Back),
+        b"count" => Some(Command::Count),
+        b"dump" => Some(Command::Dump),
+        b"quit" => Some(Command::Quit),
+        _ => None,
     }
 }
 

@@ -5,23 +5,19 @@ ghost use Rattle.ga_display.specs.Texts.{made_text, chain_text};
 ghost use Rattle.ga_console.specs.Replies.{Does, steps_text};
 ghost use Rattle.ga_console.specs.declared.command.Command.TheVariants.{Node, Memory, Trace, Why, Count, Dump};
 
+use super::reply::Said;
 use ga_display::{
     refusal_text, say_chain_count, say_counts, say_made, say_memory, say_node, say_trace,
 };
 use ga_grid::NodeId;
 use ga_image::print;
 use ga_lab::{Lab, LabFault, Made};
-use ga_text::{Output, WriteFailed};
+use ga_text::Output;
 use std::alloc::Global;
 use std::io::Write;
 
 /// `node NNN`: shows the node.
-pub fn node<W: Write>(
-    lab: &Lab,
-    node: NodeId,
-    output: &mut Output,
-    writer: &mut W,
-) -> Result<(), WriteFailed>
+pub fn node<W: Write>(lab: &Lab, node: NodeId, output: &mut Output, writer: &mut W) -> Said
     ensures { Says result (λ text. Does lab.now (Node node) text lab.now)
         (W.contents writer.old) output.old (W.contents writer.new) output.new }
 {
@@ -35,7 +31,7 @@ pub fn memory<W: Write>(
     address: u8,
     output: &mut Output,
     writer: &mut W,
-) -> Result<(), WriteFailed>
+) -> Said
     ensures { Says result (λ text. Does lab.now (Memory node address) text lab.now)
         (W.contents writer.old) output.old (W.contents writer.new) output.new }
 {
@@ -43,7 +39,7 @@ pub fn memory<W: Write>(
 }
 
 /// `count`: shows how many events are kept, how many were made, and how many may be kept.
-pub fn count<W: Write>(lab: &Lab, output: &mut Output, writer: &mut W) -> Result<(), WriteFailed>
+pub fn count<W: Write>(lab: &Lab, output: &mut Output, writer: &mut W) -> Said
     ensures { Says result (λ text. Does lab.now Count text lab.now)
         (W.contents writer.old) output.old (W.contents writer.new) output.new }
 {
@@ -51,12 +47,7 @@ pub fn count<W: Write>(lab: &Lab, output: &mut Output, writer: &mut W) -> Result
 }
 
 /// `trace NNN`: shows the steps of the node, a line for each.
-pub fn trace<W: Write>(
-    lab: &Lab,
-    node: NodeId,
-    output: &mut Output,
-    writer: &mut W,
-) -> Result<(), WriteFailed>
+pub fn trace<W: Write>(lab: &Lab, node: NodeId, output: &mut Output, writer: &mut W) -> Said
     ensures { Says result (λ text. Does lab.now (Trace node) text lab.now)
         (W.contents writer.old) output.old (W.contents writer.new) output.new }
 {
@@ -67,12 +58,7 @@ pub fn trace<W: Write>(
 }
 
 /// Says how many steps there are, then each of them.
-fn say_steps<W: Write>(
-    node: NodeId,
-    steps: &[Made],
-    output: &mut Output,
-    writer: &mut W,
-) -> Result<(), WriteFailed>
+fn say_steps<W: Write>(node: NodeId, steps: &[Made], output: &mut Output, writer: &mut W) -> Said
     ensures { Says result (λ text. text ≡ steps_text node steps.now)
         (W.contents writer.old) output.old (W.contents writer.new) output.new }
 {
@@ -90,7 +76,7 @@ pub fn why<W: Write>(
     to: (NodeId, u32),
     output: &mut Output,
     writer: &mut W,
-) -> Result<(), WriteFailed>
+) -> Said
     ensures { Says result (λ text. Does lab.now (Why from.0 from.1 to.0 to.1) text lab.now)
         (W.contents writer.old) output.old (W.contents writer.new) output.new }
 {
@@ -102,11 +88,7 @@ pub fn why<W: Write>(
 }
 
 /// Says how many events a chain has, then what is told of each of them.
-fn say_chain<W: Write>(
-    events: &[Made],
-    output: &mut Output,
-    writer: &mut W,
-) -> Result<(), WriteFailed>
+fn say_chain<W: Write>(events: &[Made], output: &mut Output, writer: &mut W) -> Said
     ensures { Says result (λ text. text ≡ chain_text (length events.now) ++ flat_map made_text events.now)
         (W.contents writer.old) output.old (W.contents writer.new) output.new }
 {
@@ -118,12 +100,7 @@ fn say_chain<W: Write>(
 }
 
 /// `dump`: shows the chip as an image.
-pub fn dump<W: Write>(
-    alloc: Global,
-    lab: &Lab,
-    output: &mut Output,
-    writer: &mut W,
-) -> Result<(), WriteFailed>
+pub fn dump<W: Write>(alloc: Global, lab: &Lab, output: &mut Output, writer: &mut W) -> Said
     ensures { Says result (λ text. Does lab.now Dump text lab.now)
         (W.contents writer.old) output.old (W.contents writer.new) output.new }
 {

@@ -13,6 +13,9 @@ use ga_text::{Output, WriteFailed};
 use std::alloc::Global;
 use std::io::Write;
 
+/// What comes of saying an answer: a write may fail.
+pub type Said = Result<(), WriteFailed>;
+
 /// Answers a line, of which at least the first 201 bytes are here.
 ///
 /// # Errors
@@ -57,7 +60,7 @@ pub fn obey<W: Write>(
     command: Command,
     output: &mut Output,
     writer: &mut W,
-) -> Result<(), WriteFailed>
+) -> Said
     ensures { Says result (λ text. Does lab.old command text lab.new)
         (W.contents writer.old) output.old (W.contents writer.new) output.new }
 {
