@@ -67,6 +67,7 @@ fn closes(word: &[u8]) -> bool
 }
 
 /// What stands before the first blank or tab, and what behind it.
+#[tactic(auto, using(crate::proofs::Scanning::at_end, crate::proofs::Scanning::no_end))]
 fn first_part(text: &[u8]) -> (&[u8], &[u8])
     requires { 0 < length text.now }
     ensures splits { parted is_blank_byte text.now ≡ result.0.now ∷ parted is_blank_byte result.1.now }
@@ -134,6 +135,7 @@ fn push<'s>(
 }
 
 /// The first line and the text behind it.
+#[tactic(auto, using(crate::proofs::Scanning::at_end, crate::proofs::Scanning::no_end))]
 fn first_line(text: &[u8]) -> (&[u8], &[u8])
     requires { 0 < length text.now }
     ensures splits { source_lines text.now ≡ result.0.now ∷ source_lines result.1.now }
