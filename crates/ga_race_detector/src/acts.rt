@@ -10,7 +10,7 @@ ghost use Rattle.ga_event.specs.Apply.{writes_to, shows, beside_in, seen_from, r
 ghost use Rattle.ga_event.specs.Told.{steps_of};
 ghost use Rattle.ga_races.specs.HappensBefore.{causes_in, actions};
 ghost use Rattle.ga_races.specs.Acts.{actions_in};
-ghost use Rattle.ga_races.specs.kept.Changed.{is_changed, changed_sides, AreAlike};
+ghost use Rattle.ga_races.specs.kept.Changed.{shown_as, is_changed, changed_sides, AreAlike};
 ghost use Rattle.ga_lab.specs.Machine.{State, chip_of, causes_of, earlier};
 ghost use Rattle.ga_race_detector.specs.kept.Acts.{StoodSo, AllStood, IsAt, IsActAt, IsMoment, AreMoments};
 
@@ -65,6 +65,20 @@ fn writes_by(wait: u32, side: Side) -> bool
     }
 }
 
+// What a node whose wait has this number shows on a side: 0 nothing, 1 that it waits to read there, 2 that it waits to write.
+fn shown(wait: u32, side: Side) -> u8
+    requires { IsWaitCode wait }
+    ensures { result ≡ shown_as (shows (wait_of wait) side) }
+{
+    if reads_by(wait, side) {
+        1
+    } else if writes_by(wait, side) {
+        2
+    } else {
+        0
+    }
+}
+
 /// What a node whose wait has this number shows on a side.
 pub(crate) fn shown_by(code: u32, side: Side) -> Beside
     requires { IsWaitCode code }
@@ -85,7 +99,7 @@ fn is_changed(before: u32, behind: u32, side: Side) -> bool
     requires behind { IsWaitCode behind }
     ensures { result ≡ is_changed (wait_of before) (wait_of behind) side }
 {
-    shown_by(before, side) != shown_by(behind, side)
+    shown(before, side) != shown(behind, side)
 }
 
 // On which sides they do.
