@@ -50,6 +50,7 @@ pub(crate) fn word_of(first: u8, second: u8, third: u8, fourth: u8) -> u64
 
 /// The node whose name and a line feed these bytes are. The weighted digits guess it, and its name decides.
 #[inline(always)]
+#[tactic(auto, using(crate::proofs::AheadLemmas::guess_is_node, crate::proofs::AheadLemmas::name_same))]
 pub(crate) fn node_ahead(row: u8, tens: u8, ones: u8, feed: u8) -> Option<NodeId>
     ensures { IfSome result (λ node. (name_of_node node ++ codes "\n") ≡ (row ∷ tens ∷ ones ∷ feed ∷ [])) }
 {
@@ -103,6 +104,7 @@ fn rewind_ahead(text: &[u8]) -> Option<(Command, usize)>
 
 /// The same of a `count` too. Four bytes tell which it may be, from the second on: by the first four a `step` was told.
 #[inline(always)]
+#[tactic(auto, using(crate::proofs::AheadLemmas::count_front, crate::proofs::AheadLemmas::six_are))]
 fn soon_ahead(text: &[u8]) -> Option<(Command, usize)>
     ensures { IfSome result (λ told. IsAhead text.now told.0 told.1) }
 {
@@ -121,6 +123,7 @@ fn soon_ahead(text: &[u8]) -> Option<(Command, usize)>
 
 /// What stands in front of a text. `step`, `back`, `count` and `rewind` are told before the line feed is looked for.
 #[inline(always)]
+#[tactic(auto, using(crate::proofs::AheadLemmas::same_bytes, crate::proofs::AheadLemmas::step_front))]
 pub fn ahead_of(text: &[u8]) -> Ahead
     ensures { StandsAhead text.now result }
 {
@@ -167,6 +170,7 @@ fn line_ahead(text: &[u8]) -> Ahead
 
 /// The same, where the line has so many bytes.
 #[inline(always)]
+#[tactic(auto, using(crate::proofs::AheadLemmas::line_front))]
 fn told_ahead(text: &[u8], count: usize) -> Ahead
     requires { IsLineAhead text.now count }
     ensures { StandsAhead text.now result }

@@ -58,6 +58,7 @@ pub fn command_of(line: &[u8]) -> Option<Command>
 
 /// Whether a line begins with the first four bytes of a command.
 #[inline(always)]
+#[tactic(auto, using(crate::proofs::Heads::spelled_head))]
 fn has_head(line: &[u8]) -> bool
     ensures { result ≡ false → (command : Command) → ¬ SpellsCommand command line.now }
 {
@@ -85,6 +86,7 @@ fn is_head(word: u64) -> bool
 }
 
 /// The command that a line spells, whatever it begins with. A `node` or a `mem` is told without looking for its words.
+#[tactic(auto, using(crate::proofs::Spelled::told_only, crate::proofs::Spelled::spelled_read))]
 fn told_by(line: &[u8]) -> Option<Command>
     ensures some { IfSome result (λ command. SpellsCommand command line.now) }
     ensures only { IfSome result (λ command. (other : Command) → SpellsCommand other line.now → other ≡ command) }
@@ -109,6 +111,7 @@ fn shown_by(line: &[u8]) -> Option<Command>
 
 /// The node that a line shows.
 #[inline(always)]
+#[tactic(auto, using(crate::proofs::AheadLemmas::same_bytes, crate::proofs::Shown::node_line))]
 fn node_shown(line: &[u8]) -> Option<NodeId>
     ensures { IfSome result (λ node. SpellsCommand (Node node) line.now) }
 {
@@ -124,6 +127,7 @@ fn node_shown(line: &[u8]) -> Option<NodeId>
 
 /// The `mem` that a line spells.
 #[inline(always)]
+#[tactic(auto, using(crate::proofs::AheadLemmas::same_bytes, crate::proofs::Shown::memory_line))]
 fn memory_shown(line: &[u8]) -> Option<Command>
     ensures { IfSome result (λ command. SpellsCommand command line.now) }
 {

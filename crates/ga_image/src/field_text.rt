@@ -104,6 +104,7 @@ fn are_at_load(words: &[u32], at_load: u32) -> bool
 }
 
 /// Adds the line of words for a field, unless each of them is the one at load.
+#[tactic(auto, using(crate::proofs::Pieces::none_written, std::proofs::lemmas::Result::on_ok_weaker, crate::proofs::Pieces::one_written))]
 pub(crate) fn push_words_unless(
     text: &mut Vec<u8>,
     at_load: u32,

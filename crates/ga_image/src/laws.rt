@@ -28,6 +28,7 @@ pub fn reading_tells()
 
 /// What is printed of a chip is an image of a chip with the same records, where in each node the wait, the slot and the stop
 /// stand together. So reading it gives the chip back, unless memory is refused.
+#[tactic(auto, using(crate::proofs::PrintedBack::prints_back))]
 pub fn prints_back()
     ensures { (nodes : List NodeRecord) → AreSound nodes → AreSteady nodes → Describes (lines_of (printed nodes)) nodes }
 {}

@@ -136,6 +136,7 @@ fn holds_words(node: &Node) -> bool
 }
 
 /// Whether a cell of RAM isn't 0.
+#[tactic(auto, using(crate::proofs::Cells::looking_first, crate::proofs::Cells::looking_found, crate::proofs::Cells::looking_more, crate::proofs::Cells::looking_last))]
 fn holds_ram(node: &Node) -> bool
     ensures { result ≡ holds_word node.now.ram }
 {
@@ -148,6 +149,7 @@ fn holds_ram(node: &Node) -> bool
 }
 
 /// Whether a cell of ROM isn't 0.
+#[tactic(auto, using(crate::proofs::Cells::looking_first, crate::proofs::Cells::looking_found, crate::proofs::Cells::looking_more, crate::proofs::Cells::looking_last))]
 fn holds_rom(node: &Node) -> bool
     ensures { result ≡ holds_word node.now.rom }
 {
@@ -292,6 +294,7 @@ fn push_cell(text: &mut Vec<u8>, word: u32, remark: &[u8]) -> Result<(), AllocEr
 }
 
 /// Adds a remark, but for bytes that would end its line: what is said there is said in it alone.
+#[tactic(auto, using(crate::proofs::SourceLines::remark_none, crate::proofs::SourceLines::remark_both, crate::proofs::SourceLines::remark_more))]
 fn push_remark(text: &mut Vec<u8>, remark: &[u8]) -> Result<(), AllocError>
     ensures { OnOk result (AddsRemark (length remark.now) text.old.items text.new.items) }
 {

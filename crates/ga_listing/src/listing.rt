@@ -180,6 +180,7 @@ fn three_digits(number: u32) -> [u8; 3]
 }
 
 /// Adds a number in so many hexadecimal digits.
+#[tactic(auto, using(crate::proofs::HexLemmas::hex_more))]
 pub(crate) fn push_hex(text: &mut Vec<u8>, number: u32, digits: u32) -> Result<(), AllocError>
     requires { digits ≤ 8 }
     ensures { OnOk result (text.new.items ≡ text.old.items ++ hex_of digits number) }
