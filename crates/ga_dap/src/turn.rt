@@ -87,6 +87,7 @@ fn decline(alloc: Global, why: RequestError, out: &mut Outbox) -> Progress
 }
 
 /// The refusal of a request for want of memory, behind the message of this number.
+#[tactic(auto, using(crate::proofs::Sends::sent_again, ga_responses::proofs::Sent::sent_one))]
 fn refusal_of(alloc: Global, request: &ClientRequest, seq: u64) -> Result<Outbox, AllocError>
     ensures { IfOk result (λ out. SendsAll (sent_from seq) (refused_for_memory request.now) out) }
 {
@@ -153,6 +154,7 @@ fn answer_content<S: ProgramFiles>(
 }
 
 /// Takes the next message and answers it.
+#[tactic(auto, using(crate::proofs::Turned::takes_so))]
 fn take<S: ProgramFiles, R: Read>(
     alloc: Global,
     session: &mut Session,
@@ -210,6 +212,7 @@ fn is_time<A: Arrivals>(session: &Session, inbox: &Inbox, arrivals: &mut A) -> b
 }
 
 /// One turn.
+#[tactic(auto, using(crate::proofs::Turned::turned_so, crate::proofs::Turned::gone_on_so))]
 pub(crate) fn turn<S: ProgramFiles, A: Arrivals, R: Read>(
     alloc: Global,
     session: &mut Session,

@@ -69,6 +69,7 @@ impl<'s> Lines<'s> {
     }
 
     /// A line by its number, as it stands; the first without a byte order mark.
+    #[tactic(auto, using(crate::proofs::LineLemmas::line_found))]
     fn bare(&mut self, number: u32) -> &'s [u8]
         ensures line { result.now ≡ bare_line self.old number }
         ensures same { self.new ≡ self.old }
@@ -120,6 +121,7 @@ fn behind<'s>(source: &'s [u8], before: u32, rest: &'s [u8], wanted: u32) -> &'s
 }
 
 /// What stands behind so many lines.
+#[tactic(auto, using(crate::proofs::LineLemmas::none_left))]
 fn behind_lines(text: &[u8], count: u32) -> &[u8]
     ensures { source_lines result.now ≡ drop count (source_lines text.now) }
 {

@@ -52,6 +52,7 @@ pub(crate) fn marks_of(
 }
 
 /// Adds the marks of passes.
+#[tactic(auto, using(crate::proofs::RaceMarked::marked_next, crate::proofs::RaceMarked::marked_all))]
 fn add_passes(marks: &mut Vec<RaceMark>, shown: Shown<'_>, races: &[Race]) -> Result<(), Memory>
     requires { length shown.events.now < 2 ^ 32 }
     ensures { OnOk result (marks.new.items ≡ marks.old.items
@@ -113,6 +114,7 @@ fn step_of(what: &Otherwise) -> (NodeId, u32)
 }
 
 /// The index of the row of the event at a place, where it has one.
+#[tactic(auto, using(crate::proofs::RaceMarked::row_next, crate::proofs::RaceMarked::row_none))]
 fn row_of(rows: &[PictureRow], start: u32, place: u32) -> Option<usize>
     ensures { result ≡ row_from rows.now start place 0 }
 {

@@ -45,6 +45,7 @@ impl Runs {
     }
 
     /// Goes past an event: it is one more of its run, or ends the runs of the nodes that it touches or looks at.
+    #[tactic(auto, using(crate::proofs::Running::with_added, crate::proofs::Running::within_added, crate::proofs::Running::with_ended))]
     pub(crate) fn pass(&mut self, item: &PictureItem)
         requires sizes { HasNodes self.old }
         requires few { AreWithin self.old 4294967294 }

@@ -29,6 +29,7 @@ pub fn values_at<'v>(value: &'v Value, name: &str) -> &'v [Value]
 }
 
 /// The values of a list; none where it is no list.
+#[tactic(auto, using(crate::proofs::Listed::listed))]
 fn values_of(value: &Value) -> &[Value]
     ensures { map view result.now ≡ values_or (as_array (view value.now)) }
 {

@@ -14,6 +14,7 @@ fn add_numbers(text: &mut String, row: u32, tens: u32, ones: u32) -> Result<(), 
 }
 
 /// Adds three decimal digits.
+#[tactic(auto, using(crate::proofs::Sent::ok_then, crate::proofs::Digits::three_digits))]
 fn add_digits(text: &mut String, row: u32, tens: u32, ones: u32) -> Result<(), AllocError>
     requires row { row < 10 }
     requires tens { tens < 10 }

@@ -15,6 +15,7 @@ use ga_protocol::{ClientRequest, Outbox};
 use std::alloc::{AllocError, Global};
 
 /// `threads`.
+#[tactic(auto, using(crate::proofs::Sent::ok_then, crate::proofs::Sent::answers_so))]
 pub fn tell_threads(
     alloc: Global,
     program: &Debuggee,
