@@ -46,6 +46,7 @@ fn entries_before(shift: Shift) -> [Option<u8>; 9]
 
 /// Of each place of the return stack where the entry that stands there behind a step of a node stood before it, by how many steps it had made; none
 /// where the step put it there.
+#[tactic(auto, using(crate::proofs::Putting::entries_so))]
 pub fn entries_from(lab: &Lab, node: NodeId, step: u32) -> [Option<u8>; 9]
     requires { step ≤ steps_of node.number lab.now.kept }
     ensures { result ≡ entries_from lab.now node step }

@@ -70,6 +70,7 @@ fn scope(alloc: Global, node: NodeId, scope: Scope) -> Result<Value, AllocError>
 }
 
 /// The scopes of a node, in order.
+#[tactic(auto, using(crate::proofs::Lists::take_step))]
 fn all_of(alloc: Global, node: NodeId) -> Result<Vec<Value>, AllocError>
     ensures { IfOk result (λ list. map view list.items ≡ map (scope_of node.number) all_scopes) }
 {

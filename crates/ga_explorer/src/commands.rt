@@ -382,6 +382,7 @@ static ROWS: &[Row] = &[
 ];
 
 /// The commands.
+#[tactic(auto, unfolding(crate::specs::Commands::rows))]
 pub(crate) fn rows() -> &'static [Row]
     ensures { map entry_of result.now ≡ rows }
 {

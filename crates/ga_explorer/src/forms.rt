@@ -194,6 +194,7 @@ fn is_blank(line: &[u8]) -> bool
 }
 
 /// Whether a letter of a word is in upper case.
+#[tactic(auto, using(crate::proofs::Finding::upper_at, std::proofs::lemmas::List::drop_all), unfolding(crate::specs::NoCommand::is_upper))]
 fn is_upper(word: &[u8]) -> bool
     ensures { result ≡ is_upper word.now }
 {
@@ -219,6 +220,7 @@ fn form_for(word: &[u8]) -> &'static [u8]
 }
 
 /// The form of the command of this name.
+#[tactic(auto, using(crate::proofs::Finding::named_here, crate::proofs::Finding::named_behind, std::proofs::lemmas::List::drop_all), unfolding(crate::specs::NoCommand::form_of_command))]
 fn form_in(rows: &'static [Row], word: &[u8]) -> Option<&'static [u8]>
     ensures { option_map (λ form. form.now) result ≡ form_of_command word.now (map entry_of rows.now) }
 {
@@ -231,6 +233,7 @@ fn form_in(rows: &'static [Row], word: &[u8]) -> Option<&'static [u8]>
 }
 
 /// The form of the first command whose name is this word but for one letter.
+#[tactic(auto, using(crate::proofs::Finding::near_here, crate::proofs::Finding::near_behind, std::proofs::lemmas::List::drop_all), unfolding(crate::specs::NoCommand::near_form_in))]
 fn near_form_in(rows: &'static [Row], word: &[u8]) -> Option<&'static [u8]>
     ensures { option_map (λ form. form.now) result ≡ near_form_in word.now (map entry_of rows.now) }
 {
