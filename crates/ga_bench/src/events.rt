@@ -1,6 +1,6 @@
 //! The events of a node.
 
-use ga_node::{Kind, Node, Place, Seen};
+use ga_node::{Kind, Node, Place, Saved, Seen};
 use std::io;
 use std::time::Instant;
 
@@ -23,13 +23,18 @@ fn loaded(words: &[u32]) -> Node {
     node
 }
 
-/// Makes so many events, and sums their codes.
+/// Makes so many events with a list that is kept from one event to the next, and sums their codes.
 #[inline(never)]
 fn sum_kinds(node: &mut Node, count: u32) -> u32 {
     let mut sum = 0u32;
+    let mut saved = Saved::new();
     for _ in 0..count {
-        if let Ok((Kind::Run(code), _)) = node.own(Seen::nobody()) {
-            sum = sum.wrapping_add(u32::from(code));
+        if node.not_ready().is_none() {
+            saved = Saved::new();
+            let due = node.due();
+            if let Kind::Run(code) = node.do_into(due, Seen::nobody(), &mut saved) {
+                sum = sum.wrapping_add(u32::from(code));
+            }
         }
     }
     sum
@@ -37,10 +42,14 @@ fn sum_kinds(node: &mut Node, count: u32) -> u32 {
 
 /// The same, where each event is taken back and made again.
 #[inline(never)]
+#[tactic(auto, using(ga_node::proofs::Restoring::apart_from_ready))]
 fn sum_backs(node: &mut Node, count: u32) -> u32 {
     let mut sum = 0u32;
     for _ in 0..count {
-        if let Ok((_, saved)) = node.own(Seen::nobody()) {
+        if node.not_ready().is_none() {
+            let mut saved = Saved::new();
+            let due = node.due();
+            let _ = node.do_into(due, Seen::nobody(), &mut saved);
             node.restore(&saved);
         }
         if let Ok((Kind::Run(code), _)) = node.own(Seen::nobody()) {
