@@ -35,6 +35,11 @@ def files_in(folder, ending):
         yield from (f"{at}/{file}" for file in sorted(files) if file.endswith(ending))
 
 
+def is_kept(module):
+    """Whether its definitions serve private contracts alone."""
+    return "kept" in module.split(".")
+
+
 class Module:
     """A file of definitions, or of code: what its `use` lines bring, and its own definitions with their texts."""
 

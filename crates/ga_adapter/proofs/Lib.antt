@@ -3,5 +3,4 @@ pub mod Shifts
 pub mod Windows
 pub mod Standings
 pub mod SlotTexts
-pub mod FrameLists
 pub mod Putting

@@ -1,15 +1,21 @@
 -- Lists of values that grow by one at a time.
-use Rattle.std.proofs.Common.{◌≡◌, ℕ, zero, suc, ◌+◌, ◌-◌, ◌≤◌, ◌<◌, min, length, get_or, take, List, [], ◌∷◌, ◌++◌, map, refl, sym, ap, ◌∙◌, arith}
+use Rattle.std.proofs.Common.{◌≡◌, ℕ, zero, suc, ◌+◌, ◌-◌, ◌≤◌, ◌<◌, min, length, get_or, take, List, [], ◌∷◌, ◌++◌, map, refl, sym, ap, ◌∙◌, arith, ◌==◌, Bool, true, false, cond}
 use Rattle.std.specs.List.{range_with_len, filter}
 use Rattle.std.proofs.lemmas.List.{map-append, map-id, map_push, map_more}
 use Rattle.std.proofs.lemmas.List.FromFn.{map-range_with_len_more}
 use Rattle.std.proofs.lemmas.List.Elements.{filter-append}
-use Rattle.serde_json.specs.Data.{Data}
-use Rattle.serde_json.specs.View.{view}
+use Rattle.serde_json.specs.Data.{Data, array}
+use Rattle.serde_json.specs.View.{view, items_of}
 use Rattle.serde_json.specs.declared.value.Value.{Value}
 use Rattle.ga_grid.specs.declared.node_id.NodeId.{NodeId}
 use Rattle.ga_lab.specs.Machine.{State}
 use Rattle.ga_adapter.specs.Threads.{has_thread, thread_in, with_threads}
+use Rattle.ga_notes.specs.declared.notes.Notes.{Notes}
+use Rattle.ga_adapter.specs.declared.frames.SourceFile.{SourceFile}
+use Rattle.ga_adapter.specs.Calls.{open_calls}
+use Rattle.ga_adapter.specs.Frames.{frame, level_spot, stack_object, stack_trace}
+use Rattle.ga_adapter.specs.Json.{array_of}
+use Rattle.ga_adapter.specs.Variables.{places_asked}
 
 range_more : (n : ℕ) → range_with_len 0 (n + 1) ≡ range_with_len 0 n ++ n ∷ []
 range_more n = sym (map-id (range_with_len 0 (n + 1))) ∙ map-range_with_len_more (λ (x : ℕ). x) 0 n n (omega arith) ∙ ap (λ (z : List ℕ). z ++ n ∷ []) (map-id (range_with_len 0 n))
@@ -60,3 +66,26 @@ take_step f xs n d old new value below pushed same before =
 pub from_min : (size start many : ℕ) → many ≤ size - start → range_with_len (min start size) many ≡ range_with_len start many
 from_min size start zero few = refl
 from_min size start (suc many) few = let same : min start size ≡ start = omega (arith, few) in ap (λ (z : ℕ). range_with_len z (suc many)) same
+
+-- ---- the frames that are asked for
+
+at_most : (all : Bool) (left count : ℕ) → cond all left (min count left) ≤ left
+at_most true left count = omega arith
+at_most false left count = omega arith
+
+pub places_so : (first end total start count : ℕ) → first ≡ min start total → end ≡ first + cond (count == 0) (total - start) (min count (total - start))
+    → range_with_len first (end - first) ≡ places_asked total start count
+places_so first end total start count at size =
+    let many : ℕ = cond (count == 0) (total - start) (min count (total - start)) in
+    let few : many ≤ total - start = at_most (count == 0) (total - start) count in
+    ap (range_with_len first) (let e : end - first ≡ many = omega (arith, size) in e)
+    ∙ ap (λ (z : ℕ). range_with_len z many) at
+    ∙ from_min total start many few
+
+pub stack_so : (file : SourceFile) (notes : Notes) (s : State) (node : NodeId) (start count total : ℕ) (list : List Data) (range : List ℕ) → total ≡ length (open_calls s node) + 1
+    → list ≡ map (λ (k : ℕ). frame file notes node k (level_spot s node k)) range → range ≡ places_asked total start count
+    → stack_object (array (items_of list)) total ≡ stack_trace file notes s node start count
+stack_so file notes s node start count total list range many are places =
+    let of : ℕ → Data = λ k. frame file notes node k (level_spot s node k) in
+    ap (λ (z : List Data). stack_object (array (items_of z)) total) (are ∙ ap (λ (z : List ℕ). map of z) places)
+    ∙ ap (λ (z : ℕ). stack_object (array_of of (places_asked z start count)) z) many

@@ -213,7 +213,7 @@ fn many_asked(left: u64, count: u64) -> u64
 }
 
 /// The levels that are asked for: the first, and the one behind the last.
-#[tactic(auto, using(crate::proofs::FrameLists::places_so))]
+#[tactic(auto, using(crate::proofs::Lists::places_so))]
 fn levels_asked(total: u64, start: u64, count: u64) -> (u8, u8)
     requires { total ≤ 16 }
     ensures places { range_with_len result.0 (result.1 - result.0) ≡ places_asked total start count }

@@ -1,11 +1,5 @@
 pub mod Rows
-pub mod Told
 pub mod Saying
-pub mod Answering
-pub mod WaitingLines
 pub mod Saving
-pub mod Writing
-pub mod Around
 pub mod Because
-pub mod Trees
 pub mod Rings

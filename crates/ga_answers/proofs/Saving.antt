@@ -10,12 +10,11 @@ use Rattle.ga_event.specs.declared.made.Made.{Made}
 use Rattle.ga_event.specs.Apply.{Told, Did, Carried, replay}
 use Rattle.ga_event.specs.Told.{made_after, made_in, events_told}
 use Rattle.ga_event.specs.Next.{next}
-use Rattle.ga_lab.specs.Machine.{State, chip_of, told_of_kept, causes_of, step_answer, with_event, unless_refused, stepped}
-use Rattle.ga_lab.specs.Forward.{actor_of, stepped_all}
+use Rattle.ga_lab.specs.Machine.{State, chip_of, told_of_kept, causes_of, step_answer, with_event, unless_refused, stepped, actor_of, stepped_all}
 use Rattle.ga_lab.specs.declared.fault.LabFault.{LabFault}
 use Rattle.ga_search.proofs.WordCounts.{kept_told}
 use Rattle.ga_answers.specs.Saved.{step_line, saved_line, saved_lines, with_feed, saved_text}
-use Rattle.ga_answers.specs.kept.Saved.{actor_in, line_at, cause_line}
+use Rattle.ga_answers.specs.kept.{actor_in, line_at, cause_line}
 use Rattle.ga_answers.proofs.Saying.{no_lines}
 
 same_Some : {A : Type 0} (x y : A) → Some x ≡ Some y → x ≡ y

@@ -10,7 +10,7 @@ use Rattle.ga_event.specs.declared.made.Made.{Made}
 use Rattle.ga_lab.specs.Machine.{State, stands, history_of}
 use Rattle.ga_lab.specs.declared.fault.LabFault.TheVariants.{NoStep}
 use Rattle.ga_origin.specs.Origins.{node_after}
-use Rattle.ga_text.specs.Names.{step_text}
+use Rattle.ga_text.specs.Digits.{step_text}
 use Rattle.ga_display.specs.Texts.{register_text, refusal_text}
 use Rattle.ga_notes.specs.declared.notes.Notes.{Notes}
 use Rattle.ga_answers.specs.Deeds.{deed_text}

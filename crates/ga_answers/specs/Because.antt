@@ -10,7 +10,7 @@ use Rattle.ga_flow.specs.declared.part.Part.{Part}
 use Rattle.ga_origin.specs.declared.deciding.Decision.{Decision}
 use Rattle.ga_origin.specs.Deciding.{newest_decided}
 use Rattle.ga_origin.specs.Rows.{row_at}
-use Rattle.ga_text.specs.Names.{step_text}
+use Rattle.ga_text.specs.Digits.{step_text}
 use Rattle.ga_display.specs.Texts.{register_text, refusal_text}
 use Rattle.ga_notes.specs.declared.notes.Notes.{Notes}
 use Rattle.ga_answers.specs.Deeds.{deed_text}

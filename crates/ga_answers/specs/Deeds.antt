@@ -8,7 +8,7 @@ use Rattle.ga_node.specs.declared.kind.Kind.TheVariants as kind
 use Rattle.ga_grid.specs.declared.node_id.NodeId.{NodeId}
 use Rattle.ga_event.specs.declared.made.Made.{Made}
 use Rattle.ga_event.specs.declared.made.Made.TheVariants.{Own, Pass}
-use Rattle.ga_text.specs.Names.{step_text}
+use Rattle.ga_text.specs.Digits.{step_text}
 
 -- an event of a node's own: the opcode's name, or what came in its place
 abbrev pub kind_name : Kind → Text

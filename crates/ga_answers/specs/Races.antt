@@ -11,7 +11,7 @@ use Rattle.ga_race_detector.specs.declared.races.Race.{Race}
 use Rattle.ga_race_detector.specs.declared.readings.Reading.{Reading}
 use Rattle.ga_race_detector.specs.Readings.{back_of, IsTold, NoneMissed}
 use Rattle.ga_race_detector.specs.Races.{races_asked, has_looks, first_ready}
-use Rattle.ga_text.specs.Names.{name_of_node, step_text}
+use Rattle.ga_text.specs.Digits.{name_of_node, step_text}
 use Rattle.ga_display.specs.Texts.{refusal_text}
 
 -- the step and the word that it took, another that it could have taken, and the commands that make it take that

@@ -3,9 +3,8 @@ use Rattle.std.specs.Prelude.{List, [], ◌∷◌, ◌++◌, codes, map, flat_ma
 use Rattle.ga_text.specs.Lines.{Text, Line}
 use Rattle.ga_grid.specs.declared.node_id.NodeId.{NodeId}
 use Rattle.ga_event.specs.declared.event.Event.{Event}
-use Rattle.ga_lab.specs.Machine.{State}
-use Rattle.ga_lab.specs.Forward.{actor_of}
-use Rattle.ga_text.specs.Names.{name_of_node}
+use Rattle.ga_lab.specs.Machine.{State, actor_of}
+use Rattle.ga_text.specs.Digits.{name_of_node}
 use Rattle.ga_display.specs.Texts.{spaced}
 
 -- a step of a node

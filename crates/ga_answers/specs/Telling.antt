@@ -5,8 +5,7 @@ use Rattle.ga_grid.specs.declared.node_id.NodeId.{NodeId}
 use Rattle.ga_lab.specs.Machine.{State, chip_of, rewind_answer}
 use Rattle.ga_lab.specs.declared.fault.LabFault.TheVariants.{Memory}
 use Rattle.ga_search.specs.Effects.{effects_of}
-use Rattle.ga_races.specs.Stuck.{AreStuck}
-use Rattle.ga_races.specs.Freed.{IsSubset}
+use Rattle.ga_races.specs.Acts.{AreStuck, IsSubset}
 use Rattle.ga_search.specs.Idle.{MarksIdle}
 use Rattle.ga_display.specs.Texts.{refusal_text}
 use Rattle.ga_answers.specs.Texts.{effects_answer}

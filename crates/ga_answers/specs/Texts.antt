@@ -11,14 +11,14 @@ use Rattle.ga_event.specs.Told.{steps_of}
 use Rattle.ga_lab.specs.Machine.{State, chip_of}
 use Rattle.ga_lab.specs.declared.fault.LabFault.{LabFault}
 use Rattle.ga_lab.specs.declared.fault.LabFault.TheVariants.{Waiting, Stopped, Full, Memory, Empty, NoStep, Spent}
-use Rattle.ga_races.specs.Near.{are_linked}
+use Rattle.ga_races.specs.HappensBefore.{are_linked}
 use Rattle.ga_search.specs.Words.{words_of, word_count}
 use Rattle.ga_search.specs.declared.effects.RollbackEffect.{RollbackEffect}
 use Rattle.ga_search.specs.declared.words.Sent.{Sent}
 use Rattle.ga_search.specs.declared.running.End.{End}
 use Rattle.ga_search.specs.declared.running.End.TheVariants.{Reached, Made, Quiet, Refused}
 use Rattle.ga_display.specs.Texts.{made_text, removed_text, refusal_text}
-use Rattle.ga_text.specs.Names.{name_of_node, step_text}
+use Rattle.ga_text.specs.Digits.{name_of_node, step_text}
 
 -- ---- `run`
 

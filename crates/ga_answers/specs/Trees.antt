@@ -3,7 +3,7 @@
 use Rattle.std.specs.Prelude.{◌≡◌, ◌≤◌, ℕ, zero, suc, ◌+◌, ◌-◌, ◌%◌, ◌==◌, ◌⊎◌, Bool, true, false, if◌then◌else◌, List, [], ◌∷◌, ◌++◌, length, flat_map, codes, decimal, Option, Some, None}
 use Rattle.std.specs.List.{slice_get}
 use Rattle.ga_text.specs.Lines.{Text}
-use Rattle.ga_text.specs.Digits.{hex2_of}
+use Rattle.ga_text.specs.Digits.{hex2_of, name_of_node, step_text}
 use Rattle.ga_grid.specs.declared.node_id.NodeId.{NodeId}
 use Rattle.ga_event.specs.declared.made.Made.{Made}
 use Rattle.ga_lab.specs.Machine.{State, stands, history_of}
@@ -15,7 +15,6 @@ use Rattle.ga_origin.specs.declared.listing.Row.{Row}
 use Rattle.ga_origin.specs.Origins.{origin_of}
 use Rattle.ga_origin.specs.Rows.{row_at, AreRows}
 use Rattle.ga_origin.specs.Asked.{asked_of}
-use Rattle.ga_text.specs.Names.{name_of_node, step_text}
 use Rattle.ga_display.specs.Texts.{refusal_text}
 use Rattle.ga_notes.specs.declared.notes.Notes.{Notes}
 use Rattle.ga_answers.specs.Deeds.{deed_text}

@@ -10,7 +10,7 @@ use Rattle.ga_node.specs.declared.wait.Wait.TheVariants as wait
 use Rattle.ga_grid.specs.Grid.{neighbour_of, yxx_of}
 use Rattle.ga_grid.specs.Chip.{record_at}
 use Rattle.ga_text.specs.Digits.{decimal3_of}
-use Rattle.ga_races.specs.Stuck.{awaits}
+use Rattle.ga_races.specs.Acts.{awaits}
 
 -- the name of the node of this number
 abbrev pub name_text : ℕ → Text

@@ -7,7 +7,7 @@ use Rattle.ga_event.specs.Told.{steps_of}
 use Rattle.ga_lab.specs.Machine.{State}
 use Rattle.ga_origin.specs.Writes.{written_at}
 use Rattle.ga_origin.specs.declared.writes.CellWrite.{CellWrite}
-use Rattle.ga_text.specs.Names.{step_text}
+use Rattle.ga_text.specs.Digits.{step_text}
 use Rattle.ga_answers.specs.Deeds.{deed_text}
 
 -- a step that wrote: its number, the opcode's name, and the word

@@ -6,7 +6,7 @@ ghost use Rattle.arrayvec.specs.ArrayVec.{array_vec_len};
 ghost use Rattle.ga_lab.specs.Machine.{standing};
 ghost use Rattle.ga_display.specs.Texts.{register_text};
 ghost use Rattle.ga_text.specs.Output.{IsSaid, IsSaidOrCut};
-ghost use Rattle.ga_text.specs.kept.Output.{Says};
+ghost use Rattle.ga_text.specs.kept.{Says};
 ghost use Rattle.ga_answers.specs.Because.{decided_text, decision_text, decisions_text, because_text};
 ghost use Rattle.ga_answers.specs.Trees.{part_name};
 

@@ -3,7 +3,7 @@
 ghost use Rattle.std.specs.Prelude.{◌≡◌, ◌≤◌, ◌++◌, length, flat_map};
 ghost use Rattle.ga_text.specs.Lines.{Bytes};
 ghost use Rattle.ga_text.specs.Output.{IsSaid, IsSaidOrCut};
-ghost use Rattle.ga_text.specs.kept.Output.{Says};
+ghost use Rattle.ga_text.specs.kept.{Says};
 ghost use Rattle.ga_race_detector.specs.Readings.{back_of};
 ghost use Rattle.ga_answers.specs.Races.{race_text, reading_text, before_or_behind, races_head, race_lines_text, last_line, listed_text, TellsRaces};
 

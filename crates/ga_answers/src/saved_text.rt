@@ -3,11 +3,11 @@
 ghost use Rattle.std.specs.Prelude.{◌≡◌, ◌++◌, flat_map};
 ghost use Rattle.std.specs.List.{slice_get};
 ghost use Rattle.ga_text.specs.Lines.{Bytes};
-ghost use Rattle.ga_lab.specs.Forward.{actor_of};
+ghost use Rattle.ga_lab.specs.Machine.{actor_of};
 ghost use Rattle.ga_text.specs.Output.{IsSaid, IsSaidOrCut};
-ghost use Rattle.ga_text.specs.kept.Output.{Says};
+ghost use Rattle.ga_text.specs.kept.{Says};
 ghost use Rattle.ga_answers.specs.Saved.{step_line, with_feed, saved_text};
-ghost use Rattle.ga_answers.specs.kept.Saved.{actor_in, line_at, cause_line};
+ghost use Rattle.ga_answers.specs.kept.{actor_in, line_at, cause_line};
 
 use crate::Said;
 use arrayvec::ArrayVec;

@@ -7,7 +7,7 @@ ghost use Rattle.ga_grid.specs.Grid.{number_where_any};
 ghost use Rattle.ga_grid.specs.Chip.{records_of};
 ghost use Rattle.ga_causal.specs.Dependence.{is_marked};
 ghost use Rattle.ga_text.specs.Output.{IsSaid, IsSaidOrCut};
-ghost use Rattle.ga_text.specs.kept.Output.{Says};
+ghost use Rattle.ga_text.specs.kept.{Says};
 ghost use Rattle.ga_answers.specs.Waiting.{doing_word, does_text, beside_text, awaited_text, awaiting_text, waiting_text, busy_text, all_waiting, name_if, busy_names, node_count, idle_tail, stuck_line, stuck_text, idle_line, idle_text};
 ghost use Rattle.ga_answers.specs.Telling.{TellsWho};
 

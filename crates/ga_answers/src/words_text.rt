@@ -3,7 +3,7 @@
 ghost use Rattle.std.specs.Prelude.{◌≡◌, ◌++◌};
 ghost use Rattle.ga_text.specs.Lines.{Bytes};
 ghost use Rattle.ga_text.specs.Output.{IsSaid, IsSaidOrCut};
-ghost use Rattle.ga_text.specs.kept.Output.{Says};
+ghost use Rattle.ga_text.specs.kept.{Says};
 ghost use Rattle.ga_answers.specs.Texts.{sent_text, words_head, linked_text, link_words_text};
 
 use crate::Said;

@@ -25,13 +25,13 @@ use Rattle.ga_event.specs.Touches.{touches}
 use Rattle.ga_event.specs.Apply.{Told, apply, after, unless, cause_of, refusal_of, replay}
 use Rattle.ga_event.specs.Told.{steps_of, made_after, mades_of}
 use Rattle.ga_event.proofs.Nexts.{next_can}
-use Rattle.ga_rollback.proofs.Replays.{run_snoc}
+use Rattle.ga_rollback.proofs.Rewinding.{run_snoc}
 use Rattle.ga_event.specs.Next.{next}
 use Rattle.ga_lab.specs.declared.fault.LabFault.{LabFault}
 use Rattle.ga_lab.specs.Machine.{State, chip_of, history_of, told_by, told_of_kept, told_next, step_answer, with_event, unless_refused, stepped}
 use Rattle.ga_lab.specs.Calls.{step as call_step}
 use Rattle.ga_lab.proofs.Called.{Runs, runs_of, runs_some, chip_is, told_is, call_runs}
-use Rattle.ga_lab.proofs.Answering.{told_after}
+use Rattle.ga_lab.proofs.Stepping.{told_after}
 use Rattle.ga_flow.specs.declared.part.Part.{Part}
 use Rattle.ga_flow.specs.declared.part.Part.TheVariants as part
 use Rattle.ga_flow.specs.Flow.{Flow, send_flow, take_flow}

@@ -1,6 +1,4 @@
 pub mod Beginnings
-pub mod NodesNow
-pub mod Halting
 pub mod Following
 pub mod Cells
 pub mod Moving

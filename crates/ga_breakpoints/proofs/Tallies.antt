@@ -41,8 +41,7 @@ use Rattle.ga_breakpoints.specs.Conditions.{meets_test}
 use Rattle.ga_breakpoints.specs.Going.{tally_told, tally_on}
 use Rattle.ga_breakpoints.specs.Reversing.{stores_told, did, has_hit, hits_among, counted_by, counted_kept, with_count, hits_from, kept_tally}
 use Rattle.ga_breakpoints.proofs.Following.{IsCounted, More, Step, step_of, steps_more, well_more, told_stays, node_stays, fetched_stays, refused_stays}
-use Rattle.ga_breakpoints.proofs.NodesNow.{node_now}
-use Rattle.ga_breakpoints.proofs.Cells.{well_of, newest_own, replays_next}
+use Rattle.ga_breakpoints.proofs.Cells.{node_now, well_of, newest_own, replays_next}
 
 -- ---- counts by their places
 

@@ -158,9 +158,8 @@ fn is_moved_by(
 
 impl<'a> Watch for Steps<'a> {
     ghost use Rattle.std.specs.Prelude.{Some, ◌||◌};
-    ghost use Rattle.ga_breakpoints.specs.kept.Cells.{ends_by};
+    ghost use Rattle.ga_breakpoints.specs.kept.Cells.{ends_by, with_hits};
     ghost use Rattle.ga_breakpoints.specs.Stepping.{step_seen};
-    ghost use Rattle.ga_breakpoints.specs.kept.Halting.{with_hits};
     ghost use Rattle.ga_breakpoints.specs.kept.Words.{word_seen, is_moved_by};
 
     ghost ends = { λ w told s. ends_by w.halting.halts.breakpoints.now w.halting.cells w.halting.halts.tally w.halting.halts.stops (Some w.stepping.node) told s || is_moved_by w.notes.now w.stepping w.word told s };

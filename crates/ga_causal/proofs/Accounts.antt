@@ -14,9 +14,8 @@ use Rattle.ga_causal.specs.Equivalence.{recorded, account, account_told}
 use Rattle.ga_causal.specs.Steps.{counted, numbered_seen}
 use Rattle.ga_causal.proofs.Exact.{any-mono}
 use Rattle.ga_causal.proofs.Runs.{causes, kept, run_rest}
-use Rattle.ga_causal.proofs.Counts.{seen_rest}
+use Rattle.ga_causal.proofs.Shuffles.{seen_rest, numbers, entries}
 use Rattle.ga_causal.proofs.Rollbacks.{kept-dropped, kept-kept, rewound-first, rewound-touched, rewound-other}
-use Rattle.ga_causal.proofs.Shuffles.{numbers, entries}
 use Rattle.ga_causal.proofs.Consistent.{causes_without, made_of}
 
 -- what touches a node, of things that are of causes

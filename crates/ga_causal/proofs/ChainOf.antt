@@ -1,13 +1,81 @@
 -- The chain that is computed is the one that is found.
-use Rattle.std.proofs.Common.{◌≡◌, ℕ, zero, suc, ◌<◌, ◌≤◌, ◌≢◌, ◌==◌, Bool, true, false, not, cond, List, [], ◌∷◌, length, refl, sym, ap, subst, ⊎_elim, arith}
-use Rattle.std.specs.Prelude.{nat_lt, Option, Some, None, slice_index_or}
-use Rattle.std.proofs.lemmas.Bool.{cases_Bool, cases_lt, cases_eq, both_ways, cond-true, cond-false, le-ltb, lt-ltb, eq-eqb, ne_eqb, and_from, and_parts}
+use Rattle.std.proofs.Common.{◌≡◌, ℕ, ◌<◌, ◌≤◌, ◌≢◌, ◌⊎◌, List, [], ◌∷◌, ◌++◌, length, refl, sym, ◌∙◌, ap, ap₂, subst, inl, inr, ⊎_elim, arith, zero, suc, ◌==◌, Bool, true, false, not, cond}
 use Rattle.ga_event.specs.declared.event.Cause.{Cause}
 use Rattle.ga_causal.specs.declared.chain.Link.{Link}
 use Rattle.ga_causal.specs.Dependence.{rule_between, event_at, dependents, DependsOn, itself, through}
-use Rattle.ga_causal.specs.Chains.{IsOldest, IsChainTo, alone, longer, IsFound, leads_to, least_below, oldest_cause, links_to, chain_of}
+use Rattle.ga_causal.specs.Chains.{IsNext, IsLinked, IsChain, IsOldest, IsChainTo, alone, longer, IsFound, leads_to, least_below, oldest_cause, links_to, chain_of}
+use Rattle.std.specs.Prelude.{nat_lt, Option, Some, None, slice_index_or}
+use Rattle.std.proofs.lemmas.Bool.{cases_Bool, cases_lt, cases_eq, both_ways, cond-true, cond-false, le-ltb, lt-ltb, eq-eqb, ne_eqb, and_from, and_parts}
 use Rattle.ga_causal.proofs.Exact.{meets_rule, why_dependent, DependsOn_from_flag, flag_from_DependsOn, flagged_within, Earlier}
-use Rattle.ga_causal.proofs.ChainLaws.{chain_one}
+
+-- ---- the chain is one, and is a chain
+
+abbrev first_link : ℕ → Link
+first_link i = record { place = i; rule = 0 }
+
+abbrev last_link : List Cause → ℕ → ℕ → Link
+last_link es before place = record { place = place; rule = rule_between es before place }
+
+record EndsBy (es : List Cause) (i place : ℕ) (links : List Link) : Type 0 where
+  before : ℕ
+  others : List Link
+  differs : place ≢ i
+  oldest : IsOldest es i place before
+  chain : IsChainTo es i before others
+  is : links ≡ others ++ last_link es before place ∷ []
+
+taken_apart : (es : List Cause) (i place : ℕ) (links : List Link) → IsChainTo es i place links → ((place ≡ i) × (links ≡ first_link i ∷ [])) ⊎ EndsBy es i place links
+taken_apart es i place links alone = inl (refl, refl)
+taken_apart es i place links (longer {before} {links = others} ne o h) = inr (record { before = before; others = others; differs = ne; oldest = o; chain = h; is = refl })
+
+same_before : (es : List Cause) (i place a b : ℕ) → IsOldest es i place a → IsOldest es i place b → a ≡ b
+same_before es i place a b x y =
+    let p : a ≤ b = x.oldest b y.dependent y.direct in
+    let q : b ≤ a = y.oldest a x.dependent x.direct in
+    omega arith
+
+pub chain_one : (es : List Cause) (i place : ℕ) (xs ys : List Link) → IsChainTo es i place xs → IsChainTo es i place ys → xs ≡ ys
+chain_one es i place xs ys alone k = ⊎_elim (λ p. sym p.1) (λ w. absurd (w.differs refl)) (taken_apart es i place ys k)
+chain_one es i place xs ys (longer {before} {links = others} ne o h) k = ⊎_elim
+    (λ p. absurd (ne p.0))
+    (λ w. let e : before ≡ w.before = same_before es i place before w.before o w.oldest in
+    let g : others ≡ w.others = chain_one es i before others w.others h (subst (λ z. IsChainTo es i z w.others) (sym e) w.chain) in
+    ap₂ (λ (z : List Link) (b : ℕ). z ++ last_link es b place ∷ []) g e ∙ sym w.is)
+    (taken_apart es i place ys k)
+
+abbrev place_after : ℕ → List Link → ℕ
+place_after place [] = place
+place_after place (link ∷ links) = place_after link.place links
+
+linked_more : (es : List Cause) (b : ℕ) (links : List Link) (link : Link) → IsLinked es b links → IsNext es (place_after b links) link → IsLinked es b (links ++ link ∷ [])
+linked_more es b [] link h n = (n, tt)
+linked_more es b (x ∷ links) link h n = (h.0, linked_more es x.place links link h.1 n)
+
+after_more : (b : ℕ) (links : List Link) (link : Link) → place_after b (links ++ link ∷ []) ≡ link.place
+after_more b [] link = refl
+after_more b (x ∷ links) link = after_more x.place links link
+
+record BeginsAt (es : List Cause) (i place : ℕ) (links : List Link) : Type 0 where
+  others : List Link
+  is : links ≡ first_link i ∷ others
+  linked : IsLinked es i others
+  ends : place_after i others ≡ place
+
+begins_at : (es : List Cause) (i place : ℕ) (links : List Link) → IsChainTo es i place links → BeginsAt es i place links
+begins_at es i place links alone = record { others = []; is = refl; linked = tt; ends = refl }
+begins_at es i place links (longer {before} {links = others} ne o h) =
+    let w = begins_at es i before others h in
+    record {
+      others = w.others ++ last_link es before place ∷ [];
+      is = ap (λ z. z ++ last_link es before place ∷ []) w.is;
+      linked = linked_more es i w.others (last_link es before place) w.linked (subst (λ z. IsNext es z (last_link es before place)) (sym w.ends) (o.direct, refl));
+      ends = after_more i w.others (last_link es before place);
+    }
+
+pub chain_chain : (es : List Cause) (i place : ℕ) (links : List Link) → i < length es → IsChainTo es i place links → IsChain es links
+chain_chain es i place links l h =
+    let w = begins_at es i place links h in
+    subst (λ z. IsChain es z) (sym w.is) (l, refl, w.linked)
 
 -- the least number below a bound that passes a test
 record IsLeast (test : ℕ → Bool) (n least : ℕ) : Type 0 where

@@ -1,12 +1,13 @@
 -- The flags of the marks are exactly the events that depend on a place.
-use Rattle.std.proofs.Common.{◌≡◌, ℕ, zero, suc, ◌<◌, ◌≤◌, ◌≢◌, ◌⊎◌, ◌↔◌, Bool, true, false, ◌||◌, cond, List, [], ◌∷◌, length, refl, sym, ◌∙◌, ap, subst, inl, inr, ⊎_elim, arith, IsTrue}
+use Rattle.std.proofs.Common.{◌≡◌, ℕ, zero, suc, ◌<◌, ◌≤◌, ◌≢◌, ◌⊎◌, ◌↔◌, Bool, true, false, ◌||◌, cond, List, [], ◌∷◌, length, refl, sym, ◌∙◌, ap, subst, inl, inr, ⊎_elim, arith, IsTrue, ◌+◌, ◌++◌, replicate, drop, add-one, append_assoc, append-nil, get_or, take, take_all, length-drop, drop_of_length-le, ◌-◌}
 use Rattle.std.specs.Prelude.{slice_index_or}
 use Rattle.std.specs.List.{list_any}
 use Rattle.std.proofs.lemmas.Bool.{or_left, or_right, or_cases, cases_Bool, both_ways, cond-true, cond-false, false_from_ne_true}
 use Rattle.ga_event.specs.declared.event.Cause.{Cause}
-use Rattle.ga_causal.specs.Dependence.{cause_nodes, cause_touches, is_a_pass, rule_of, event_at, DependsOn, itself, through, marked, dependents_after, dependents}
+use Rattle.ga_causal.specs.Dependence.{cause_nodes, cause_touches, is_a_pass, rule_of, event_at, DependsOn, itself, through, marked, dependents_after, dependents, no_cause}
 use Rattle.ga_event.specs.Touches.{seen_by, meets}
 use Rattle.ga_event.proofs.Locality.{meets-touched}
+use Rattle.std.proofs.lemmas.List.{get_or_default}
 
 -- direct dependence of two events is one rule or another: the later sees a node that the earlier touches
 pub rule_meets : (d e : Cause) → rule_of d e ≢ 0 → meets (cause_touches d) e ≡ true
@@ -152,3 +153,31 @@ past_alone es i j l (through {middle} d s) =
     let b : middle < j = s.before in
     let w : j < length es = s.within in
     absurd (omega (arith, l, e, b, w))
+
+-- ---- marks, and flags put one after another
+
+pub marked-met : (marks : ℕ → Bool) (e : Cause) → meets marks e ≡ true → marked marks e ≡ (λ n. marks n || cause_touches e n)
+marked-met marks e t = rw t refl
+
+pub dependents-first : (es : List Cause) (i : ℕ) → i < length es → dependents es i ≡ replicate i false ++ true ∷ dependents_after (cause_touches (event_at es i)) (drop (suc i) es)
+dependents-first [] i l = absurd (omega arith)
+dependents-first (e ∷ es) zero l = refl
+dependents-first (e ∷ es) (suc i) l = ap (λ z. false ∷ z) (dependents-first es i (omega arith))
+
+-- the flags up to the place, and those that are to come
+pub closure_start : (es : List Cause) (i k : ℕ) (e : Cause) (flags : List Bool) (marks : ℕ → Bool) → i < length es → k ≡ i → flags ≡ replicate k false → e ≡ get_or es i e → marks ≡ cause_touches e → (flags ++ true ∷ []) ++ dependents_after marks (take (length es - (i + 1)) (drop (i + 1) es)) ≡ dependents es i
+closure_start es i k e flags marks l n f g m =
+    let whole : take (length es - (i + 1)) (drop (i + 1) es) ≡ drop (suc i) es = rw add-one (take_all (length es - suc i) (drop (suc i) es) (omega (arith, length-drop (suc i) es))) in
+    let first : event_at es i ≡ e = get_or_default es i no_cause e l ∙ sym g in
+    ap (λ z. (z ++ true ∷ []) ++ dependents_after marks (take (length es - (i + 1)) (drop (i + 1) es))) (f ∙ ap (λ z. replicate z false) n)
+    ∙ ap (λ z. (replicate i false ++ true ∷ []) ++ dependents_after z (take (length es - (i + 1)) (drop (i + 1) es))) (m ∙ ap cause_touches (sym first))
+    ∙ ap (λ z. (replicate i false ++ true ∷ []) ++ dependents_after (cause_touches (event_at es i)) z) whole
+    ∙ append_assoc (replicate i false) (true ∷ []) _
+    ∙ sym (dependents-first es i l)
+
+-- the flags are whole at the end
+pub closure_end : (es items : List Cause) (i k : ℕ) (flags : List Bool) (marks : ℕ → Bool) → length items ≤ k → flags ++ dependents_after marks (drop k items) ≡ dependents es i → flags ≡ dependents es i
+closure_end es items i k flags marks l h = sym (append-nil flags) ∙ ap (λ z. flags ++ dependents_after marks z) (sym (drop_of_length-le items l)) ∙ h
+
+pub closure_exact : (es : List Cause) (i : ℕ) (flags : List Bool) → i < length es → flags ≡ dependents es i → (j : ℕ) → j < length es → IsTrue (slice_index_or flags j false) ↔ DependsOn es i j
+closure_exact es i flags l h j k = subst (λ z. IsTrue (slice_index_or z j false) ↔ DependsOn es i j) (sym h) (dependents_exact es i j l)

@@ -1,18 +1,20 @@
 -- The places of the steps.
-use Rattle.std.proofs.Common.{◌≡◌, ℕ, true, false, zero, suc, ◌+◌, ◌<◌, ◌≤◌, List, [], ◌∷◌, ◌++◌, length, take, drop, refl, sym, ◌∙◌, ap, arith, get_or, subst, cond, Bool, ⊎_elim}
+use Rattle.std.proofs.Common.{◌≡◌, ℕ, true, false, zero, suc, ◌+◌, ◌<◌, ◌≤◌, List, [], ◌∷◌, ◌++◌, length, take, drop, refl, sym, ◌∙◌, ap, arith, get_or, subst, cond, Bool, ⊎_elim, ◌==◌}
 use Rattle.std.proofs.Math.Seq.{drop-cons}
 use Rattle.std.specs.Prelude.{nat_lt, count_by, is_some, IsSome, ◌↔◌, Option, Some, None, option_map}
-use Rattle.std.proofs.lemmas.Bool.{cases_Bool, lt-ltb, le-ltb, ltb-true, cases_lt, both_ways}
+use Rattle.std.proofs.lemmas.Bool.{cases_Bool, lt-ltb, le-ltb, ltb-true, cases_lt, both_ways, cases_order, eqb-true}
 use Rattle.std.proofs.lemmas.Option.{same_Some}
 use Rattle.std.proofs.lemmas.List.{drop_all}
 use Rattle.std.proofs.lemmas.List.Sums.{sum_by-cons}
 use Rattle.ga_event.specs.declared.event.Event.{Event}
 use Rattle.ga_event.specs.declared.event.Cause.{Cause}
-use Rattle.ga_event.specs.Touches.{touches as event_touches}
-use Rattle.ga_causal.specs.Dependence.{cause_touches, event_at, place_of}
+use Rattle.ga_event.specs.Touches.{touches as event_touches, meets}
+use Rattle.ga_causal.specs.Dependence.{cause_touches, event_at, place_of, cause_nodes, DependsOn, itself, through}
 use Rattle.ga_event.specs.Told.{events_in}
 use Rattle.ga_causal.specs.Steps.{touching, IsStep}
 use Rattle.ga_causal.proofs.Refusals.{place-first, place-touched, place-other, some-shift, shifted_of}
+use Rattle.ga_event.proofs.Locality.{meets-touched}
+use Rattle.ga_causal.proofs.Exact.{meets_rule, any-mono}
 
 -- a place that stands so many later
 abbrev pub on_by : ℕ → Option ℕ → Option ℕ
@@ -168,3 +170,25 @@ touching_before (x ∷ xs) n (suc q) (suc i) l inside t =
     let a = touching-cons n x (take q xs) in
     let b = touching-cons n x (take i xs) in
     omega (arith, later, a, b)
+
+-- ---- each step of a node is a cause of its later ones
+
+-- two events of one node
+both_touch : (d e : Cause) (n : ℕ) → cause_touches d n ≡ true → cause_touches e n ≡ true → meets (cause_touches d) e ≡ true
+both_touch d e n first second =
+    meets-touched (cause_touches d) e (any-mono (λ m. m == n) (cause_touches d) (λ m at. subst (λ z. cause_touches d z ≡ true) (sym (eqb-true m n at)) first) (cause_nodes e) second)
+
+pub older_step : (events : List Cause) (n k j i q : ℕ) → place_of events n k ≡ Some i → place_of events n j ≡ Some q → k ≤ j → DependsOn events i q
+older_step events n k j i q first second l = ⊎_elim
+    (λ e. subst (DependsOn events i) e itself)
+    (λ other. ⊎_elim
+    (λ before. through itself (record { before = before; within = there.within; by_rule = meets_rule (event_at events i) (event_at events q) (both_touch (event_at events i) (event_at events q) n here.touched there.touched) }))
+    (λ after. absurd (let less = touching_before events n q i after there.within there.touched in omega (arith, less, here.before, there.before)))
+    other)
+    (cases_order i q)
+  where
+    here : IsStep events n k i
+    here = place_step events n k i first
+
+    there : IsStep events n j q
+    there = place_step events n j q second

@@ -11,12 +11,11 @@ use Rattle.ga_node.specs.Record.{NodeRecord}
 use Rattle.ga_node.specs.Table.{looks, t}
 use Rattle.ga_grid.specs.Chip.{record_at}
 use Rattle.ga_grid.specs.Grid.{neighbour_of}
-use Rattle.ga_event.specs.Agree.{Agree}
+use Rattle.ga_event.specs.Apply.{Agree, Told, shows, beside_in, seen_from, after, apply, cause_of, run, replay}
 use Rattle.ga_event.specs.declared.event.Event.{Event}
 use Rattle.ga_event.specs.declared.event.Event.TheVariants.{Own, Pass}
 use Rattle.ga_event.specs.declared.event.Cause.{Cause}
 use Rattle.ga_event.specs.Touches.{nodes_of, with_some, neighbours, looked_at, seen_by, meets, touches as event_touches}
-use Rattle.ga_event.specs.Apply.{Told, shows, beside_in, seen_from, after, apply, cause_of, run, replay}
 use Rattle.ga_event.proofs.Locality.{cause_alike}
 use Rattle.ga_causal.specs.Dependence.{cause_touches}
 use Rattle.ga_causal.specs.Equivalence.{AreApart, AreEquivalent, same, swapped, later, joined}

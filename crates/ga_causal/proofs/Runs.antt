@@ -8,9 +8,8 @@ use Rattle.ga_event.specs.declared.event.Cause.{Cause}
 use Rattle.ga_causal.specs.Dependence.{cause_touches, dependents_after, dependents, without, rest}
 use Rattle.ga_event.specs.Told.{events_in}
 use Rattle.ga_event.specs.Touches.{meets}
-use Rattle.ga_event.specs.Apply.{Told, apply, cause_of, run}
+use Rattle.ga_event.specs.Apply.{Told, apply, cause_of, run, Agree, Alike}
 use Rattle.ga_node.specs.Record.{NodeRecord}
-use Rattle.ga_event.specs.Agree.{Agree, Alike}
 use Rattle.ga_event.proofs.Locality.{Agree-sym, apply_alike, cause_alike, apply_keeps}
 
 -- the events that meet no mark

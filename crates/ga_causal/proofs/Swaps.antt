@@ -7,11 +7,10 @@ use Rattle.ga_event.specs.declared.event.Event.{Event}
 use Rattle.ga_event.specs.declared.event.Cause.{Cause}
 use Rattle.ga_causal.specs.Dependence.{cause_touches}
 use Rattle.ga_event.specs.Touches.{seen_by, meets}
-use Rattle.ga_event.specs.Apply.{Told, apply, cause_of, run, replay}
+use Rattle.ga_event.specs.Apply.{Told, apply, cause_of, run, replay, Agree, Alike}
 use Rattle.ga_node.specs.Record.{NodeRecord, record_of}
 use Rattle.ga_grid.specs.Chip.{nowhere}
 use Rattle.ga_causal.specs.Equivalence.{sees, AreApart, AreEquivalent, same, swapped, later, joined}
-use Rattle.ga_event.specs.Agree.{Agree, Alike}
 use Rattle.ga_event.proofs.Locality.{meets-touched, apply_alike}
 use Rattle.ga_causal.proofs.Runs.{same_of, keeps_of}
 

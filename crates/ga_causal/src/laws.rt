@@ -104,7 +104,7 @@ pub fn equivalent_keeps()
 /// independent neighbours exactly where each node has the same account after both, and exactly where both have the same numbered
 /// events. Both must run, since nothing is swapped in a list that can't be made. Without looks the numbers of the steps are
 /// enough; a look also wants how far each neighbour was when it looked, which these numbers don't say.
-#[tactic(auto, using(crate::proofs::Consistent::same_accounts, crate::proofs::Consistent::same_events, crate::proofs::Blind::same_steps))]
+#[tactic(auto, using(crate::proofs::Consistent::same_accounts, crate::proofs::Consistent::same_events, crate::proofs::Taken::same_steps))]
 pub fn causal_consistency()
     ensures accounts { (chip last now : List NodeRecord) (events others : List Event) (steps made : List (Cause × Told)) →
         run chip events ≡ Some (last, steps) → run chip others ≡ Some (now, made) →
@@ -188,7 +188,7 @@ pub fn equivalent_chains()
 {}
 
 /// There is one chain from a place to another, it is a chain, and `chain_of` tells whether there is one, and which.
-#[tactic(auto, using(crate::proofs::ChainLaws::chain_one, crate::proofs::ChainLaws::chain_chain, crate::proofs::ChainOf::chain_found, crate::proofs::ChainOf::chain_is))]
+#[tactic(auto, using(crate::proofs::ChainOf::chain_one, crate::proofs::ChainOf::chain_chain, crate::proofs::ChainOf::chain_found, crate::proofs::ChainOf::chain_is))]
 pub fn chains()
     ensures one { (events : List Cause) (cause place : ℕ) (links others : List Link) →
         IsChainTo events cause place links → IsChainTo events cause place others → links ≡ others }

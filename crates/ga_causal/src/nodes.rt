@@ -5,7 +5,7 @@ ghost use Rattle.std.specs.List.{list_any};
 ghost use Rattle.ga_grid.specs.Grid.{neighbour_of};
 ghost use Rattle.ga_event.specs.Touches.{neighbours, meets};
 ghost use Rattle.ga_causal.specs.Dependence.{cause_nodes, cause_touches, is_marked};
-ghost use Rattle.ga_causal.specs.kept.Firsts.{any_of};
+ghost use Rattle.ga_causal.specs.kept.{any_of};
 ghost use Rattle.ga_causal.specs.Equivalence.{sees};
 
 use ga_event::{Cause, Event};
@@ -100,7 +100,7 @@ impl Nodes {
     }
 
     // Whether a neighbour of the node is one of them.
-    #[tactic(auto, using(crate::proofs::Looks::any_neighbours))]
+    #[tactic(auto, using(crate::proofs::Oldest::any_neighbours))]
     fn has_beside(&self, node: NodeId) -> bool
         ensures { result ≡ list_any (is_marked self.now) (neighbours node.number) }
     {
@@ -129,7 +129,7 @@ impl Nodes {
     }
 
     // Adds the neighbours of a node.
-    #[tactic(auto, using(crate::proofs::Flags::four_sides, crate::proofs::Looks::any_neighbours))]
+    #[tactic(auto, using(crate::proofs::Oldest::four_sides, crate::proofs::Oldest::any_neighbours))]
     fn add_beside(&mut self, node: NodeId)
         ensures { (n : ℕ) → is_marked self.new n ≡ (is_marked self.old n || list_any (λ m. m == n) (neighbours node.number)) }
     {

@@ -4,7 +4,7 @@ ghost use Rattle.std.specs.Prelude.{◌≡◌};
 ghost use Rattle.std.specs.List.{list_any};
 ghost use Rattle.ga_grid.specs.Grid.{neighbour_of};
 ghost use Rattle.ga_event.specs.Touches.{touches, nodes_of, neighbours, looked_at};
-ghost use Rattle.ga_causal.specs.kept.Firsts.{any_of};
+ghost use Rattle.ga_causal.specs.kept.{any_of};
 ghost use Rattle.ga_causal.specs.Dependence.{is_a_pass, rule_of};
 
 use ga_event::{Cause, Event, touches};
@@ -34,7 +34,7 @@ fn touches_beside(earlier: &Event, node: NodeId, side: Side) -> bool
 }
 
 /// Whether the event touches a neighbour of a node.
-#[tactic(auto, using(crate::proofs::Looks::any_neighbours))]
+#[tactic(auto, using(crate::proofs::Oldest::any_neighbours))]
 fn touches_a_neighbour(earlier: &Event, node: NodeId) -> bool
     ensures { result ≡ list_any (touches earlier.now) (neighbours node.number) }
 {
@@ -62,7 +62,7 @@ fn is_pass(event: &Event) -> bool
 }
 
 /// The rule by which the later event depends directly on the earlier one, or 0.
-#[tactic(auto, using(crate::proofs::Looks::meets_parts))]
+#[tactic(auto, using(crate::proofs::Oldest::meets_parts))]
 pub(crate) fn rule(earlier: &Cause, later: &Cause) -> u8
     ensures { result ≡ rule_of earlier.now later.now }
 {

@@ -7,8 +7,7 @@ use Rattle.std.proofs.Math.Seq.{take-append_seam}
 use Rattle.std.proofs.lemmas.Grind.{flat_map-append}
 use Rattle.std.proofs.lemmas.Bool.Decides.{nat_tests}
 use Rattle.ga_text.specs.Lines.{lines_of, ended, text_of, ended_lines, HasNoFeed}
-use Rattle.ga_console.specs.Turns.{Answering, quit_line}
-use Rattle.ga_console.specs.Session.{Answers, HasNoQuit, heard_lines, HearsWholeLines, QuitsAfter, Serves, ServesToEnd, ServesToQuit, ServesToBound, ServesToFault, ServesCut}
+use Rattle.ga_console.specs.Session.{Answering, quit_line, Answers, HasNoQuit, heard_lines, HearsWholeLines, QuitsAfter, Serves, ServesToEnd, ServesToQuit, ServesToBound, ServesToFault, ServesCut}
 use Rattle.ga_display.specs.Texts.{no_input}
 use Rattle.ga_console.specs.declared.commands.Ending.{Ending}
 use Rattle.ga_console.specs.declared.commands.Ending.TheVariants.{Ended, Quit, Past, ReadFailed}

@@ -1,10 +1,8 @@
 pub mod AheadLemmas
 pub mod Spelled
 pub mod Heads
-pub mod Shown
 pub mod ReplyLemmas
 pub mod Heard
 pub mod RunLemmas
 pub mod Races
 pub mod Reaching
-pub mod Wholes

@@ -1,5 +1,7 @@
 -- From the parts of a race to the whole.
-use Rattle.std.proofs.Common.{◌≡◌, ◌≢◌, ◌<◌, ℕ, zero, suc, ◌+◌, ◌*◌, ◌⊎◌, inl, inr, List, [], ◌∷◌, ◌++◌, length, replicate, sum_by, Some, refl, sym, ap, ◌∙◌, arith}
+use Rattle.std.proofs.Common.{ℕ, List, inl, inr, ◌≡◌, ◌≢◌, ◌<◌, zero, suc, ◌+◌, ◌*◌, ◌⊎◌, [], ◌∷◌, ◌++◌, length, replicate, sum_by, Some, refl, sym, ap, ◌∙◌, arith}
+use Rattle.ga_console.specs.Run.{IsReadAlone, Refuses}
+use Rattle.ga_text.specs.Output.{IsReadWhole, IsTooLong}
 use Rattle.std.specs.Prelude.{slice_get}
 use Rattle.std.proofs.lemmas.List.{length-replicate}
 use Rattle.std.proofs.lemmas.List.Sums.{sum_by-cons}
@@ -10,7 +12,7 @@ use Rattle.ga_grid.specs.Grid.{node_id}
 use Rattle.ga_shared.specs.declared.call.Call.{Call}
 use Rattle.ga_shared.specs.declared.call.Call.TheVariants.{Step}
 use Rattle.ga_shared.specs.declared.closing.Closed.{Closed}
-use Rattle.ga_shared.specs.Race.{Raced}
+use Rattle.ga_shared.specs.Log.{Raced}
 use Rattle.ga_text.specs.Lines.{lines_of}
 use Rattle.ga_image.specs.Grammar.{IsImage}
 use Rattle.ga_image.specs.FirstFault.{IsFirstFault}
@@ -19,11 +21,19 @@ use Rattle.ga_image.specs.declared.fault.ImageFault.{ImageFault}
 use Rattle.ga_image.specs.declared.fault.ImageCause.TheVariants.{Memory}
 use Rattle.ga_lab.specs.Machine.{State}
 use Rattle.ga_display.specs.Texts.{image_fault_text}
-use Rattle.ga_console.specs.Run.{IsReadAlone, Refuses}
 use Rattle.ga_console.specs.Race.{calls_by, IsRaceOfWorkers, Reports, report_text}
-use Rattle.ga_console.specs.kept.Race.{Writes, Races}
+use Rattle.ga_console.specs.kept.Run.{Writes, Races}
 use Rattle.ga_console.specs.declared.run.Status.{Status}
 use Rattle.ga_console.specs.declared.run.Status.TheVariants.{Done, ImageRefused, StreamFault, NotFinished}
+
+-- ---- of an input that was read whole nothing was read that its text doesn't need
+
+pub alone_whole : (text ahead rest : List ℕ) → IsReadWhole text ahead rest → IsReadAlone text ahead rest
+alone_whole text ahead rest (inl to_end_line) = inl to_end_line
+alone_whole text ahead rest (inr to_the_end) = inr (inl to_the_end)
+
+pub alone_long : (text ahead rest : List ℕ) → IsTooLong text ahead → IsReadAlone text ahead rest
+alone_long text ahead rest long = inr (inr long)
 
 -- one call more
 replicate-push : {X : Type 0} (n : ℕ) (x : X) → replicate n x ++ x ∷ [] ≡ replicate (suc n) x

@@ -5,11 +5,10 @@ use Rattle.ga_event.specs.Next.{next}
 use Rattle.ga_event.specs.declared.made.Made.{Made}
 use Rattle.ga_lab.specs.Machine.{State, chip_of, step_answer, with_event, unless_refused, undo_answer, rewind_answer, rewound}
 use Rattle.ga_lab.specs.declared.fault.LabFault.{LabFault}
-use Rattle.ga_console.specs.Replies.{Reply, Does, LineAnswer, reply, step_reply, back_reply, rewind_reply}
+use Rattle.ga_console.specs.Replies.{Reply, Does, LineAnswer, reply, step_reply, back_reply, rewind_reply, Reaches}
 use Rattle.ga_console.specs.Replies.LineAnswer.{long, command, syntax}
 use Rattle.ga_console.specs.declared.command.Command.{Command}
 use Rattle.ga_console.specs.declared.command.Command.TheVariants.{Step, Back, Rewind, Node, Memory, Trace, Why, Count, Dump, Quit}
-use Rattle.ga_console.specs.Reached.{Reaches}
 use Rattle.ga_shared.proofs.Machine.{with_event-load as event_load}
 
 unless_load : (s : State) (answer : Result Made LabFault) (new : State) → new.load ≡ s.load → (unless_refused s answer new).load ≡ s.load

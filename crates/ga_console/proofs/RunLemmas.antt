@@ -7,8 +7,7 @@ use Rattle.ga_text.specs.Input.{input_limit}
 use Rattle.ga_text.specs.Image.{HasNoEnd}
 use Rattle.ga_text.specs.Output.{IsSaid, ready}
 use Rattle.ga_lab.specs.Machine.{State}
-use Rattle.ga_console.specs.Turns.{Answering}
-use Rattle.ga_console.specs.Session.{Serves, Written}
+use Rattle.ga_console.specs.Session.{Answering, Serves, Written}
 use Rattle.ga_console.specs.Run.{RunsBy, Served, Refused, Refuses, Opens, IsFault, IsImagePart, IsReadAlone, status_of}
 use Rattle.ga_console.specs.kept.Run.{AfterImage}
 use Rattle.ga_console.specs.declared.commands.Ending.{Ending}

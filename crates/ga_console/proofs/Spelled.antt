@@ -6,13 +6,11 @@ use Rattle.std.proofs.lemmas.Slice.Eq.{bytes_eq-Decides}
 use Rattle.ga_grid.specs.declared.node_id.NodeId.{NodeId}
 use Rattle.ga_console.specs.declared.command.Command.{Command}
 use Rattle.ga_console.specs.declared.command.Command.TheVariants.{Step, Back, Rewind, Node, Memory, Trace, Why, Count, Dump, Quit}
-use Rattle.ga_text.specs.Names.{name_of_node}
+use Rattle.ga_text.specs.Digits.{name_of_node, byte_in}
 use Rattle.ga_text.specs.Parsing.{IsNumber, SpellsAddress, cut, node_in, number_in}
 use Rattle.ga_console.specs.Commands.{SpellsCommand}
-use Rattle.ga_text.specs.Digits.{byte_in}
 use Rattle.ga_console.specs.kept.Parsing.{step_in, rewind_in, memory_in, why_in, alone, with_arguments, command_by, command_in}
-use Rattle.ga_text.proofs.Cuts.{cut_joined, word_cut}
-use Rattle.ga_text.proofs.Taking.{first_step, mapped, node_name, name_node, name_word, number_decimal, decimal_number, decimal_word, byte_address, address_byte}
+use Rattle.ga_text.proofs.Taking.{cut_joined, word_cut, first_step, mapped, node_name, name_node, name_word, number_decimal, decimal_number, decimal_word, byte_address, address_byte}
 
 -- ---- what is read is spelled so
 

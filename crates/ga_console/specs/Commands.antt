@@ -2,7 +2,7 @@
 -- project's own).
 use Rattle.std.specs.Prelude.{◌≡◌, List, [], ◌∷◌, ◌++◌, codes, decimal}
 use Rattle.ga_text.specs.Lines.{Text, Line}
-use Rattle.ga_text.specs.Names.{name_of_node}
+use Rattle.ga_text.specs.Digits.{name_of_node}
 use Rattle.ga_text.specs.Parsing.{IsNumber, SpellsAddress}
 use Rattle.ga_display.specs.Texts.{spaced}
 use Rattle.ga_console.specs.declared.command.Command.{Command}

@@ -1,7 +1,5 @@
 pub mod Commands
-pub mod Turns
 pub mod Replies
-pub mod Reached
 pub mod Session
 pub mod Run
 pub mod Settings

@@ -11,8 +11,7 @@ use Rattle.ga_lab.specs.Machine.{State, first}
 use Rattle.ga_shared.specs.declared.call.Call.{Call}
 use Rattle.ga_shared.specs.declared.call.Call.TheVariants.{Step}
 use Rattle.ga_shared.specs.declared.call.Entry.{Entry}
-use Rattle.ga_shared.specs.Log.{IsLegal}
-use Rattle.ga_shared.specs.Race.{calls_of}
+use Rattle.ga_shared.specs.Log.{IsLegal, calls_of}
 use Rattle.ga_text.specs.Output.{Begins}
 use Rattle.ga_text.specs.Image.{HasNoEnd}
 use Rattle.ga_console.specs.Run.{IsReadAlone}

@@ -1,5 +1,6 @@
 -- What the machine replies to a line (docs/REFERENCE.md, "Sessions"; this project's own).
-use Rattle.std.specs.Prelude.{◌≡◌, ℕ, ◌<◌, ◌≤◌, ◌⊎◌, IsOk, List, [], ◌++◌, length, flat_map, Option, Some, None, Result, Ok, Err}
+use Rattle.ga_lab.specs.declared.fault.LabFault.TheVariants as fault
+use Rattle.std.specs.Prelude.{◌≡◌, ℕ, ◌<◌, ◌≤◌, ◌⊎◌, IsOk, List, [], ◌++◌, length, flat_map, Option, Some, None, Result, Ok, Err, ◌∷◌}
 use Rattle.ga_grid.specs.Chip.{record_at}
 use Rattle.ga_grid.specs.declared.node_id.NodeId.{NodeId}
 use Rattle.ga_causal.specs.declared.chain.Link.{Link}
@@ -9,7 +10,6 @@ use Rattle.ga_event.specs.Told.{made_in}
 use Rattle.ga_event.specs.declared.made.Made.{Made}
 use Rattle.ga_lab.specs.Machine.{State, chip_of, step_answer, stepped, undo_answer, undone, rewind_answer, rewound, word_at, history_of, told_of_kept, why_answer}
 use Rattle.ga_lab.specs.declared.fault.LabFault.{LabFault}
-use Rattle.ga_lab.specs.declared.fault.LabFault.TheVariants as fault
 use Rattle.ga_display.specs.Texts.{made_text, removed_text, refusal_text, node_text, memory_text, counts_text, trace_text, chain_text, independent, no_syntax, no_long}
 use Rattle.ga_console.specs.Commands.{SpellsCommand}
 use Rattle.ga_console.specs.declared.command.Command.{Command}
@@ -89,3 +89,10 @@ pub data LineAnswer (s : State) (line : Line) (answer : Text) (new : State) : Ty
   long : longest < length line → answer ≡ no_long → new ≡ s → LineAnswer s line answer new
   command : (c : Command) → length line ≤ longest → SpellsCommand c line → Does s c answer new → LineAnswer s line answer new
   syntax : length line ≤ longest → ((c : Command) → ¬ SpellsCommand c line) → answer ≡ no_syntax → new ≡ s → LineAnswer s line answer new
+
+-- ---- the machines to which a session comes
+
+-- From this machine, answers to the lines lead to that one.
+abbrev pub Reaches : State → List Line → State → Type 0
+Reaches m [] last = last ≡ m
+Reaches m (line ∷ lines) last = (answer : Text) × (next : State) × LineAnswer m line answer next × Reaches next lines last

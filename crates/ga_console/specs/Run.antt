@@ -13,8 +13,7 @@ use Rattle.ga_text.specs.Output.{Begins, ready}
 use Rattle.ga_text.specs.Image.{EndsAtEnd, HasNoEnd}
 use Rattle.ga_lab.specs.Machine.{State, first}
 use Rattle.ga_display.specs.Texts.{image_fault_text}
-use Rattle.ga_console.specs.Turns.{Answering}
-use Rattle.ga_console.specs.Session.{Serves, Written}
+use Rattle.ga_console.specs.Session.{Answering, Serves, Written}
 use Rattle.ga_console.specs.Replies.{LineAnswer}
 use Rattle.ga_console.specs.declared.commands.Ending.{Ending}
 use Rattle.ga_console.specs.declared.commands.Ending.TheVariants.{Ended, Quit, Past, ReadFailed}

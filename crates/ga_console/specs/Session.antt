@@ -1,14 +1,23 @@
 -- What the command part of a session says, how it may end, and to which machine it leads (docs/REFERENCE.md, "Sessions"; this
 -- project's own). A is how the session answers a line: of the debugger's it is Answer.
-use Rattle.std.specs.Prelude.{◌≡◌, ◌≢◌, ℕ, ◌+◌, ◌<◌, ◌≤◌, ◌⊎◌, List, [], ◌∷◌, ◌++◌, length, take, nat_le, if◌then◌else◌, Result, Ok, Err}
+use Rattle.std.specs.Prelude.{codes, ◌≡◌, ◌≢◌, ℕ, ◌+◌, ◌<◌, ◌≤◌, ◌⊎◌, List, [], ◌∷◌, ◌++◌, length, take, nat_le, if◌then◌else◌, Result, Ok, Err}
+use Rattle.ga_text.specs.Lines.{Text, Line, Bytes, lines_of, ended_lines}
 use Rattle.std.specs.List.{AllByRecursion}
-use Rattle.ga_text.specs.Lines.{Bytes, Text, Line, lines_of, ended_lines}
 use Rattle.ga_text.specs.Output.{Begins}
 use Rattle.ga_display.specs.Texts.{no_input}
-use Rattle.ga_console.specs.Turns.{Answering, quit_line}
 use Rattle.ga_console.specs.declared.commands.Ending.{Ending}
 use Rattle.ga_console.specs.declared.commands.Ending.TheVariants.{Ended, Quit, Past, ReadFailed}
 use Rattle.ga_text.specs.declared.output.WriteFailed.{WriteFailed}
+
+-- ---- how a session answers one line, whatever its machine is (docs/REFERENCE.md, "Sessions"; this project's own)
+
+-- the answers of a session: the machine before a line, the line, its answer, and the machine after it
+abbrev pub Answering : Type 0 → Type 1
+Answering M = M → Line → Text → M → Type 0
+
+-- the line that ends a session
+abbrev pub quit_line : Line
+quit_line = codes "quit"
 
 abbrev pub HasNoQuit : List Line → Type 0
 HasNoQuit lines = AllByRecursion (λ line. line ≢ quit_line) lines

@@ -1,5 +1,5 @@
 //! The commands that change the machine.
-ghost use Rattle.ga_text.specs.kept.Output.{Says};
+ghost use Rattle.ga_text.specs.kept.{Says};
 ghost use Rattle.ga_console.specs.Replies.{Does};
 ghost use Rattle.ga_console.specs.declared.command.Command.TheVariants.{Step, Back, Rewind};
 

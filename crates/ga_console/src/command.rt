@@ -111,7 +111,7 @@ fn shown_by(line: &[u8]) -> Option<Command>
 
 /// The node that a line shows.
 #[inline(always)]
-#[tactic(auto, using(crate::proofs::AheadLemmas::same_bytes, crate::proofs::Shown::node_line))]
+#[tactic(auto, using(crate::proofs::AheadLemmas::same_bytes, crate::proofs::AheadLemmas::node_line))]
 fn node_shown(line: &[u8]) -> Option<NodeId>
     ensures { IfSome result (λ node. SpellsCommand (Node node) line.now) }
 {
@@ -127,7 +127,7 @@ fn node_shown(line: &[u8]) -> Option<NodeId>
 
 /// The `mem` that a line spells.
 #[inline(always)]
-#[tactic(auto, using(crate::proofs::AheadLemmas::same_bytes, crate::proofs::Shown::memory_line))]
+#[tactic(auto, using(crate::proofs::AheadLemmas::same_bytes, crate::proofs::AheadLemmas::memory_line))]
 fn memory_shown(line: &[u8]) -> Option<Command>
     ensures { IfSome result (λ command. SpellsCommand command line.now) }
 {

@@ -1,10 +1,10 @@
 //! Laws of the definitions, each the contract of a function that does nothing.
 
 ghost use Rattle.std.specs.Prelude.{ℕ, List};
-ghost use Rattle.ga_grid.specs.Steady.{AreSteady};
+ghost use Rattle.ga_grid.specs.Chip.{AreSteady};
 ghost use Rattle.ga_text.specs.Lines.{Bytes, Line};
 ghost use Rattle.ga_lab.specs.Machine.{State, chip_of};
-ghost use Rattle.ga_console.specs.Reached.{Reaches};
+ghost use Rattle.ga_console.specs.Replies.{Reaches};
 ghost use Rattle.ga_console.specs.Run.{Opens};
 
 use ga_lab::laws::machine_stays_steady;

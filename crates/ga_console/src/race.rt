@@ -3,7 +3,7 @@ ghost use Rattle.std.specs.Prelude.{◌≡◌, ◌<◌, ◌≤◌, ◌*◌, ◌+
 ghost use Rattle.ga_text.specs.Lines.{Bytes};
 ghost use Rattle.ga_grid.specs.Chip.{records_of};
 ghost use Rattle.ga_console.specs.Race.{calls_by, report_text, IsRaceOfWorkers, Reports};
-ghost use Rattle.ga_console.specs.kept.Race.{Races, Writes};
+ghost use Rattle.ga_console.specs.kept.Run.{Races, Writes};
 
 use super::run::{Status, refuse};
 use ga_grid::{Chip, NodeId};

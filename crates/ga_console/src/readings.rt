@@ -1,6 +1,6 @@
 //! The commands that read the machine and leave it as it is.
 ghost use Rattle.std.specs.Prelude.{◌≡◌, ◌++◌, length, flat_map};
-ghost use Rattle.ga_text.specs.kept.Output.{Says};
+ghost use Rattle.ga_text.specs.kept.{Says};
 ghost use Rattle.ga_display.specs.Texts.{made_text, chain_text};
 ghost use Rattle.ga_console.specs.Replies.{Does, steps_text};
 ghost use Rattle.ga_console.specs.declared.command.Command.TheVariants.{Node, Memory, Trace, Why, Count, Dump};

@@ -1,7 +1,7 @@
 //! The answer to a line.
-ghost use Rattle.ga_text.specs.kept.Output.{Says};
+ghost use Rattle.ga_text.specs.kept.{Says};
 ghost use Rattle.ga_console.specs.Replies.{LineAnswer, Does};
-ghost use Rattle.ga_console.specs.kept.Turns.{Turns};
+ghost use Rattle.ga_console.specs.kept.Run.{Turns};
 
 use super::changes::{back, rewind, step};
 use super::command::{Command, command_of};

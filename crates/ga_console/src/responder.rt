@@ -2,8 +2,8 @@
 ghost use Rattle.std.specs.Prelude.{◌≡◌};
 ghost use Rattle.ga_text.specs.Lines.{Bytes};
 ghost use Rattle.ga_lab.specs.Machine.{State};
-ghost use Rattle.ga_text.specs.kept.Output.{Says};
-ghost use Rattle.ga_console.specs.kept.Turns.{Turns, AnswersCommand};
+ghost use Rattle.ga_text.specs.kept.{Says};
+ghost use Rattle.ga_console.specs.kept.Run.{Turns, AnswersCommand};
 
 use super::command::Command;
 use super::reply;

@@ -25,7 +25,7 @@ use Rattle.ga_console.specs.declared.command.Command.TheVariants.{Step, Back, Re
 use Rattle.ga_explorer.specs.Answers.{Explores, AnswersOther}
 use Rattle.ga_explorer.specs.Answers.Explores.{explored, debugged}
 use Rattle.ga_explorer.specs.Commands.{Explored}
-use Rattle.ga_explorer.specs.Exploring.{Exploring}
+use Rattle.ga_explorer.specs.Opening.{Exploring}
 use Rattle.ga_explorer.specs.declared.commands.ExplorerCommand.{ExplorerCommand}
 use Rattle.ga_explorer.specs.declared.commands.ExplorerCommand.TheVariants as asked
 use Rattle.ga_responses.specs.declared.debuggee.Debuggee.{Debuggee}

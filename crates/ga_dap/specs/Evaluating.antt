@@ -7,7 +7,7 @@ use Rattle.serde_json.specs.View.{view}
 use Rattle.ga_text.specs.Lines.{Text}
 use Rattle.ga_grid.specs.declared.node_id.NodeId.{NodeId}
 use Rattle.ga_lab.specs.Machine.{chip_of}
-use Rattle.ga_console.specs.Turns.{quit_line}
+use Rattle.ga_console.specs.Session.{quit_line}
 use Rattle.ga_explorer.specs.Answers.{Explores}
 use Rattle.ga_adapter.specs.Json.{whole_number}
 use Rattle.ga_responses.specs.Evaluating.{AsksForVariable, AsksForNoVariable, evaluated}

@@ -9,8 +9,7 @@ use Rattle.ga_source.specs.Asks.{AreAsked}
 use Rattle.ga_source.specs.declared.program.Program.{Program}
 use Rattle.ga_source.specs.Sound.{IsSoundSource}
 use Rattle.ga_text.specs.Lines.{Bytes, lines_of}
-use Rattle.ga_explorer.specs.Exploring.{Exploring}
-use Rattle.ga_explorer.specs.Opening.{begins_as_image, OpensExploring}
+use Rattle.ga_explorer.specs.Opening.{Exploring, begins_as_image, OpensExploring}
 use Rattle.ga_responses.specs.declared.debuggee.Debuggee.{Debuggee}
 
 -- what is explored of a program

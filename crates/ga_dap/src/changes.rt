@@ -18,7 +18,7 @@ use ga_responses::{Debuggee, shown_nodes, tell_changed, tell_output, tell_stoppe
 use std::alloc::{AllocError, Global};
 
 /// Tells which threads came and went.
-#[tactic(auto, using(ga_responses::proofs::Sent::ok_then, crate::proofs::Shown::shown_so))]
+#[tactic(auto, using(ga_responses::proofs::Sent::ok_then, crate::proofs::Known::shown_so))]
 fn tell_threads(
     alloc: Global,
     program: &Debuggee,

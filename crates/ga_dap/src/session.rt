@@ -51,7 +51,7 @@ impl Session {
     }
 
     /// Answers a request.
-    #[tactic(auto, using(crate::proofs::Sends::carries_so))]
+    #[tactic(auto, using(crate::proofs::Known::carries_so))]
     pub fn answer<S: ProgramFiles>(
         &mut self,
         alloc: Global,
@@ -264,7 +264,7 @@ fn in_place(
 }
 
 /// Makes a slice of the run under way, and tells what came of it.
-#[tactic(auto, using(crate::proofs::Shown::shown_so, crate::proofs::Sends::carries_so))]
+#[tactic(auto, using(crate::proofs::Known::shown_so, crate::proofs::Known::carries_so))]
 pub(crate) fn go_on_launched(
     alloc: Global,
     launched: &mut Launched,

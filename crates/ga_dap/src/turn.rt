@@ -87,7 +87,7 @@ fn decline(alloc: Global, why: RequestError, out: &mut Outbox) -> Progress
 }
 
 /// The refusal of a request for want of memory, behind the message of this number.
-#[tactic(auto, using(crate::proofs::Sends::sent_again, ga_responses::proofs::Sent::sent_one))]
+#[tactic(auto, using(crate::proofs::Known::sent_again, ga_responses::proofs::Sent::sent_one))]
 fn refusal_of(alloc: Global, request: &ClientRequest, seq: u64) -> Result<Outbox, AllocError>
     ensures { IfOk result (λ out. SendsAll (sent_from seq) (refused_for_memory request.now) out) }
 {

@@ -13,13 +13,12 @@ use Rattle.ga_node.specs.declared.kind.Kind.{Kind}
 use Rattle.ga_node.specs.declared.kind.Kind.TheVariants as kind
 use Rattle.ga_grid.specs.declared.node_id.NodeId.{NodeId}
 use Rattle.ga_image.specs.Fault.{cause_number, cause_word}
-use Rattle.ga_text.specs.Digits.{decimal3_of, hex2_of, words_text}
+use Rattle.ga_text.specs.Digits.{decimal3_of, hex2_of, words_text, name_of_node, step_text}
 use Rattle.ga_image.specs.declared.fault.ImageFault.{ImageFault}
 use Rattle.ga_event.specs.declared.made.Made.{Made}
 use Rattle.ga_event.specs.declared.made.Made.TheVariants.{Own, Pass}
 use Rattle.ga_lab.specs.declared.fault.LabFault.{LabFault}
 use Rattle.ga_lab.specs.declared.fault.LabFault.TheVariants.{Waiting, Stopped, Full, Memory, Empty, NoStep, Spent}
-use Rattle.ga_text.specs.Names.{name_of_node, step_text}
 
 -- words with one space between two of them
 abbrev pub spaced : List Text → Text

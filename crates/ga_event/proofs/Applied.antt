@@ -24,7 +24,7 @@ use Rattle.ga_event.specs.declared.event.Event.TheVariants as event
 use Rattle.ga_node.specs.declared.wait.Wait.{Wait}
 use Rattle.std.proofs.lemmas.Bool.{and_parts, eqb-true}
 use Rattle.ga_grid.specs.Grid.{neighbour_of}
-use Rattle.ga_grid.proofs.Links.{neighbour_of-other}
+use Rattle.ga_grid.proofs.NodeIds.{neighbour_of-other}
 use Rattle.ga_event.specs.Apply.{Did, Carried, seen_from, is_number, is_open, unmatched, after_own, after_pass, unless, apply, cause_of}
 use Rattle.ga_event.specs.Undo.{cause_with, own_effect, restored_at, CanRestore, IsApplied}
 

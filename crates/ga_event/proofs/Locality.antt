@@ -16,8 +16,7 @@ use Rattle.ga_event.specs.declared.event.Event.{Event}
 use Rattle.ga_event.specs.declared.event.Cause.{Cause}
 use Rattle.ga_event.specs.declared.event.Event.TheVariants.{Own, Pass}
 use Rattle.ga_event.specs.Touches.{nodes_of, touches, with_some, neighbours, looked_at, seen_by, meets}
-use Rattle.ga_event.specs.Apply.{Told, shows, beside_in, seen_from, is_open, unmatched, refusal_of, after_own, after_pass, unless, after, apply, is_look, cause_of}
-use Rattle.ga_event.specs.Agree.{Agree, Alike}
+use Rattle.ga_event.specs.Apply.{Told, shows, beside_in, seen_from, is_open, unmatched, refusal_of, after_own, after_pass, unless, after, apply, is_look, cause_of, Agree, Alike}
 
 pub any-append : (marks : ℕ → Bool) (a b : List ℕ) → list_any marks a ≡ true → list_any marks (a ++ b) ≡ true
 any-append marks [] b t = absurd (both_ways false refl t)

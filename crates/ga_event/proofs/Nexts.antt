@@ -16,7 +16,7 @@ use Rattle.ga_node.specs.declared.wait.Wait.TheVariants.{Nothing, Fetch, Read, W
 use Rattle.ga_grid.specs.declared.node_id.NodeId.{NodeId}
 use Rattle.ga_grid.specs.Grid.{node_id, neighbour_of}
 use Rattle.ga_grid.specs.Chip.{record_at}
-use Rattle.ga_grid.proofs.Links.{neighbour_of-back}
+use Rattle.ga_grid.proofs.NodeIds.{neighbour_of-back}
 use Rattle.ga_event.specs.declared.event.Event.{Event}
 use Rattle.ga_event.specs.declared.event.Event.TheVariants.{Own, Pass}
 use Rattle.ga_event.specs.Apply.{writes_to, reads_from, is_number, unmatched, refusal_of}

@@ -3,17 +3,15 @@ use Rattle.std.specs.Prelude.{option_map, option_and_then}
 use Rattle.std.proofs.Common.{◌≡◌, ℕ, ◌<◌, List, [], ◌∷◌, length, set, Option, Some, None, IfSome, inl, inr, refl, sym, subst, get_or-set_other, get_or-set_same}
 use Rattle.std.proofs.lemmas.Bool.{cases_eq, cases_lt}
 use Rattle.std.proofs.lemmas.List.{set_past}
-use Rattle.ga_node.specs.Record.{NodeRecord, record_of}
+use Rattle.ga_node.specs.Record.{NodeRecord, record_of, IsSteady}
 use Rattle.ga_node.specs.Table.{own, sent}
-use Rattle.ga_node.specs.Steady.{IsSteady}
 use Rattle.ga_node.specs.declared.kind.NotReady.{NotReady}
 use Rattle.ga_node.proofs.Steadiness.{own_steady, sent_steady, taken_steady}
-use Rattle.ga_grid.specs.Chip.{nowhere, record_at}
+use Rattle.ga_grid.specs.Chip.{nowhere, record_at, AreSteady}
 use Rattle.ga_event.specs.declared.event.Cause.{Cause}
 use Rattle.ga_event.specs.declared.event.Event.{Event}
 use Rattle.ga_event.specs.declared.event.Event.TheVariants.{Own, Pass}
 use Rattle.ga_event.specs.Apply.{Told, seen_from, refusal_of, unless, after, apply, cause_of, run, replay}
-use Rattle.ga_grid.specs.Steady.{AreSteady}
 
 set_steady : (chip : List NodeRecord) (n : ℕ) (node : NodeRecord) → AreSteady chip → IsSteady node → AreSteady (set chip n node)
 set_steady chip n node steady new = λ m within.

@@ -1,6 +1,6 @@
 -- What an event does to a chip, and what the events of a list do one after another (F18A Technology Reference DB001, ports;
 -- G144A12 Chip Reference DB002, links).
-use Rattle.std.specs.Prelude.{ℕ, ◌==◌, Bool, true, false, ◌&&◌, if◌then◌else◌, List, [], ◌∷◌, Option, Some, None, option_map, option_and_then, slice_set, Result, MatchResult, ◌≡◌}
+use Rattle.std.specs.Prelude.{ℕ, ◌==◌, Bool, true, false, ◌&&◌, if◌then◌else◌, List, [], ◌∷◌, Option, Some, None, option_map, option_and_then, slice_set, Result, MatchResult, ◌≡◌, length}
 use Rattle.ga_ports.specs.declared.side.Side.{Side}
 use Rattle.ga_ports.specs.declared.side.Side.TheVariants.{Right, Down, Left, Up}
 use Rattle.ga_ports.specs.Address.{has_side, is_side}
@@ -122,3 +122,17 @@ run chip (event ∷ events) =
 -- the chip that the events of a list leave, made one after another; none where one cannot be
 abbrev pub replay : List NodeRecord → List Event → Option (List NodeRecord)
 replay chip events = option_map (λ done. done.0) (run chip events)
+
+-- ---- chips that agree at some of their nodes
+
+-- two chips agree at each node that is not marked
+pub record Agree (marks : ℕ → Bool) (chip other : List NodeRecord) : Type 0 where
+  pub size : length chip ≡ length other
+  pub same : (n : ℕ) → marks n ≡ false → record_at chip n ≡ record_at other n
+
+-- an event can be on neither, or it leaves chips that agree and tells the same
+abbrev pub Alike : (ℕ → Bool) → Option (List NodeRecord × Told) → Option (List NodeRecord × Told) → Type 0
+Alike marks None None = Unit {0}
+Alike marks None (Some there) = ⊥
+Alike marks (Some here) None = ⊥
+Alike marks (Some here) (Some there) = Agree marks here.0 there.0 × (here.1 ≡ there.1)

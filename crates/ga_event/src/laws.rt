@@ -3,15 +3,13 @@
 ghost use Rattle.std.specs.Prelude.{◌≡◌, ℕ, Bool, false, if◌then◌else◌, List, IfSome, None, Ok};
 ghost use Rattle.ga_node.specs.Record.{NodeState, NodeRecord};
 ghost use Rattle.ga_grid.specs.declared.node_id.NodeId.{NodeId};
-ghost use Rattle.ga_grid.specs.Chip.{node_at, records_of};
+ghost use Rattle.ga_grid.specs.Chip.{node_at, records_of, AreSteady};
 ghost use Rattle.ga_event.specs.declared.event.Event.{Event};
 ghost use Rattle.ga_event.specs.declared.event.Effect.{Effect};
 ghost use Rattle.ga_event.specs.Touches.{touches, meets};
-ghost use Rattle.ga_event.specs.Apply.{refusal_of, apply, cause_of, replay};
+ghost use Rattle.ga_event.specs.Apply.{refusal_of, apply, cause_of, replay, Agree, Alike};
 ghost use Rattle.ga_event.specs.Next.{next};
 ghost use Rattle.ga_event.specs.Undo.{unapplied, cause_with, CanUnapply, IsApplied, IsLeft};
-ghost use Rattle.ga_event.specs.Agree.{Agree, Alike};
-ghost use Rattle.ga_grid.specs.Steady.{AreSteady};
 
 /// An event changes the nodes that it touches alone.
 #[tactic(auto, using(crate::proofs::Locality::apply_keeps))]

@@ -5,8 +5,7 @@ use Rattle.ga_grid.specs.declared.node_id.NodeId.{NodeId}
 use Rattle.ga_event.specs.declared.event.Event.{Event}
 use Rattle.ga_event.specs.declared.made.Made.{Made}
 use Rattle.ga_event.specs.Next.{next}
-use Rattle.ga_lab.specs.Machine.{State, chip_of, step_answer, with_event, unless_refused, stepped}
-use Rattle.ga_lab.specs.Forward.{actor_of, stepped_all}
+use Rattle.ga_lab.specs.Machine.{State, chip_of, step_answer, with_event, unless_refused, stepped, actor_of, stepped_all}
 use Rattle.ga_lab.specs.declared.fault.LabFault.{LabFault}
 use Rattle.ga_console.specs.Replies.{reply, step_reply}
 use Rattle.ga_console.specs.declared.command.Command.TheVariants.{Step}

@@ -1,4 +1,3 @@
-pub mod Apart
 pub mod Done
 pub mod LineAnswers
 pub mod Fronts

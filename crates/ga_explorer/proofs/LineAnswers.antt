@@ -1,27 +1,41 @@
 -- How exploring answers a line, of which the first bytes are here.
+use Rattle.ga_console.specs.declared.responder.Turn.TheVariants as turn
 use Rattle.std.specs.Prelude.{Option}
-use Rattle.std.proofs.Common.{◌≡◌, ◌≢◌, ◌≤◌, inl, inr, refl, ℕ, List, take, length, Some, None, sym, ap, ◌∙◌, subst, arith, rules, length-take, Result, Ok, Err}
+use Rattle.std.proofs.Common.{◌≡◌, ℕ, List, None, refl, ◌≢◌, ◌≤◌, inl, inr, take, length, Some, sym, ap, ◌∙◌, subst, arith, rules, length-take, Result, Ok, Err}
+use Rattle.ga_console.specs.Commands.{SpellsCommand}
+use Rattle.ga_console.specs.declared.command.Command.{Command}
+use Rattle.ga_console.specs.declared.command.Command.TheVariants.{Step, Back, Rewind, Node, Memory, Trace, Why, Count, Dump, Quit}
+use Rattle.ga_notes.specs.declared.notes.Notes.{Notes}
+use Rattle.ga_explorer.specs.Commands.{request_in, lone_request, lone_question, named_request, named_question, Explored}
 use Rattle.std.specs.Result.{IsErr}
 use Rattle.std.proofs.lemmas.List.{take_all}
 use Rattle.ga_console.specs.Replies.{LineAnswer}
-use Rattle.ga_console.specs.kept.Turns.{Turns, AnswersLine}
-use Rattle.ga_console.specs.Turns.{quit_line}
-use Rattle.ga_console.specs.Commands.{SpellsCommand}
-use Rattle.ga_console.specs.declared.command.Command.{Command}
-use Rattle.ga_console.specs.declared.command.Command.TheVariants.{Quit}
+use Rattle.ga_console.specs.kept.Run.{Turns, AnswersLine}
+use Rattle.ga_console.specs.Session.{quit_line}
 use Rattle.ga_lab.specs.Machine.{State}
 use Rattle.ga_text.specs.declared.output.WriteFailed.{WriteFailed}
 use Rattle.ga_console.specs.declared.responder.Turn.{Turn}
-use Rattle.ga_console.specs.declared.responder.Turn.TheVariants as turn
-use Rattle.ga_notes.specs.declared.notes.Notes.{Notes}
-use Rattle.ga_explorer.specs.Commands.{request_in, Explored}
-use Rattle.ga_explorer.specs.Exploring.{Exploring}
-use Rattle.ga_explorer.specs.kept.Exploring.{exploring}
+use Rattle.ga_explorer.specs.Opening.{Exploring}
+use Rattle.ga_explorer.specs.kept.{exploring}
 use Rattle.ga_explorer.specs.Answers.{Explores, AnswersOther, IsOfDebugger}
 use Rattle.ga_explorer.specs.NoCommand.{no_command}
 use Rattle.ga_explorer.specs.Answers.Explores.{explored, debugged}
 use Rattle.ga_explorer.specs.declared.commands.ExplorerCommand.{ExplorerCommand}
-use Rattle.ga_explorer.proofs.Apart.{debugger_alone}
+
+-- ---- A line that spells a command of the debugger spells none of exploring
+
+pub debugger_alone : (notes : Option Notes) (c : Command) (line : List ℕ) → SpellsCommand c line → request_in notes line ≡ None
+unfolding lone_request lone_question named_request named_question
+debugger_alone notes (Step node) line is = rw is refl
+debugger_alone notes Back line is = rw is refl
+debugger_alone notes (Rewind node k) line is = rw is.1 refl
+debugger_alone notes (Node node) line is = rw is refl
+debugger_alone notes (Memory node address) line is = rw is.2 refl
+debugger_alone notes (Trace node) line is = rw is refl
+debugger_alone notes (Why from k to j) line is = rw is.2 refl
+debugger_alone notes Count line is = rw is refl
+debugger_alone notes Dump line is = rw is refl
+debugger_alone notes Quit line is = rw is refl
 
 whole : (line part : List ℕ) → line ≡ take 201 part → length line ≤ 200 → part ≡ line
 whole line part e h = sym (e ∙ take_all 201 part (omega (arith, ap length e, length-take 201 part)))

@@ -5,13 +5,13 @@ use Rattle.ga_text.specs.declared.output.WriteFailed.{WriteFailed}
 use Rattle.ga_lab.specs.Machine.{State}
 use Rattle.ga_console.specs.Replies.{LineAnswer}
 use Rattle.ga_console.specs.Commands.{SpellsCommand}
-use Rattle.ga_console.specs.Turns.{quit_line}
+use Rattle.ga_console.specs.Session.{quit_line}
 use Rattle.ga_console.specs.declared.responder.Turn.{Turn}
 use Rattle.ga_console.specs.declared.responder.Turn.TheVariants.{Answered, Quit}
 use Rattle.ga_console.specs.declared.command.Command.{Command}
 use Rattle.ga_explorer.specs.Commands.{request_in, Explored}
 use Rattle.ga_explorer.specs.NoCommand.{no_command}
-use Rattle.ga_explorer.specs.Exploring.{Exploring}
+use Rattle.ga_explorer.specs.Opening.{Exploring}
 use Rattle.ga_explorer.specs.declared.commands.ExplorerCommand.{ExplorerCommand}
 
 -- the line is too long, or spells a command of the debugger

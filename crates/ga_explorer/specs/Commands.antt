@@ -22,10 +22,9 @@ use Rattle.ga_answers.specs.Around.{around_text}
 use Rattle.ga_answers.specs.Trees.{TellsWhence}
 use Rattle.ga_answers.specs.Because.{because_text}
 use Rattle.ga_answers.specs.Races.{TellsRaces}
-use Rattle.ga_explorer.specs.Which.{step_meant}
+use Rattle.ga_explorer.specs.Reading.{step_meant, run_in, back_in, most_events, no_condition, node_and_step, two_nodes, node_and_cell, node_and_steps}
 use Rattle.ga_explorer.specs.Forms.{CommandForm, entry, place_from, form_rows_text, about_found}
-use Rattle.ga_explorer.specs.Reading.{run_in, back_in, most_events, no_condition, node_and_step, two_nodes, node_and_cell, node_and_steps}
-use Rattle.ga_explorer.specs.Exploring.{Exploring}
+use Rattle.ga_explorer.specs.Opening.{Exploring}
 use Rattle.ga_explorer.specs.declared.commands.ExplorerCommand.{ExplorerCommand}
 use Rattle.ga_explorer.specs.declared.commands.ExplorerCommand.TheVariants as asked
 use Rattle.ga_explorer.specs.declared.commands.Question.{Question}

@@ -1,7 +1,5 @@
-pub mod Which
 pub mod Forms
 pub mod Reading
-pub mod Exploring
 pub mod Leading
 pub mod Commands
 pub mod NoCommand

@@ -1,5 +1,7 @@
 -- What a session of exploring begins on: an image, or source (docs/REFERENCE.md, "Exploring"; this project's own).
-use Rattle.std.specs.Prelude.{◌≡◌, ℕ, ◌⊎◌, Bool, true, false, List, [], ◌++◌, length, take, codes, bytes_eq, Result, Ok, Err, Some, None}
+use Rattle.std.specs.Prelude.{Option, ◌≡◌, ℕ, ◌⊎◌, Bool, true, false, List, [], ◌++◌, length, take, codes, bytes_eq, Result, Ok, Err, Some, None}
+use Rattle.ga_lab.specs.Machine.{State, first}
+use Rattle.ga_notes.specs.declared.notes.Notes.{Notes}
 use Rattle.std.specs.List.{All}
 use Rattle.ga_node.specs.Record.{NodeState}
 use Rattle.ga_grid.specs.Chip.{records_of}
@@ -8,19 +10,22 @@ use Rattle.ga_image.specs.Fault.{no_memory}
 use Rattle.ga_image.specs.declared.fault.ImageFault.{ImageFault}
 use Rattle.ga_source.specs.declared.program.Program.{Program}
 use Rattle.ga_source.specs.Programs.{IsAssembled}
-use Rattle.ga_source.specs.Asks.{AreRead}
-use Rattle.ga_source.specs.Asks.{AreAsked}
+use Rattle.ga_source.specs.Asks.{AreRead, AreAsked}
 use Rattle.ga_source.specs.Groups.{HasGroups}
 use Rattle.ga_source.specs.Made.{IsChipOfSource}
-use Rattle.ga_notes.specs.declared.notes.Notes.{Notes}
 use Rattle.ga_notes.specs.Notes.{AreOfSource}
-use Rattle.ga_lab.specs.Machine.{first}
 use Rattle.ga_text.specs.Input.{Unread}
 use Rattle.ga_text.specs.Image.{EndsAtEnd, HasNoEnd}
 use Rattle.ga_console.specs.Run.{Opens as OpensImage, IsReadAlone, Faulty, Refuses}
 use Rattle.ga_console.specs.declared.run.Status.{Status}
 use Rattle.ga_console.specs.declared.run.Status.TheVariants.{ImageRefused, StreamFault}
-use Rattle.ga_explorer.specs.Exploring.{Exploring}
+
+-- ---- what is explored (docs/REFERENCE.md, "Exploring"; this project's own)
+
+-- a machine, and what the source says of its cells where it began with source
+pub record Exploring : Type 0 where
+  pub lab : State
+  pub notes : Option Notes
 
 -- the text is an image, and not source
 abbrev pub begins_as_image : Text → Bool

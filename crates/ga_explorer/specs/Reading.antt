@@ -1,22 +1,35 @@
 -- What stands behind the names of commands of exploring, and how it is read: words with one space between two of them
 -- (docs/REFERENCE.md, "Exploring"; this project's own). Nodes and numbers are spelled as in the debugger's commands.
-use Rattle.std.specs.Prelude.{ℕ, zero, suc, ◌+◌, ◌*◌, ◌^◌, ◌==◌, nat_eq, nat_lt, nat_le, ◌&&◌, if◌then◌else◌, List, [], ◌∷◌, ◌++◌, replicate, codes, Option, Some, None, option_map}
+use Rattle.std.specs.Prelude.{ℕ, nat_eq, if◌then◌else◌, codes, Option, Some, option_map, zero, suc, ◌+◌, ◌*◌, ◌^◌, ◌==◌, nat_lt, nat_le, ◌&&◌, List, [], ◌∷◌, ◌++◌, replicate, None}
 use Rattle.std.specs.Cmp.Lexicographic.{pointwise}
 use Rattle.ga_text.specs.Lines.{Line}
 use Rattle.ga_grid.specs.declared.node_id.NodeId.{NodeId}
+use Rattle.ga_event.specs.Told.{steps_of}
+use Rattle.ga_lab.specs.Machine.{State}
+use Rattle.ga_text.specs.Parsing.{number_in, in_front, cut, node_in}
+use Rattle.ga_explorer.specs.declared.which.Which.{Which}
+use Rattle.ga_explorer.specs.declared.which.Which.TheVariants.{Number, Last}
 use Rattle.ga_ports.specs.Steps.{◌>>=◌}
 use Rattle.ga_text.specs.Digits.{byte_in}
-use Rattle.ga_text.specs.Parsing.{in_front, cut, node_in, number_in}
 use Rattle.ga_search.specs.Schedules.{in_rounds, greedily, at_random}
 use Rattle.ga_search.specs.declared.schedule.Schedule.{Schedule}
 use Rattle.ga_search.specs.declared.condition.Condition.{Condition}
 use Rattle.ga_search.specs.declared.condition.Condition.TheVariants.{Never, Passes, PassesNumber, Steps, Stops, StopsAt, WaitsAt, Holds, ComesTo, Reaches, Writes as WritesTo}
 use Rattle.ga_notes.specs.declared.notes.Notes.{Notes}
 use Rattle.ga_notes.specs.Notes.{line_address, address_of}
-use Rattle.ga_explorer.specs.declared.which.Which.{Which}
-use Rattle.ga_explorer.specs.Which.{which_in}
 use Rattle.ga_explorer.specs.declared.commands.ExplorerCommand.{ExplorerCommand}
 use Rattle.ga_explorer.specs.declared.commands.ExplorerCommand.TheVariants.{Run, BackUntil}
+
+-- ---- which step of a node a command means: one by its number, or the last (docs/REFERENCE.md, "Exploring"; this project's own)
+
+-- a number, or `last`
+abbrev pub which_in : Line → Option Which
+which_in word = if pointwise nat_eq word (codes "last") then Some Last else option_map Number (number_in word)
+
+-- The number of the step that is meant. Of a node that made none the last is 0, which no step has.
+abbrev pub step_meant : State → NodeId → Which → ℕ
+step_meant s node (Number step) = step
+step_meant s node Last = steps_of node.number s.kept
 
 -- how many events are made at most where no number is given
 abbrev pub most_events : ℕ

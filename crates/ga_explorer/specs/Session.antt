@@ -8,9 +8,8 @@ use Rattle.ga_console.specs.Session.{Serves, Written}
 use Rattle.ga_console.specs.declared.commands.Ending.{Ending}
 use Rattle.ga_text.specs.declared.output.WriteFailed.{WriteFailed}
 use Rattle.ga_console.specs.declared.run.Status.{Status}
-use Rattle.ga_explorer.specs.Exploring.{Exploring}
+use Rattle.ga_explorer.specs.Opening.{Exploring, OpensExploring, IsFront, Unbegun}
 use Rattle.ga_explorer.specs.Answers.{Explores}
-use Rattle.ga_explorer.specs.Opening.{OpensExploring, IsFront, Unbegun}
 
 -- The text, an image or source, was accepted, and the commands behind it were served to this ending.
 pub record ServedExploring (limit : ℕ) (read rest : Bytes) (written : Text) (ending : Result Ending WriteFailed) : Type 0 where

@@ -1,4 +1,52 @@
-pub mod Exploring
-pub mod Forms
-pub mod Opening
-pub mod Telling
+-- What only private contracts and proofs name.
+use Rattle.std.specs.Prelude.{Option, ◌≡◌, ℕ, true, false, [], Result, Ok, Err}
+use Rattle.ga_lab.specs.Machine.{State}
+use Rattle.ga_notes.specs.declared.notes.Notes.{Notes}
+use Rattle.ga_explorer.specs.Opening.{Exploring, begins_as_image, OpensExploring}
+use Rattle.ga_explorer.specs.Forms.{CommandForm}
+use Rattle.ga_explorer.specs.declared.forms.Row.{Row}
+use Rattle.ga_text.specs.Lines.{Text, Bytes}
+use Rattle.ga_console.specs.Run.{IsFault, Refuses}
+use Rattle.ga_console.specs.declared.run.Status.{Status}
+use Rattle.ga_console.specs.declared.run.Status.TheVariants.{ImageRefused}
+use Rattle.ga_explorer.specs.declared.opening.Unopened.{Unopened}
+use Rattle.ga_explorer.specs.declared.opening.Unopened.TheVariants.{Image, Source}
+use Rattle.ga_text.specs.kept.{Says}
+use Rattle.ga_text.specs.declared.output.WriteFailed.{WriteFailed}
+use Rattle.ga_explorer.specs.Commands.{Tells}
+use Rattle.ga_explorer.specs.declared.commands.Question.{Question}
+
+-- ---- what is explored, of its two parts
+
+abbrev pub exploring : State → Option Notes → Exploring
+exploring lab notes = record { lab = lab; notes = notes }
+
+-- ---- A row of the code's table of commands
+
+abbrev pub entry_of : Row → CommandForm
+entry_of row = record { name = row.name.now; form = row.form.now; does = row.does.now; more = row.more.now }
+
+-- ---- what is written once an image or source was read
+
+-- why there is no machine that has the text's chip as its load
+abbrev pub IsUnopened : Text → Unopened → Type 0
+IsUnopened text (Image fault) = (begins_as_image text ≡ true) × IsFault text fault
+IsUnopened text Source = begins_as_image text ≡ false
+
+-- a refusal is written, or standard error tells why
+abbrev pub Declines : Unopened → Text → Status → Type 0
+Declines (Image fault) written status = Refuses fault written status
+Declines Source written status = (written ≡ []) × (status ≡ ImageRefused)
+
+-- a machine was opened on the text, or that was declined
+abbrev pub IsOpened : ℕ → Text → Text → Result Exploring Status → Type 0
+IsOpened limit text written (Ok begun) = (written ≡ []) × OpensExploring text limit begun
+IsOpened limit text written (Err status) = (why : Unopened) × IsUnopened text why × Declines why written status
+
+-- ---- what is told to a question, and written
+
+-- what is said is told to the question that is meant
+pub record IsTold (result : Result (Unit {0}) WriteFailed) (e : Exploring) (asked : Question) (contents : Option Bytes) (pending : Text) (held : Option Bytes) (left : Text) : Type 0 where
+  pub meant : Question
+  pub is : asked ≡ meant
+  pub said : Says result (Tells e meant) contents pending held left

@@ -3,11 +3,11 @@
 ghost use Rattle.std.specs.Prelude.{◌≡◌, ◌≤◌, ◌++◌, length, Some, None, IfSome, IfNone, IsTrue, false};
 ghost use Rattle.ga_text.specs.Lines.{Bytes};
 ghost use Rattle.ga_text.specs.Output.{IsSaid, IsSaidOrCut};
-ghost use Rattle.ga_text.specs.kept.Output.{Says};
+ghost use Rattle.ga_text.specs.kept.{Says};
 ghost use Rattle.ga_explorer.specs.Commands.{request_in, Explored};
-ghost use Rattle.ga_explorer.specs.kept.Exploring.{exploring};
+ghost use Rattle.ga_explorer.specs.kept.{exploring};
 ghost use Rattle.ga_explorer.specs.Answers.{ExploresOrQuits, AnswersOther, IsOfDebugger, IsNoCommand};
-ghost use Rattle.ga_console.specs.kept.Turns.{Turns};
+ghost use Rattle.ga_console.specs.kept.Run.{Turns};
 
 use crate::commands::{ExplorerCommand, request_of, told};
 use crate::forms::say_no_command;
@@ -29,8 +29,8 @@ pub struct Explorer {
 }
 
 impl Model for Explorer {
-    ghost use Rattle.ga_explorer.specs.Exploring.{Exploring};
-    ghost use Rattle.ga_explorer.specs.kept.Exploring.{exploring};
+    ghost use Rattle.ga_explorer.specs.Opening.{Exploring};
+    ghost use Rattle.ga_explorer.specs.kept.{exploring};
 
     ghost Value = { Exploring };
 
@@ -63,7 +63,7 @@ impl Explorer {
 
 impl Responder for Explorer {
     ghost use Rattle.std.specs.Prelude.{None};
-    ghost use Rattle.ga_explorer.specs.kept.Exploring.{exploring};
+    ghost use Rattle.ga_explorer.specs.kept.{exploring};
     ghost use Rattle.ga_explorer.specs.Answers.{Explores};
 
     ghost answers = { Explores };

@@ -1,7 +1,7 @@
 //! Which step of a node a command means.
 
 ghost use Rattle.std.specs.Prelude.{◌≡◌};
-ghost use Rattle.ga_explorer.specs.Which.{which_in, step_meant};
+ghost use Rattle.ga_explorer.specs.Reading.{which_in, step_meant};
 
 use ga_grid::NodeId;
 use ga_lab::Lab;

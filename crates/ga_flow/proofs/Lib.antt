@@ -4,4 +4,3 @@ pub mod Following
 pub mod Same
 pub mod Sources
 pub mod Tracks
-pub mod Words

@@ -8,7 +8,7 @@ use Rattle.ga_ports.specs.Address.{classified, is_single}
 use Rattle.ga_ports.specs.declared.address.Target.{Target}
 use Rattle.ga_ports.specs.declared.address.Target.TheVariants.{Ram, Rom, Io, Ports, Bad}
 use Rattle.ga_node.specs.Record.{NodeRecord}
-use Rattle.ga_node.specs.Waits.{wait_code}
+use Rattle.ga_node.specs.State.{wait_code}
 use Rattle.ga_node.specs.Table.{t, r, is_extended, due_of}
 use Rattle.ga_flow.specs.declared.choice.Choice.{Choice}
 use Rattle.ga_flow.specs.declared.choice.Choice.TheVariants.{Plain, Test, At}

@@ -7,7 +7,7 @@ ghost use Rattle.ga_node.specs.Table.{due_of};
 ghost use Rattle.ga_flow.specs.declared.part.Part.TheVariants.{P};
 ghost use Rattle.ga_flow.specs.Flow.{Same, From, SetI, SetP, StartAgain, IsPart, choice, target_of, moves_where, fetch_moves, execute_moves, multiply_moves, send_moves, take_moves, flow_where, own_flow, send_flow, take_flow};
 ghost use Rattle.ga_flow.specs.Following.{flow_of, AreSources, IsSource};
-ghost use Rattle.ga_flow.specs.kept.Following.{sought_of, At, before_all, read_before, write_before, IsSought};
+ghost use Rattle.ga_flow.specs.kept.{sought_of, At, before_all, read_before, write_before, IsSought};
 
 use crate::choice::Choice;
 use crate::flow::{Flow, from_one, from_three, from_two};

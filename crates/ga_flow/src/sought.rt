@@ -17,7 +17,7 @@ impl Sought {
     ghost use Rattle.ga_flow.specs.Flow.{From, GoOn, Skip, StartAgain, SetWait, SetStop, jump_moves, top_return, IsPart};
     ghost use Rattle.ga_flow.specs.Flow as move;
     ghost use Rattle.ga_flow.specs.Following.{flow_of, AreSources};
-    ghost use Rattle.ga_flow.specs.kept.Following.{sought_of, set_at, push_data, pop_data, push_return, pop_return, before, before_all, settled, IsSought};
+    ghost use Rattle.ga_flow.specs.kept.{sought_of, set_at, push_data, pop_data, push_return, pop_return, before, before_all, settled, IsSought};
 
     /// Before a part got a word that comes from there.
     pub(crate) fn set(self, at: Part, flow: Flow) -> Sought

@@ -4,7 +4,7 @@ use Rattle.std.proofs.lemmas.List.{get_or-set_same, get_or-set_other, length-set
 use Rattle.std.proofs.Math.ListN.{get_or-map}
 use Rattle.std.proofs.lemmas.List.FromFn.{get_or-map-range_with_len, length-map-range_with_len}
 use Rattle.ga_node.specs.Record.{NodeState, fresh_node, record_of}
-use Rattle.ga_grid.specs.Load.{load_p_of, default_chip}
+use Rattle.ga_grid.specs.Grid.{load_p_of, default_chip}
 use Rattle.ga_grid.specs.Chip.{nowhere, node_at, with_node, records_of, record_at}
 
 -- the record of a node

@@ -1,3 +1,2 @@
 pub mod Chips
-pub mod Links
 pub mod NodeIds

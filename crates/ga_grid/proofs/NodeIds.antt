@@ -1,10 +1,26 @@
 -- A node is its number.
-use Rattle.std.proofs.Common.{◌≡◌, ℕ, ◌<◌, Option, Some, None, ap, refl, sym, ◌∙◌, subst}
-use Rattle.std.specs.Prelude.{option_map}
+use Rattle.std.proofs.Common.{◌≡◌, ◌≢◌, ℕ, ◌<◌, arith, Option, None, ap, refl, sym, ◌∙◌, subst}
+use Rattle.std.specs.Prelude.{Some, option_map}
+use Rattle.ga_ports.specs.declared.side.Side.{Side}
+use Rattle.ga_ports.specs.declared.side.Side.TheVariants.{Right, Down, Left, Up}
+use Rattle.ga_grid.specs.Grid.{neighbour_of, number_where_any, node_id}
 use Rattle.std.proofs.Math.Bridge.{le_prop}
 use Rattle.std.proofs.Math.Nat.{mod-eq_of_lt}
 use Rattle.ga_grid.specs.declared.node_id.NodeId.{NodeId}
-use Rattle.ga_grid.specs.Grid.{number_where_any, node_id}
+
+-- ---- A link leads back, and never to its own node
+
+pub neighbour_of-back : (n m : ℕ) (side : Side) → n < 144 → neighbour_of n side ≡ Some m → neighbour_of m side ≡ Some n
+neighbour_of-back n m Right l h = grind arith
+neighbour_of-back n m Down l h = grind arith
+neighbour_of-back n m Left l h = grind arith
+neighbour_of-back n m Up l h = grind arith
+
+pub neighbour_of-other : (n m : ℕ) (side : Side) → neighbour_of n side ≡ Some m → m ≢ n
+neighbour_of-other n m Right h = grind arith
+neighbour_of-other n m Down h = grind arith
+neighbour_of-other n m Left h = grind arith
+neighbour_of-other n m Up h = grind arith
 
 abbrev node : (n : ℕ) → n < 144 → NodeId
 node n l = record { number = n; in_range = l }

@@ -1,6 +1,9 @@
 -- The chip: 144 nodes, as they are kept and as records.
-use Rattle.std.specs.Prelude.{ℕ, List, map, slice_index_or, slice_set}
-use Rattle.ga_node.specs.Record.{NodeState, fresh_node, NodeRecord, record_of}
+use Rattle.std.specs.Prelude.{ℕ, List, map, slice_index_or, slice_set, ◌<◌}
+use Rattle.ga_node.specs.Record.{NodeState, fresh_node, NodeRecord, record_of, IsSteady}
+use Rattle.std.specs.Borrow.{Lends, MutBor, Fml}
+use Rattle.ga_node.specs.contracts.node.Node.{the_row as node_row}
+use Rattle.ga_grid.specs.contracts.chip.Chip.{the_row}
 
 -- the node that is read where there is none
 abbrev pub nowhere : NodeState
@@ -21,3 +24,15 @@ records_of chip = map record_of chip
 -- the record at a number
 abbrev pub record_at : List NodeRecord → ℕ → NodeRecord
 record_at chip n = slice_index_or chip n (record_of nowhere)
+
+-- ---- chips whose nodes are steady
+
+-- each node is steady
+abbrev pub AreSteady : List NodeRecord → Type 0
+AreSteady chip = (n : ℕ) → n < 144 → IsSteady (record_at chip n)
+
+-- ---- A chip that lends one of its nodes
+
+-- the chip ends with the last value behind the reference at this number
+abbrev pub LendsNode : MutBor (List NodeState) → ℕ → MutBor NodeState → Fml
+LendsNode chip n node = Lends the_row node_row chip node (with_node chip.now n)

@@ -1,11 +1,30 @@
 -- Nodes by number, the grid and the links between neighbours (G144A12 Chip Reference, DB002): eight rows of eighteen columns, and a
 -- node is number 18 * row + column. Both ends of a link have the same side.
-use Rattle.std.specs.Prelude.{ℕ, ◌+◌, ◌-◌, ◌*◌, ◌/◌, ◌%◌, ◌==◌, nat_lt, Bool, true, false, ◌&&◌, not, if◌then◌else◌, Option, Some, None, option_map}
+use Rattle.std.specs.Prelude.{ℕ, ◌+◌, ◌-◌, ◌*◌, ◌&&◌, nat_le, if◌then◌else◌, List, [], ◌∷◌, Option, Some, None, ◌/◌, ◌%◌, ◌==◌, nat_lt, Bool, true, false, not, option_map, is_some, bit_xor, map}
+use Rattle.ga_ports.specs.Steps.{◌>>=◌}
 use Rattle.ga_ports.specs.declared.side.Side.{Side}
 use Rattle.ga_ports.specs.declared.side.Side.TheVariants.{Right, Down, Left, Up}
 use Rattle.std.proofs.Common.{lit<}
 use Rattle.std.proofs.Math.Nat.{mod-lt}
 use Rattle.ga_grid.specs.declared.node_id.NodeId.{NodeId}
+use Rattle.ga_ports.specs.Address.{only}
+use Rattle.std.specs.List.{range_with_len}
+use Rattle.ga_node.specs.Record.{NodeState, fresh_node}
+
+-- ---- the names of nodes as texts: row and column in three decimal digits (G144A12 Chip Reference DB002)
+
+-- the value of a decimal digit
+abbrev pub decimal_digit : ℕ → Option ℕ
+decimal_digit byte = if nat_le 48 byte && nat_le byte 57 then Some (byte - 48) else None
+
+-- the number of exactly three decimal digits
+unfoldable pub node_number : List ℕ → Option ℕ
+node_number (x ∷ y ∷ z ∷ []) = do
+  row ← decimal_digit x
+  tens ← decimal_digit y
+  ones ← decimal_digit z
+  Some (100 * row + 10 * tens + ones)
+node_number _ = None
 
 abbrev pub row_of : ℕ → ℕ
 row_of n = n / 18
@@ -45,3 +64,17 @@ number_where_any (Some node) = Some node.number
 -- the node of a number; from 144 on they begin again
 abbrev pub node_id : ℕ → NodeId
 node_id n = record { number = n % 144; in_range = mod-lt n (lit< tt) }
+
+-- ---- the chip at load. P holds the address that names the ports of all sides on which a node has a neighbour (this project's own choice).
+
+-- the number of a side where the node has a neighbour there, else 0
+abbrev pub linked_of : ℕ → Side → ℕ
+linked_of n side = if is_some (neighbour_of n side) then only side else 0
+
+-- the ports stand in bits 7 to 4 of an address, exclusive-ored with 155
+abbrev pub load_p_of : ℕ → ℕ
+load_p_of n = bit_xor 0x155 (16 * (linked_of n Right + linked_of n Down + linked_of n Left + linked_of n Up))
+
+-- the chip at load (its values are this project's own choice)
+unfoldable pub default_chip : List NodeState
+default_chip = map (λ n. fresh_node (load_p_of n)) (range_with_len 0 144)

@@ -2,7 +2,7 @@
 
 ghost use Rattle.std.specs.Prelude.{◌≡◌, ◌<◌, ◌^◌};
 ghost use Rattle.std.specs.Borrow.{sem};
-ghost use Rattle.ga_grid.specs.Load.{linked_of, load_p_of};
+ghost use Rattle.ga_grid.specs.Grid.{linked_of, load_p_of};
 
 use crate::link::neighbour;
 use crate::node_id::{NODES, NodeId};
@@ -71,9 +71,8 @@ pub fn load_p(node: NodeId) -> u32
 
 impl Chip {
     ghost use Rattle.std.specs.Prelude.{◌≡◌, length, slice_set, IfOk};
-    ghost use Rattle.ga_grid.specs.Chip.{node_at};
-    ghost use Rattle.ga_grid.specs.Load.{default_chip};
-    ghost use Rattle.ga_grid.specs.Lending.{LendsNode};
+    ghost use Rattle.ga_grid.specs.Chip.{node_at, LendsNode};
+    ghost use Rattle.ga_grid.specs.Grid.{default_chip};
 
     /// The chip at load: each node at its defaults, with P the address of the ports of all sides on which it has a neighbour.
     ///

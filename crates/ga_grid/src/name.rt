@@ -1,7 +1,7 @@
 //! The names of the nodes as texts.
 
 ghost use Rattle.std.specs.Prelude.{◌≡◌, ◌<◌, IfSome};
-ghost use Rattle.ga_grid.specs.Names.{decimal_digit, node_number};
+ghost use Rattle.ga_grid.specs.Grid.{decimal_digit, node_number};
 
 /// The value of a decimal digit.
 pub fn decimal_digit(byte: u8) -> Option<u32>
@@ -15,7 +15,7 @@ pub fn decimal_digit(byte: u8) -> Option<u32>
 }
 
 /// The row and the column of a node, as three decimal digits. `NodeId::from_yxx` says whether there is one.
-#[tactic(auto, unfolding(crate::specs::Names::node_number))]
+#[tactic(auto, unfolding(crate::specs::Grid::node_number))]
 pub fn node_number(text: &[u8]) -> Option<u32>
     ensures value { result ≡ node_number text.now }
     ensures in_range { IfSome result (λ yxx. yxx < 1000) }

@@ -3,22 +3,19 @@ use Rattle.std.specs.List.{AllByRecursion}
 use Rattle.std.proofs.Common.{◌≡◌, ◌≢◌, ℕ, ◌+◌, ◌*◌, ◌/◌, ◌%◌, ◌<◌, ◌⊎◌, inl, inr, Bool, true, false, List, [], ◌∷◌, ◌++◌, length, map, flat_map, get_or, set, Some, None, Ok, refl, sym, ◌∙◌, ap, arith, append_assoc, length-set, replicate}
 use Rattle.std.proofs.lemmas.Bool.Decides.{nat_tests}
 use Rattle.ga_node.specs.Record.{NodeState}
-use Rattle.ga_grid.specs.Grid.{node_of, yxx_of}
-use Rattle.ga_grid.specs.Load.{default_chip}
+use Rattle.ga_grid.specs.Grid.{node_of, yxx_of, default_chip}
 use Rattle.ga_image.specs.declared.field.Field.{Field}
 use Rattle.ga_image.specs.declared.field.Field.TheVariants.{A, B, P, I, Io, Carry, Slot, Wait, Stop, Data, Return, Ram, Rom}
 use Rattle.ga_image.specs.declared.field.Format.{Format}
 use Rattle.ga_image.specs.declared.field.Format.TheVariants.{One, Two}
-use Rattle.ga_image.specs.Progress.{Progress}
-use Rattle.ga_image.specs.Progress as stage
+use Rattle.ga_image.specs.Reading.{Progress, reading, fault_of, later_fault, node_fault, after_line, after_form, with_writes, with_write, with_block, node_of_stage, start, nothing_given}
+use Rattle.ga_image.specs.Reading as stage
 use Rattle.ga_image.specs.Spelling.{Node, End}
 use Rattle.ga_image.specs.Fields.{writes, repeats, number_of}
 use Rattle.ga_image.specs.Held.{held_at_load, held_after, is_unsteady}
 use Rattle.ga_image.specs.Grammar.{header, Block, field_line_form, block_forms, all_writes, Fits, IsFieldLine, IsBlock, chip_with_words, loaded, IsImage}
-use Rattle.ga_image.specs.Reading.{reading, fault_of, later_fault, node_fault, after_line, after_form, with_writes, with_write, with_block, node_of_stage, start, nothing_given}
 use Rattle.ga_image.proofs.Spellings.{forms_read}
-use Rattle.ga_image.proofs.Flags.{seen_twice, AreBelow, AreFree, apart_once, all_free, or_false}
-use Rattle.ga_image.proofs.Meanings.{reads, reading_forms, fields_read, marked}
+use Rattle.ga_image.proofs.Meanings.{seen_twice, AreBelow, AreFree, apart_once, all_free, or_false, reads, reading_forms, fields_read, marked}
 use Rattle.ga_text.proofs.Taking.{node_of_yxx}
 
 -- the places of writes, by their numbers

@@ -11,12 +11,11 @@ use Rattle.ga_image.specs.declared.held.Held.{Held}
 use Rattle.ga_image.specs.Spelling.{Form, Node, Words, End, Spells}
 use Rattle.ga_text.specs.Lines.{longest}
 use Rattle.ga_image.specs.Grammar.{header, is_header_of}
-use Rattle.ga_image.specs.Progress.{Progress, Stage}
-use Rattle.ga_image.specs.Progress as stage
-use Rattle.ga_image.specs.Reading.{fault_of, line_fault, later_fault, form_fault, is_misplaced, ends_unsteady, form_in, is_header}
+use Rattle.ga_image.specs.Reading.{Progress, Stage, fault_of, line_fault, later_fault, form_fault, is_misplaced, ends_unsteady, form_in, is_header}
+use Rattle.ga_image.specs.Reading as stage
 use Rattle.ga_image.specs.FirstFault.{GivesLines, causes}
 use Rattle.ga_image.proofs.Spellings.{kept_spelled}
-use Rattle.ga_image.proofs.Flags.{or_false}
+use Rattle.ga_image.proofs.Meanings.{or_false}
 use Rattle.ga_image.proofs.Found.{some_form, header_named}
 use Rattle.ga_image.proofs.Standing.{Tells, after_state, after_line, after_header, after_long, tested, passed_over, node_no_words, end_no_words, node_no_end, header_formless, StandsAt, IsAfter, later, misplaced, end_unsteady, node_unsteady}
 use Rattle.ga_image.proofs.LineCauses.{node_tells, words_tell}

@@ -6,9 +6,8 @@ use Rattle.ga_node.specs.Record.{NodeState}
 use Rattle.ga_image.specs.declared.fault.ImageCause.{ImageCause}
 use Rattle.ga_image.specs.declared.fault.ImageCause.TheVariants as cause
 use Rattle.ga_image.specs.declared.fault.ImageFault.{ImageFault}
-use Rattle.ga_image.specs.Progress.{Progress, Stage}
-use Rattle.ga_image.specs.Progress as stage
-use Rattle.ga_image.specs.Reading.{reading, refused, at_end, fault_of, after_line, start, Gives}
+use Rattle.ga_image.specs.Reading.{Progress, Stage, reading, refused, at_end, fault_of, after_line, start, Gives}
+use Rattle.ga_image.specs.Reading as stage
 use Rattle.ga_image.specs.Fault.{no_memory}
 use Rattle.ga_image.specs.FirstFault.{OneOf, IsEnd, causes, IsFirstCause, HasNone, AreFaultless, IsAtLine, IsEndMissing, IsFirstFault}
 use Rattle.ga_image.proofs.Standing.{Tells, IsAfter, StandsAt}

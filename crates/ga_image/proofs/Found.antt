@@ -1,7 +1,9 @@
 -- What is read is in the grammar.
-use Rattle.std.specs.Prelude.{nat_lt, is_none}
+use Rattle.ga_image.specs.declared.fault.ImageCause.TheVariants as cause
+use Rattle.ga_image.specs.Reading as stage
+use Rattle.std.specs.Prelude.{nat_lt, is_none, IfOk}
 use Rattle.std.specs.List.{AllByRecursion, list_any}
-use Rattle.std.proofs.Common.{◌≡◌, ◌≢◌, ℕ, ◌+◌, ◌*◌, ◌/◌, ◌%◌, ◌<◌, ◌≤◌, inl, inr, Bool, true, false, cond, ◌&&◌, ◌||◌, ◌⊎◌, List, [], ◌∷◌, ◌++◌, length, map, flat_map, get_or, set, Option, Some, None, Result, Ok, refl, sym, ◌∙◌, ap, subst, arith, append_assoc}
+use Rattle.std.proofs.Common.{◌≡◌, ◌≢◌, ℕ, ◌+◌, ◌*◌, ◌/◌, ◌%◌, ◌<◌, ◌≤◌, inl, inr, Bool, true, false, cond, ◌&&◌, ◌||◌, ◌⊎◌, List, [], ◌∷◌, ◌++◌, length, map, flat_map, get_or, set, Option, Some, None, Result, Ok, refl, sym, ◌∙◌, ap, subst, arith, append_assoc, Err}
 use Rattle.std.proofs.lemmas.Bool.Decides.{nat_tests}
 use Rattle.std.proofs.lemmas.Slice.Eq.{bytes_eq-Decides}
 use Rattle.ga_node.specs.Record.{NodeState}
@@ -13,19 +15,15 @@ use Rattle.ga_image.specs.declared.field.Format.TheVariants.{One, Two}
 use Rattle.ga_image.specs.declared.held.Held.{Held}
 use Rattle.ga_image.specs.declared.fault.ImageFault.{ImageFault}
 use Rattle.ga_image.specs.declared.fault.ImageCause.{ImageCause}
-use Rattle.ga_image.specs.declared.fault.ImageCause.TheVariants as cause
 use Rattle.ga_text.specs.Lines.{longest}
 use Rattle.ga_image.specs.Grammar.{with_word, header, is_header_of, format_of, Block, field_line_form, block_forms, all_writes, Fits, IsFieldLine, IsBlock, chip_with_words, loaded, IsImage}
-use Rattle.ga_image.specs.Progress.{Progress, Stage}
-use Rattle.ga_image.specs.Progress as stage
+use Rattle.ga_image.specs.Reading.{Progress, Stage, node_of_stage, reading, refused, at_end, fault_of, line_fault, later_fault, node_fault, words_fault, is_misplaced, ends_unsteady, form_in, after_line, after_form, with_block, start, nothing_given, is_header, has_block, Gives}
 use Rattle.ga_image.specs.Spelling.{Form, Node, Words, End}
 use Rattle.ga_image.specs.Held.{held_at_load, with_held, held_after, is_unsteady}
 use Rattle.ga_image.specs.Fields.{writes, repeats, goes_past, is_too_great, greatest}
-use Rattle.ga_image.specs.Reading.{node_of_stage, reading, refused, at_end, fault_of, line_fault, later_fault, node_fault, words_fault, is_misplaced, ends_unsteady, form_in, after_line, after_form, with_block, start, nothing_given, is_header, has_block}
 use Rattle.ga_image.proofs.Spellings.{forms_spelled}
-use Rattle.ga_image.proofs.Flags.{seen_twice, AreBelow, once_apart, or_false}
-use Rattle.ga_image.proofs.Meanings.{reads, marked, repeats-append, line_later, past_later, still_later, short_past, same_format}
-use Rattle.ga_image.proofs.Accepted.{numbers, repeats_numbers, fields_below, all_written, opened, opened_ready, nodes_below}
+use Rattle.ga_image.proofs.Meanings.{seen_twice, AreBelow, once_apart, or_false, reads, marked, repeats-append, line_later, past_later, still_later, short_past, same_format}
+use Rattle.ga_image.proofs.Accepted.{numbers, repeats_numbers, fields_below, all_written, opened, opened_ready, nodes_below, image_read}
 
 -- a line that is not refused has no fault
 pub passed : (fault : Option ImageCause) (line : ℕ) (others : Result (List NodeState) ImageFault) (chip : List NodeState) → refused fault line others ≡ Ok chip → (fault ≡ None) × (others ≡ Ok chip)
@@ -311,3 +309,21 @@ image_found (text ∷ lines) chip e =
           ∙ ap (λ fs. loaded (chip_with_words (node_of_stage from.stage) from.chip (all_writes fs)) rest.blocks) none
           ∙ ap (λ c. loaded c rest.blocks) ready.2;
     }
+
+-- ---- what a reading says of the grammar
+
+-- a call that meets no want of memory
+pub gives_by : (result read : Result (List NodeState) ImageFault) → result ≡ read → Gives result read
+gives_by (Ok chip) read same = sym same
+gives_by (Err fault) read same = inr (sym same)
+
+-- what is accepted is an image
+pub found_by : (result : Result (List NodeState) ImageFault) (texts : List (List ℕ)) → Gives result (reading start 1 texts) → IfOk result (λ chip. IsImage texts chip)
+found_by (Ok chip) texts gives = image_found texts chip gives
+found_by (Err fault) texts gives = tt
+
+-- an image is accepted, unless memory is refused
+pub only_by : (result : Result (List NodeState) ImageFault) (texts : List (List ℕ)) (chip : List NodeState) → Gives result (reading start 1 texts) → IsImage texts chip → Gives result (Ok chip)
+only_by (Ok other) texts chip gives image = sym (image_read texts chip image) ∙ gives
+only_by (Err fault) texts chip (inl memory) image = inl memory
+only_by (Err fault) texts chip (inr fails) image = let never : Ok chip ≡ Err fault = sym (image_read texts chip image) ∙ fails in cc

@@ -3,14 +3,11 @@ pub mod Numbers
 pub mod Spelled
 pub mod Spellings
 pub mod Short
-pub mod Flags
 pub mod Writes
-pub mod Stages
 pub mod Steps
 pub mod Meanings
 pub mod Accepted
 pub mod Found
-pub mod Contract
 pub mod Room
 pub mod Sizes
 pub mod Standing
@@ -23,5 +20,4 @@ pub mod PrintedLines
 pub mod PrintedFields
 pub mod PrintedStates
 pub mod PrintedBack
-pub mod PrintedSound
 pub mod ReadSteady

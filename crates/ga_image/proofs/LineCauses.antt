@@ -9,17 +9,15 @@ use Rattle.ga_grid.specs.Grid.{node_of}
 use Rattle.ga_image.specs.declared.fault.ImageCause.TheVariants as cause
 use Rattle.ga_image.specs.declared.field.Field.{Field}
 use Rattle.ga_image.specs.declared.field.Field.TheVariants.{A, B, P, I, Io, Carry, Slot, Wait, Stop, Data, Return, Ram, Rom}
-use Rattle.ga_image.specs.kept.Fields.{HasCell}
+use Rattle.ga_image.specs.kept.Forms.{HasCell}
 use Rattle.ga_image.specs.Fields.{writes, next_field, number_of, greatest, goes_past, is_too_great, repeats}
 use Rattle.ga_image.specs.Spelling.{Node, Words, Spells, HasCount}
 use Rattle.ga_image.specs.Grammar.{Fits}
-use Rattle.ga_image.specs.Progress.{Progress, Stage}
-use Rattle.ga_image.specs.Progress as stage
-use Rattle.ga_image.specs.Reading.{node_fault, words_fault, is_misplaced, has_block}
+use Rattle.ga_image.specs.Reading.{Progress, Stage, node_fault, words_fault, is_misplaced, has_block}
+use Rattle.ga_image.specs.Reading as stage
 use Rattle.ga_image.specs.FirstFault.{OneOf, BeginsBlockOf, WasGiven, NamesNoNode, GivesNoCell, GivesGreatWord, RepeatsNode, RepeatsField}
 use Rattle.ga_image.proofs.Short.{count_spelled}
-use Rattle.ga_image.proofs.Flags.{AreFree, AreBelow, apart_once, once_apart, or_false}
-use Rattle.ga_image.proofs.Meanings.{in_memory}
+use Rattle.ga_image.proofs.Meanings.{AreFree, AreBelow, apart_once, once_apart, or_false, in_memory}
 use Rattle.ga_image.proofs.Found.{within, named as known}
 use Rattle.ga_image.proofs.Accepted.{numbers, repeats_numbers, field_below}
 use Rattle.ga_image.proofs.Writes.{has_cell, next_fits}

@@ -1,22 +1,88 @@
 -- Reading against the grammar.
-use Rattle.std.specs.List.{AllByRecursion, list_any}
+use Rattle.std.specs.List.{AllByRecursion, IsDistinct, list_any}
+use Rattle.std.proofs.Common.{◌≡◌, ◌≢◌, ℕ, zero, suc, ◌<◌, inl, inr, Bool, true, false, ◌||◌, List, [], ◌∷◌, length, get_or, set, refl, sym, ◌∙◌, subst, length-set, nat_eq, replicate, ◌+◌, ◌≤◌, ◌++◌, map, Option, Some, None, Result, ap, arith, add-zero}
+use Rattle.std.proofs.lemmas.Bool.{eqb-false}
+use Rattle.std.proofs.lemmas.Bool.Decides.{eqb_tells, nat_tests}
+use Rattle.std.proofs.lemmas.List.{get_or-set_same, get_or-set_other}
+use Rattle.std.proofs.lemmas.Map.Keys.{IsDistinct-cons, IsDistinct-head, IsDistinct-tail}
 use Rattle.std.specs.Prelude.{nat_lt}
-use Rattle.std.proofs.Common.{◌≡◌, ◌≢◌, ℕ, suc, ◌+◌, ◌≤◌, Bool, true, false, ◌||◌, List, [], ◌∷◌, ◌++◌, length, map, get_or, set, Option, Some, None, Result, refl, sym, ◌∙◌, ap, arith, add-zero}
-use Rattle.std.proofs.lemmas.Bool.Decides.{nat_tests}
 use Rattle.ga_node.specs.Record.{NodeState}
 use Rattle.ga_grid.specs.Grid.{node_of}
 use Rattle.ga_image.specs.declared.field.Field.{Field}
 use Rattle.ga_image.specs.declared.field.Field.TheVariants.{A, B, P, I, Io, Carry, Slot, Wait, Stop, Data, Return, Ram, Rom}
 use Rattle.ga_image.specs.declared.field.Format.{Format}
 use Rattle.ga_image.specs.declared.fault.ImageFault.{ImageFault}
-use Rattle.ga_image.specs.Progress.{Progress, Stage, Header, Open, Block, Ended}
+use Rattle.ga_image.specs.Reading.{Progress, Stage, Header, Open, Block, Ended, form_in, reading, fault_of, line_fault, later_fault, after_line, after_stage, after_form, at_end, refused, with_writes, with_write, words_fault, with_block}
 use Rattle.ga_image.specs.Spelling.{Form, Node, Words, End}
 use Rattle.ga_image.specs.Fields.{writes, repeats, number_of, goes_past, greatest}
-use Rattle.ga_image.specs.Reading.{form_in, reading, fault_of, line_fault, later_fault, after_line, after_stage, after_form, at_end, refused, with_writes, with_write, words_fault, with_block}
 use Rattle.ga_image.specs.Grammar.{field_line_form, all_writes, Fits, IsFieldLine}
 use Rattle.ga_image.proofs.Short.{short_spelled}
 use Rattle.ga_image.proofs.Spellings.{kept_spelled}
-use Rattle.ga_image.proofs.Flags.{or_false}
+
+-- ---- flags against lists in which nothing stands twice
+
+-- neither of two tests holds
+pub or_false : (x y : Bool) → (x || y) ≡ false → (x ≡ false) × (y ≡ false)
+or_false true y e = cc
+or_false false y e = (refl, e)
+
+-- a number is flagged, or stands there twice
+abbrev pub seen_twice : List Bool → List ℕ → Bool
+seen_twice flags [] = false
+seen_twice flags (n ∷ ns) = get_or flags n false || seen_twice (set flags n true) ns
+
+-- none of the numbers is flagged
+abbrev pub AreFree : List Bool → List ℕ → Type 0
+AreFree flags ns = AllByRecursion (λ n. get_or flags n false ≡ false) ns
+
+-- each number has a flag
+abbrev pub AreBelow : ℕ → List ℕ → Type 0
+AreBelow limit ns = AllByRecursion (λ n. n < limit) ns
+
+still_free : (flags : List Bool) (n : ℕ) (ns : List ℕ) → AreFree flags ns → AllByRecursion (λ m. nat_eq n m ≡ false) ns → AreFree (set flags n true) ns
+still_free flags n [] free other = tt
+still_free flags n (m ∷ ns) free other =
+    let apart : m ≢ n = λ e. eqb-false n m other.0 (sym e) in
+    (get_or-set_other flags n m true false apart ∙ free.0, still_free flags n ns free.1 other.1)
+
+-- numbers that stand once and are not flagged
+pub apart_once : (flags : List Bool) (ns : List ℕ) → AreBelow (length flags) ns → AreFree flags ns → IsDistinct nat_eq ns → seen_twice flags ns ≡ false
+apart_once flags [] below free apart = refl
+apart_once flags (n ∷ ns) below free apart =
+    let kept : AreBelow (length (set flags n true)) ns = rw (length-set flags n true) below.1 in
+    rw free.0 (apart_once (set flags n true) ns kept (still_free flags n ns free.1 (IsDistinct-head nat_eq n ns apart)) (IsDistinct-tail nat_eq n ns apart))
+
+-- what is free behind a flag that was set is another number, and was free
+freed : (flags : List Bool) (n : ℕ) (ns : List ℕ) → n < length flags → AreFree (set flags n true) ns → AreFree flags ns × AllByRecursion (λ m. nat_eq n m ≡ false) ns
+freed flags n [] below free = (tt, tt)
+freed flags n (m ∷ ns) below free =
+    let rest = freed flags n ns below free.1 in
+    elim (eqb_tells n m) [
+      | inl same ↦ let again : get_or (set flags n true) m false ≡ true = subst (λ (k : ℕ). get_or (set flags n true) k false ≡ true) same.1 (get_or-set_same flags n true false below) in absurd (let never : true ≡ false = sym again ∙ free.0 in cc)
+      | inr other ↦ ((sym (get_or-set_other flags n m true false (λ e. other.1 (sym e))) ∙ free.0, rest.0), (other.0, rest.1))
+    ]
+
+-- and the other way
+pub once_apart : (flags : List Bool) (ns : List ℕ) → AreBelow (length flags) ns → seen_twice flags ns ≡ false → AreFree flags ns × IsDistinct nat_eq ns
+unfolding IsDistinct
+once_apart flags [] below once = (tt, tt)
+once_apart flags (n ∷ ns) below once =
+    let parts = or_false (get_or flags n false) (seen_twice (set flags n true) ns) once in
+    let kept : AreBelow (length (set flags n true)) ns = rw (length-set flags n true) below.1 in
+    let rest = once_apart (set flags n true) ns kept parts.1 in
+    let back = freed flags n ns below.0 rest.0 in
+    ((parts.0, back.0), IsDistinct-cons nat_eq n ns back.1 rest.1)
+
+-- no flag is set at first
+pub none_flagged : (k n : ℕ) → get_or (replicate k false) n false ≡ false
+none_flagged zero n = refl
+none_flagged (suc k) zero = refl
+none_flagged (suc k) (suc n) = none_flagged k n
+
+-- so no number is flagged
+pub all_free : (k : ℕ) (ns : List ℕ) → AreFree (replicate k false) ns
+all_free k [] = tt
+all_free k (n ∷ ns) = (none_flagged k n, all_free k ns)
 
 or_assoc : (x y z : Bool) → (x || (y || z)) ≡ ((x || y) || z)
 or_assoc true y z = refl

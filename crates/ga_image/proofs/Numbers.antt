@@ -2,7 +2,7 @@
 use Rattle.std.specs.Prelude.{◌==◌}
 use Rattle.std.proofs.lemmas.Bool.{eqb-true}
 use Rattle.std.proofs.Common.{◌≡◌, ℕ, zero, suc, ◌+◌, ◌*◌, ◌/◌, ◌%◌, ◌<◌, ◌≤◌, inl, inr, true, false, List, [], ◌∷◌, Option, Some, None, refl, ◌∙◌, ap, arith}
-use Rattle.ga_ports.specs.Letters.{side_value, set_number}
+use Rattle.ga_ports.specs.Address.{side_value, set_number}
 use Rattle.ga_ports.specs.Steps.{◌>>=◌}
 use Rattle.ga_image.specs.Spelling.{letter, set_text}
 use Rattle.ga_text.proofs.Numbers.{chosen}

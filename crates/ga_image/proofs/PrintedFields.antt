@@ -2,24 +2,25 @@
 use Rattle.std.specs.Prelude.{nat_eq, nat_lt, ◌==◌, ◌-◌}
 use Rattle.std.specs.Int.{from_bool}
 use Rattle.std.specs.List.{AllByRecursion, IsDistinct, list_all}
-use Rattle.std.proofs.Common.{◌≡◌, ◌≢◌, ℕ, zero, suc, ◌+◌, ◌<◌, ◌≤◌, inl, inr, Bool, true, false, cond, List, [], ◌∷◌, ◌++◌, length, map, take, drop, refl, sym, ◌∙◌, ap, subst, arith, eq-eqb, length-drop}
+use Rattle.std.proofs.Common.{◌≡◌, ◌≢◌, ℕ, zero, suc, ◌+◌, ◌<◌, ◌≤◌, inl, inr, Bool, true, false, cond, List, [], ◌∷◌, ◌++◌, length, map, take, drop, refl, sym, ◌∙◌, ap, subst, arith, eq-eqb, length-drop, ◌*◌, ◌^◌, get_or}
 use Rattle.std.proofs.lemmas.Bool.Decides.{nat_tests}
 use Rattle.std.proofs.lemmas.Bool.{ne_eqb, false≢true}
-use Rattle.std.proofs.lemmas.List.{length-take-le, map-append, append-nil}
+use Rattle.std.proofs.lemmas.List.{length-take-le, map-append, append-nil, take_all, take_more}
 use Rattle.std.proofs.lemmas.List.Concat.{flat_map-append}
 use Rattle.ga_stacks.specs.Ring.{fresh_word}
 use Rattle.ga_ports.specs.declared.side.Side.TheVariants.{Right, Down, Left, Up}
 use Rattle.ga_node.specs.declared.wait.Wait.TheVariants.{Nothing, Fetch, Read, Write}
 use Rattle.ga_node.specs.declared.wait.Wait.{Wait as NodeWait}
-use Rattle.ga_node.specs.Waits.{wait_code, IsWaitCode}
+use Rattle.ga_node.specs.State.{wait_code, IsWaitCode, wait_of}
 use Rattle.ga_node.specs.Record.{NodeRecord, fresh_record}
 use Rattle.ga_image.specs.declared.field.Field.{Field}
 use Rattle.ga_image.specs.declared.field.Field.TheVariants.{A, B, P, I, Io, Carry, Slot, Wait, Stop, Data, Return, Ram, Rom}
 use Rattle.ga_image.specs.Fields.{writes, number_of}
 use Rattle.ga_image.specs.Grammar.{all_writes, IsFieldLine}
 use Rattle.ga_image.specs.Printing.{AreWords, line_unless, row_of_words, memory_lines, register_lines, state_lines, lines_beside}
-use Rattle.ga_image.specs.ReadBack.{IsSoundRecord, HasSides}
+use Rattle.ga_image.specs.ReadBack.{IsSoundRecord, HasSides, HoldsWords}
 use Rattle.ga_image.proofs.PrintedLines.{IsLine, AreSix}
+use Rattle.std.proofs.Math.Seq.{take-add}
 
 -- ---- each line
 
@@ -289,3 +290,49 @@ lines_apart p node is =
     (lines_climb (rows_climb 28 Ram node.ram (λ cell low. ram_climbs cell (row_of_words node.ram cell) (cell + 8) (let size = row_size node.ram cell is.ram.1 low in omega arith)))
     (rows_climb 92 Rom node.rom (λ cell low. rom_climbs cell (row_of_words node.rom cell) (cell + 8) (let size = row_size node.rom cell is.rom.1 low in omega arith))))) in
     climbs_apart 0 (numbers_in (lines_beside (fresh_record p) node)) 156 climbing.climb
+
+-- ---- whatever is printed is sound
+
+-- the wait of a number names a side at least, where it is for one of a set
+pub sides_of : (code : ℕ) → IsWaitCode code → HasSides (wait_of code)
+sides_of code (inl is) = rw is tt
+sides_of code (inr (inl low)) =
+    let more = low.0 in
+    let less = low.1 in
+    let some : (code == 0) ≡ false = grind (arith, nat_tests) in
+    let fetch : nat_lt code 32 ≡ true = grind (arith, nat_tests) in
+    rw (some, fetch) (omega arith, omega arith)
+sides_of code (inr (inr (inl middle))) =
+    let more = middle.0 in
+    let less = middle.1 in
+    let some : (code == 0) ≡ false = grind (arith, nat_tests) in
+    let other : nat_lt code 32 ≡ false = grind (arith, nat_tests) in
+    let read : nat_lt code 48 ≡ true = grind (arith, nat_tests) in
+    rw (some, other, read) (omega arith, omega arith)
+sides_of code (inr (inr (inr (inl is)))) = rw is tt
+sides_of code (inr (inr (inr (inr (inl is))))) = rw is tt
+sides_of code (inr (inr (inr (inr (inr (inl is)))))) = rw is tt
+sides_of code (inr (inr (inr (inr (inr (inr is)))))) = rw is tt
+
+-- words that are known
+pub holds_words : (size : ℕ) (found words : List ℕ) → found ≡ words → AreWords found → length found ≡ size → HoldsWords size words
+holds_words size found words same each count = (subst AreWords same each, ap length (sym same) ∙ count)
+
+-- one row more
+pub rows_words : (memory : List ℕ) (number : ℕ) → AreWords (take (8 * number) memory) → AreWords (row_of_words memory (8 * number)) → AreWords (take (8 * (number + 1)) memory)
+rows_words memory number before row =
+    let next : 8 * (number + 1) ≡ 8 * number + 8 = omega arith in
+    let longer : take (8 * (number + 1)) memory ≡ take (8 * number) memory ++ row_of_words memory (8 * number) = ap (λ (n : ℕ). take n memory) next ∙ take-add (8 * number) 8 memory in
+    subst AreWords (sym longer) (all_append (λ word. word < 2 ^ 18) (take (8 * number) memory) (row_of_words memory (8 * number)) before row)
+
+-- all rows
+pub memory_words : (memory : List ℕ) (number : ℕ) → 8 ≤ number → length memory ≡ 64 → AreWords (take (8 * number) memory) → HoldsWords 64 memory
+memory_words memory number past size words = (subst AreWords (take_all (8 * number) memory (omega arith)) words, size)
+
+-- one more of a list
+pub all_more : {X : Type 0} (Q : X → Type 0) (xs : List X) (n : ℕ) (d : X) → n < length xs → AllByRecursion Q (take n xs) → Q (get_or xs n d) → AllByRecursion Q (take (n + 1) xs)
+all_more Q xs n d within before last = subst (AllByRecursion Q) (sym (take_more xs n d within)) (all_append Q (take n xs) (get_or xs n d ∷ []) before (last, tt))
+
+-- all of it
+pub all_whole : {X : Type 0} (Q : X → Type 0) (xs : List X) (n : ℕ) → length xs ≤ n → AllByRecursion Q (take n xs) → AllByRecursion Q xs
+all_whole Q xs n past each = subst (AllByRecursion Q) (take_all n xs past) each

@@ -17,8 +17,7 @@ use Rattle.ga_image.specs.Spelling.{Form, Node, Words, End, letter, set_text, wa
 use Rattle.ga_text.specs.Digits.{decimal3_of, hex2_of, words_text}
 use Rattle.ga_image.specs.Grammar.{Spell, header}
 use Rattle.ga_image.specs.Printing.{field_text, line_text, lines_text}
-use Rattle.ga_text.proofs.Numbers.{digit_spelled}
-use Rattle.ga_text.proofs.Feeds.{past_byte}
+use Rattle.ga_text.proofs.Numbers.{digit_spelled, past_byte}
 
 -- ---- digits
 

@@ -11,9 +11,8 @@ use Rattle.ga_stacks.specs.Ring.{Ring, fresh_ring, fresh_word, listed}
 use Rattle.ga_ports.specs.declared.side.Side.TheVariants.{Right, Down, Left, Up}
 use Rattle.ga_node.specs.declared.wait.Wait.TheVariants.{Nothing, Fetch, Read, Write}
 use Rattle.ga_node.specs.declared.wait.Wait.{Wait as NodeWait}
-use Rattle.ga_node.specs.Waits.{wait_code, wait_of}
-use Rattle.ga_node.specs.Record.{NodeState, fresh_node, NodeRecord, record_of, fresh_record}
-use Rattle.ga_node.specs.Steady.{FitsWait, IsSteady}
+use Rattle.ga_node.specs.State.{wait_code, wait_of}
+use Rattle.ga_node.specs.Record.{NodeState, fresh_node, NodeRecord, record_of, fresh_record, FitsWait, IsSteady}
 use Rattle.ga_image.specs.declared.field.Field.{Field}
 use Rattle.ga_image.specs.declared.field.Field.TheVariants.{A, B, P, I, Io, Carry, Slot, Wait, Stop, Data, Return, Ram, Rom}
 use Rattle.ga_image.specs.Fields.{writes}

@@ -1,16 +1,14 @@
 -- How many lines may still come: no more than there are nodes and places left.
 use Rattle.std.proofs.Common.{◌≡◌, ◌≢◌, ℕ, zero, suc, ◌+◌, ◌*◌, ◌<◌, ◌≤◌, ◌⊎◌, inl, inr, Bool, true, false, List, [], ◌∷◌, length, get_or, set, Some, None, refl, sym, ◌∙◌, ap, subst, arith, length-set, lit≤}
 use Rattle.ga_image.specs.declared.field.Field.{Field}
-use Rattle.ga_image.specs.Progress.{Progress, Stage}
-use Rattle.ga_image.specs.Progress as stage
+use Rattle.ga_image.specs.Reading.{Progress, Stage, form_in, fault_of, after_line, after_form, later_fault, with_block, start, nothing_given, is_misplaced}
+use Rattle.ga_image.specs.Reading as stage
 use Rattle.ga_image.specs.Spelling.{Form, Node, Words, End}
 use Rattle.ga_image.specs.Held.{held_at_load}
 use Rattle.ga_image.specs.Fields.{writes, next_field, number_of}
 use Rattle.ga_image.specs.Grammar.{format_of}
-use Rattle.ga_image.specs.Reading.{form_in, fault_of, after_line, after_form, later_fault, with_block, start, nothing_given, is_misplaced}
-use Rattle.ga_image.proofs.Flags.{or_false, seen_twice, AreBelow}
+use Rattle.ga_image.proofs.Meanings.{or_false, seen_twice, AreBelow, marked, line_later, past_later, short_past}
 use Rattle.ga_image.proofs.Accepted.{numbers, repeats_numbers, field_below, all_written}
-use Rattle.ga_image.proofs.Meanings.{marked, line_later, past_later, short_past}
 use Rattle.ga_image.proofs.Short.{some_spelled}
 use Rattle.ga_image.proofs.Spellings.{kept_spelled}
 use Rattle.ga_image.proofs.Found.{not_short, neither, some_form, node_ok, field_ok, yxx_of_node}

@@ -5,9 +5,8 @@ use Rattle.std.proofs.lemmas.Bool.Decides.{nat_tests}
 use Rattle.ga_node.specs.Record.{NodeState}
 use Rattle.ga_image.specs.declared.fault.ImageCause.TheVariants.{Long}
 use Rattle.ga_text.specs.Lines.{longest, lines_of, with_byte}
-use Rattle.ga_image.specs.Progress.{Progress}
+use Rattle.ga_image.specs.Reading.{Progress, reading, fault_of, line_fault, after_line, start}
 use Rattle.ga_image.specs.Grammar.{IsImage}
-use Rattle.ga_image.specs.Reading.{reading, fault_of, line_fault, after_line, start}
 use Rattle.ga_image.proofs.Accepted.{image_read}
 use Rattle.ga_image.proofs.Found.{passed, neither}
 use Rattle.ga_image.proofs.Room.{room, IsSized, line_less, start_room}

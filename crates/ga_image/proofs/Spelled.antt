@@ -10,13 +10,12 @@ use Rattle.std.proofs.lemmas.Bool.{eqb-true}
 use Rattle.std.proofs.lemmas.List.{take-append-drop}
 use Rattle.std.proofs.lemmas.Slice.Eq.{bytes_eq-Decides}
 use Rattle.ga_word.specs.Word.{hex6_of, read6_of}
-use Rattle.ga_ports.specs.Address.{is_single}
+use Rattle.ga_ports.specs.Address.{is_single, set_number}
 use Rattle.ga_image.specs.declared.field.Field.{Field}
 use Rattle.ga_image.specs.declared.field.Field.TheVariants.{A, B, P, I, Io, Carry, Slot, Wait, Stop, Data, Return, Ram, Rom}
 use Rattle.ga_ports.specs.Steps.{◌>>=◌}
-use Rattle.ga_node.specs.Waits.{IsWaitCode}
-use Rattle.ga_grid.specs.Names.{node_number}
-use Rattle.ga_ports.specs.Letters.{set_number}
+use Rattle.ga_node.specs.State.{IsWaitCode}
+use Rattle.ga_grid.specs.Grid.{node_number}
 use Rattle.ga_text.specs.Digits.{byte_in, hex2_of, words_text}
 use Rattle.ga_image.specs.Spelling.{Form, Node, Words, End, set_text, wait_text, field_name, numbers_of, code_text, HasCount, SpellsWords, IsCode, SpellsCode, SpellsField, Spells}
 use Rattle.ga_image.specs.Forms.{form, spaced_words, few, words_in_row, word_form, cells_form, stack_form, digit_form, set_form, side_form, wait_form, node_form, wide_form, state_form, begins}

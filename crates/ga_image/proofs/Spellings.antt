@@ -1,25 +1,36 @@
 -- A line means what it spells, in each format.
+use Rattle.ga_image.specs.declared.parser.Stage.TheVariants as expects
+use Rattle.std.proofs.Common.{◌≢◌, refl, ◌≡◌, ℕ, ◌+◌, inl, inr, ◌<◌, ◌≤◌, true, false, ◌&&◌, List, [], ◌∷◌, ◌++◌, length, map, Option, Some, None, sym, ◌∙◌, ap, subst, arith}
+use Rattle.ga_image.specs.declared.parser.Stage.{Stage as Expects}
+use Rattle.ga_image.specs.kept.Forms.{stage_of, IsBehindHeader, HoldsCode, AreCodes}
 use Rattle.std.specs.Prelude.{nat_le, codes, ◌==◌, ◌-◌}
 use Rattle.std.specs.Char.{to_ascii_lowercase}
 use Rattle.std.specs.Str.{str_to_ascii_lowercase}
-use Rattle.std.proofs.Common.{◌≡◌, ◌≢◌, ℕ, ◌+◌, inl, inr, ◌<◌, ◌≤◌, true, false, ◌&&◌, List, [], ◌∷◌, ◌++◌, length, map, Option, Some, None, refl, sym, ◌∙◌, ap, subst, arith}
 use Rattle.std.proofs.lemmas.Bool.Decides.{nat_tests}
 use Rattle.ga_word.specs.Word.{hex_digit, hex6_of, read6_of}
 use Rattle.ga_ports.specs.Address.{is_single}
 use Rattle.ga_image.specs.declared.field.Field.{Field}
 use Rattle.ga_image.specs.declared.field.Field.TheVariants.{A, B, P, I, Io, Carry, Slot, Wait, Stop, Data, Return, Ram, Rom}
-use Rattle.ga_node.specs.Waits.{IsWaitCode}
+use Rattle.ga_node.specs.State.{IsWaitCode}
 use Rattle.ga_image.specs.declared.field.Format.{Format}
 use Rattle.ga_image.specs.Fields.{has_field}
 use Rattle.ga_image.specs.Spelling.{Form, Node, Words, End, set_text, wait_text, field_name, code_text, SpellsWords, SpellsCode, SpellsField, Spells, IsFormOf, SpellsIn}
 use Rattle.ga_text.specs.Digits.{decimal3_of, hex2_of, words_text}
-use Rattle.ga_image.specs.kept.Spelling.{HoldsCode, AreCodes}
 use Rattle.ga_image.specs.Forms.{form, word_form, cells_form, stack_form, digit_form, set_form, side_form, wait_form, node_form, wide_form, state_form}
 use Rattle.ga_image.specs.Reading.{form_in, kept_in}
 use Rattle.ga_image.specs.Grammar.{Spell}
 use Rattle.ga_text.proofs.Numbers.{word_read, cell_read, node_read}
 use Rattle.ga_image.proofs.Numbers.{set_read}
 use Rattle.ga_image.proofs.Spelled.{AreSix, guarded, lower_space, row_read, fetch_text, read_text, write_text, form_spelled}
+
+-- ---- where a parser stands
+
+-- neither before the header nor behind the end
+pub behind : (stage : Expects) → stage ≢ expects.Header → stage ≢ expects.Ended → IsBehindHeader (stage_of stage)
+behind expects.Header begun unended = absurd (begun refl)
+behind expects.Open begun unended = tt
+behind (expects.Block node) begun unended = tt
+behind expects.Ended begun unended = absurd (unended refl)
 
 one_word : (ws : List ℕ) → length ws ≡ 1 → (w : ℕ) × (ws ≡ w ∷ [])
 one_word [] one = absurd (omega arith)

@@ -5,10 +5,9 @@ use Rattle.ga_image.specs.declared.parser.Stage.{Stage as Expects}
 use Rattle.ga_image.specs.declared.parser.Stage.TheVariants as expects
 use Rattle.ga_image.specs.declared.fault.ImageCause.{ImageCause}
 use Rattle.ga_image.specs.declared.fault.ImageCause.TheVariants.{Truncated}
-use Rattle.ga_image.specs.Progress.{Progress, Stage, Header, Open, Block, Ended}
-use Rattle.ga_image.specs.kept.Progress.{stage_of}
+use Rattle.ga_image.specs.Reading.{Progress, Stage, Header, Open, Block, Ended, reading, fault_of, after_line, at_end}
+use Rattle.ga_image.specs.kept.Forms.{stage_of}
 use Rattle.ga_text.specs.Lines.{lines_of}
-use Rattle.ga_image.specs.Reading.{reading, fault_of, after_line, at_end}
 
 -- past a line without fault
 pub reads_on : (progress : Progress) (line : ℕ) (text first after : List ℕ) → lines_of text ≡ first ∷ lines_of after → fault_of progress first ≡ None → reading progress line (lines_of text) ≡ reading (after_line progress first) (line + 1) (lines_of after)

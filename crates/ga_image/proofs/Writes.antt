@@ -8,11 +8,9 @@ use Rattle.ga_node.specs.Places.{greatest_of}
 use Rattle.ga_image.specs.declared.field.Field.{Field}
 use Rattle.ga_image.specs.declared.field.Field.TheVariants.{A, B, P, I, Io, Carry, Slot, Wait, Stop, Data, Return, Ram, Rom}
 use Rattle.ga_image.specs.declared.fault.ImageCause.TheVariants.{Repeated}
-use Rattle.ga_image.specs.kept.Fields.{HasCell}
+use Rattle.ga_image.specs.kept.Forms.{HasCell, HoldsCode, AreCodes}
 use Rattle.ga_image.specs.Fields.{goes_past, greatest, next_field, number_of, writes, repeats, is_too_great}
-use Rattle.ga_image.specs.kept.Spelling.{HoldsCode, AreCodes}
-use Rattle.ga_image.specs.Progress.{Progress}
-use Rattle.ga_image.specs.Reading.{words_fault, with_write, with_writes}
+use Rattle.ga_image.specs.Reading.{Progress, words_fault, with_write, with_writes}
 
 -- where the words fit, the first has a cell
 pub has_cell : (field : Field) (count : ℕ) → 0 < count → goes_past field count ≡ false → HasCell field

@@ -3,12 +3,11 @@ use Rattle.std.specs.Prelude.{ℕ, ◌+◌, ◌-◌, ◌==◌, ◌&&◌, nat_eq,
 use Rattle.std.specs.Cmp.Lexicographic.{pointwise}
 use Rattle.ga_text.specs.Lines.{Text, Line}
 use Rattle.ga_word.specs.Word.{read6_of}
-use Rattle.ga_ports.specs.Address.{is_single}
+use Rattle.ga_ports.specs.Address.{is_single, set_number}
 use Rattle.ga_image.specs.declared.field.Field.{Field}
 use Rattle.ga_image.specs.declared.field.Field.TheVariants.{A, B, P, I, Io, Carry, Slot, Wait, Stop, Data, Return, Ram, Rom}
 use Rattle.ga_ports.specs.Steps.{◌>>=◌}
-use Rattle.ga_grid.specs.Names.{node_number}
-use Rattle.ga_ports.specs.Letters.{set_number}
+use Rattle.ga_grid.specs.Grid.{node_number}
 use Rattle.ga_text.specs.Digits.{byte_in}
 use Rattle.ga_image.specs.Spelling.{Form, Node, Words, End}
 

@@ -4,16 +4,14 @@ use Rattle.std.specs.Cmp.Lexicographic.{pointwise}
 use Rattle.std.specs.List.{AllByRecursion, IsDistinct}
 use Rattle.ga_text.specs.Lines.{Line}
 use Rattle.ga_node.specs.Record.{NodeState}
-use Rattle.ga_node.specs.State.{with_value}
-use Rattle.ga_grid.specs.Load.{default_chip}
+use Rattle.ga_node.specs.State.{with_value, wait_of}
+use Rattle.ga_grid.specs.Grid.{default_chip, yxx_of}
 use Rattle.ga_grid.specs.Chip.{node_at, with_node}
-use Rattle.ga_grid.specs.Grid.{yxx_of}
 use Rattle.ga_image.specs.declared.field.Field.{Field}
 use Rattle.ga_image.specs.declared.field.Field.TheVariants.{Wait, Stop, Data, Return, Ram, Rom}
 use Rattle.ga_image.specs.declared.field.Format.{Format}
 use Rattle.ga_image.specs.declared.field.Format.TheVariants.{One, Two}
 use Rattle.ga_node.specs.declared.wait.Wait.TheVariants.{Nothing}
-use Rattle.ga_node.specs.Waits.{wait_of}
 use Rattle.ga_image.specs.Fields.{field_place, writes, greatest, number_of}
 use Rattle.ga_image.specs.Held.{held_at_load, held_after, is_unsteady}
 use Rattle.ga_image.specs.Spelling.{Form, Node, Words, End, SpellsIn}

@@ -4,7 +4,6 @@ pub mod Held
 pub mod Spelling
 pub mod Grammar
 pub mod Forms
-pub mod Progress
 pub mod Reading
 pub mod FirstFault
 pub mod Printing

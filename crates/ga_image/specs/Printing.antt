@@ -5,8 +5,8 @@ use Rattle.std.specs.Int.{from_bool}
 use Rattle.ga_text.specs.Lines.{Text, Line}
 use Rattle.ga_stacks.specs.Ring.{fresh_word}
 use Rattle.ga_node.specs.Record.{NodeRecord, fresh_record}
-use Rattle.ga_node.specs.Waits.{wait_code}
-use Rattle.ga_grid.specs.Load.{load_p_of}
+use Rattle.ga_node.specs.State.{wait_code}
+use Rattle.ga_grid.specs.Grid.{load_p_of}
 use Rattle.ga_image.specs.declared.field.Field.{Field}
 use Rattle.ga_image.specs.declared.field.Field.TheVariants.{A, B, P, I, Io, Carry, Slot, Wait, Stop, Data, Return, Ram, Rom}
 use Rattle.ga_image.specs.declared.field.Format.TheVariants.{Two}

@@ -1,23 +1,43 @@
 -- Reading an image line by line, with the first fault that is met (docs/REFERENCE.md, "Images"; this project's own).
-use Rattle.std.specs.Prelude.{◌≡◌, ℕ, ◌+◌, ◌⊎◌, nat_lt, Bool, true, false, ◌||◌, if◌then◌else◌, List, [], ◌∷◌, length, replicate, slice_index_or, slice_set, is_none, Option, Some, None, Result, Ok, Err}
-use Rattle.ga_node.specs.Record.{NodeState}
-use Rattle.ga_grid.specs.Load.{default_chip}
-use Rattle.ga_grid.specs.Grid.{node_of}
-use Rattle.ga_image.specs.declared.fault.ImageCause.{ImageCause}
 use Rattle.ga_image.specs.declared.fault.ImageCause.TheVariants as cause
+use Rattle.std.specs.Prelude.{ℕ, Bool, List, ◌≡◌, ◌+◌, ◌⊎◌, nat_lt, true, false, ◌||◌, if◌then◌else◌, [], ◌∷◌, length, replicate, slice_index_or, slice_set, is_none, Option, Some, None, Result, Ok, Err}
+use Rattle.ga_node.specs.Record.{NodeState}
+use Rattle.ga_image.specs.declared.field.Format.{Format}
+use Rattle.ga_image.specs.declared.held.Held.{Held}
+use Rattle.ga_grid.specs.Grid.{default_chip, node_of}
+use Rattle.ga_image.specs.declared.fault.ImageCause.{ImageCause}
 use Rattle.ga_image.specs.declared.fault.ImageFault.{ImageFault}
 use Rattle.ga_image.specs.declared.field.Field.{Field}
-use Rattle.ga_image.specs.declared.field.Format.{Format}
 use Rattle.ga_image.specs.declared.field.Format.TheVariants.{One, Two}
-use Rattle.ga_image.specs.declared.held.Held.{Held}
 use Rattle.ga_image.specs.Held.{held_at_load, with_held, is_unsteady}
 use Rattle.ga_image.specs.Fields.{field_count, has_field, number_of, writes, goes_past, is_too_great, repeats}
 use Rattle.ga_image.specs.Spelling.{Form, Node, Words, End}
 use Rattle.ga_image.specs.Forms.{form}
 use Rattle.ga_text.specs.Lines.{Line, longest}
 use Rattle.ga_image.specs.Grammar.{is_header_of, format_of, with_word}
-use Rattle.ga_image.specs.Progress.{Stage, Header, Open, Block, Ended, Progress}
 use Rattle.ga_image.specs.Fault.{no_memory}
+
+-- ---- what the lines of an image come to, one after the other
+
+-- What may come next: the header, a block or the end, a field of this node's block as well, or nothing.
+pub data Stage : Type 0 where
+  Header : Stage
+  Open : Stage
+  Block : ℕ → Stage
+  Ended : Stage
+
+-- what the lines so far come to
+pub record Progress : Type 0 where
+  -- the format that the header names
+  pub format : Format
+  pub stage : Stage
+  -- for each node by its number, whether it has a block
+  pub blocks : List Bool
+  -- for each field by its number, whether the last block gave it
+  pub given : List Bool
+  -- what the last block says of its node's wait, stop and slot
+  pub held : Held
+  pub chip : List NodeState
 
 -- no field
 abbrev pub nothing_given : List Bool

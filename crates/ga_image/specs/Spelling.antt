@@ -4,7 +4,7 @@ use Rattle.std.specs.List.{AllByRecursion}
 use Rattle.std.specs.Str.{str_to_ascii_lowercase}
 use Rattle.ga_text.specs.Lines.{Text, Line}
 use Rattle.ga_word.specs.Word.{hex_digit, hex6_of}
-use Rattle.ga_node.specs.Waits.{IsWaitCode}
+use Rattle.ga_node.specs.State.{IsWaitCode}
 use Rattle.ga_image.specs.declared.field.Field.{Field}
 use Rattle.ga_image.specs.declared.field.Format.{Format}
 use Rattle.ga_image.specs.Fields.{has_field}

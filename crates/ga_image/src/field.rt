@@ -2,9 +2,8 @@
 
 ghost use Rattle.std.specs.Prelude.{◌≡◌, ◌<◌, ◌≤◌, length};
 ghost use Rattle.ga_image.specs.Spelling.{field_name};
-ghost use Rattle.ga_image.specs.kept.Forms.{field_in};
+ghost use Rattle.ga_image.specs.kept.Forms.{field_in, HasCell};
 ghost use Rattle.ga_image.specs.Fields.{has_field, field_place, number_of, next_field, goes_past, is_too_great};
-ghost use Rattle.ga_image.specs.kept.Fields.{HasCell};
 
 use ga_node::Place;
 

@@ -3,7 +3,7 @@
 ghost use Rattle.std.specs.Prelude.{◌≡◌, ◌<◌, ◌≤◌, ◌++◌, [], ◌∷◌, ◌==◌, if◌then◌else◌, OnOk};
 ghost use Rattle.std.specs.List.{list_all};
 ghost use Rattle.ga_grid.specs.Grid.{yxx_of};
-ghost use Rattle.ga_node.specs.Waits.{IsWaitCode};
+ghost use Rattle.ga_node.specs.State.{IsWaitCode};
 ghost use Rattle.ga_text.specs.Digits.{decimal3_of, hex2_of, words_text};
 ghost use Rattle.ga_image.specs.Spelling.{set_text, wait_text};
 ghost use Rattle.ga_image.specs.Printing.{field_text, line_unless, word_unless, AreWords};

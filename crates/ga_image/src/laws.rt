@@ -2,8 +2,7 @@
 
 ghost use Rattle.std.specs.Prelude.{ℕ, ◌≡◌, ◌<◌, ◌↔◌, List, length, Ok, Err};
 ghost use Rattle.ga_node.specs.Record.{NodeState, NodeRecord};
-ghost use Rattle.ga_grid.specs.Chip.{records_of};
-ghost use Rattle.ga_grid.specs.Steady.{AreSteady};
+ghost use Rattle.ga_grid.specs.Chip.{records_of, AreSteady};
 ghost use Rattle.ga_image.specs.declared.fault.ImageFault.{ImageFault};
 ghost use Rattle.ga_image.specs.FirstFault.{IsFirstFault};
 ghost use Rattle.ga_image.specs.Grammar.{IsImage};

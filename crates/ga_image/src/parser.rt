@@ -2,14 +2,11 @@
 
 ghost use Rattle.std.specs.Prelude.{◌≡◌, ◌≤◌, length, OnOk, Some};
 ghost use Rattle.std.specs.Result.{result_err};
-ghost use Rattle.ga_grid.specs.Load.{default_chip};
-ghost use Rattle.ga_grid.specs.Grid.{node_of};
+ghost use Rattle.ga_grid.specs.Grid.{default_chip, node_of};
 ghost use Rattle.ga_image.specs.Fields.{writes, greatest};
-ghost use Rattle.ga_image.specs.kept.Fields.{HasCell};
-ghost use Rattle.ga_image.specs.kept.Progress.{progress_of, stage_of, IsBehindHeader};
-ghost use Rattle.ga_image.specs.Progress.{Header};
+ghost use Rattle.ga_image.specs.kept.Forms.{HasCell, progress_of, stage_of, IsBehindHeader, HoldsCode, AreCodes};
+ghost use Rattle.ga_image.specs.Reading.{Header};
 ghost use Rattle.ga_image.specs.Spelling.{Node, Words, End};
-ghost use Rattle.ga_image.specs.kept.Spelling.{HoldsCode, AreCodes};
 ghost use Rattle.ga_image.specs.Grammar.{with_word};
 ghost use Rattle.ga_image.specs.Reading.{
   start,

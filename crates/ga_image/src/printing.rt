@@ -2,9 +2,8 @@
 
 ghost use Rattle.std.specs.Prelude.{◌≡◌, ◌<◌, ◌≤◌, ◌+◌, ◌++◌, length, take, drop, OnOk, IfOk, IfErr, ◌^◌, slice_index};
 ghost use Rattle.ga_node.specs.Record.{record_of, fresh_record};
-ghost use Rattle.ga_grid.specs.Chip.{records_of};
-ghost use Rattle.ga_grid.specs.Load.{load_p_of};
-ghost use Rattle.ga_grid.specs.Steady.{AreSteady};
+ghost use Rattle.ga_grid.specs.Chip.{records_of, AreSteady};
+ghost use Rattle.ga_grid.specs.Grid.{load_p_of};
 ghost use Rattle.ga_image.specs.kept.Printing.{fields_text, blocks_text, memory_in};
 ghost use Rattle.ga_image.specs.Printing.{register_lines, state_lines, memory_lines, row_of_words, lines_beside, block_unless, lines_at, printed, AreWords};
 ghost use Rattle.ga_image.specs.ReadBack.{HasSoundRegisters, HasSoundState, HoldsWords, IsSoundRecord, AreSound, Describes};

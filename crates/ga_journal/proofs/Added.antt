@@ -10,10 +10,9 @@ use Rattle.ga_event.specs.declared.made.Made.{Made}
 use Rattle.ga_event.specs.declared.made.Made.TheVariants as made
 use Rattle.ga_journal.specs.Histories.{Past, Room, Book, history}
 use Rattle.ga_event.specs.Told.{steps_of, made_after}
-use Rattle.ga_journal.specs.Events.{events_of}
+use Rattle.ga_journal.specs.Events.{events_of, IsMade}
 use Rattle.ga_journal.specs.Logs.{IsWhole}
-use Rattle.ga_journal.specs.Making.{IsMade}
-use Rattle.ga_journal.specs.kept.Making.{made_over, IsAdded}
+use Rattle.ga_journal.specs.kept.Ends.{made_over, IsAdded}
 use Rattle.ga_journal.proofs.Logs.{steps_log}
 
 -- what the lengths tell, the events tell

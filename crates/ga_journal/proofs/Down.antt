@@ -10,13 +10,9 @@ use Rattle.ga_event.specs.Apply.{Told}
 use Rattle.ga_journal.specs.declared.fault.JournalFault.{JournalFault}
 use Rattle.ga_journal.specs.declared.since.Since.{Since}
 use Rattle.ga_journal.specs.Histories.{Past, history}
-use Rattle.ga_journal.specs.kept.Histories.{Held, lists_of}
-use Rattle.ga_journal.specs.kept.Sound.{Keeps}
-use Rattle.ga_event.specs.Told.{steps_of}
-use Rattle.ga_journal.specs.Logs.{Stamped, Records}
-use Rattle.ga_journal.specs.kept.Cuts.{cut, older_causes, older_events, WalksBack, IsFirst, IsWalked}
-use Rattle.ga_journal.specs.Since.{IsSince}
-use Rattle.ga_event.specs.Told.{events_in}
+use Rattle.ga_journal.specs.kept.Histories.{Held, lists_of, Keeps, cut, older_causes, older_events, WalksBack, IsFirst, IsWalked}
+use Rattle.ga_event.specs.Told.{steps_of, events_in}
+use Rattle.ga_journal.specs.Logs.{Stamped, Records, IsSince}
 use Rattle.ga_event.specs.declared.made.Made.{Made}
 use Rattle.ga_journal.proofs.Cutting.{history-cut}
 use Rattle.ga_journal.proofs.Logs.{length-tellings, tellings}

@@ -11,9 +11,7 @@ use Rattle.ga_journal.specs.declared.fault.JournalFault.{JournalFault}
 use Rattle.ga_journal.specs.Histories.{Past}
 use Rattle.ga_journal.specs.Events.{kept_before}
 use Rattle.ga_journal.specs.Logs.{Stamped, Records}
-use Rattle.ga_journal.specs.kept.Histories.{Held, lists_of}
-use Rattle.ga_journal.specs.kept.Cuts.{WalksBack, IsFirst}
-use Rattle.ga_journal.specs.kept.Recalled.{IsToldAt, AreTold}
+use Rattle.ga_journal.specs.kept.Histories.{Held, lists_of, WalksBack, IsFirst, IsToldAt, AreTold}
 use Rattle.ga_journal.proofs.Logs.{tellings}
 use Rattle.ga_journal.proofs.Recalling.{WalkOf, at_place}
 

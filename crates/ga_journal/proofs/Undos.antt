@@ -13,7 +13,7 @@ use Rattle.ga_event.specs.declared.event.Effect.TheVariants as effect
 use Rattle.ga_event.specs.Undo.{own_effect, unapplied, restored_at, CanRestore, CanUnapply}
 use Rattle.ga_journal.specs.Histories.{Past, history, deed}
 use Rattle.ga_journal.specs.Logs.{Stamped, Records}
-use Rattle.ga_journal.specs.kept.Newest.{IsTopmost}
+use Rattle.ga_journal.specs.kept.Histories.{IsTopmost}
 use Rattle.ga_journal.specs.kept.Ends.{CanGoBack}
 use Rattle.ga_journal.specs.Popped.{CanUndo}
 use Rattle.ga_journal.proofs.Heads.{Headed, headed}

@@ -6,12 +6,9 @@ use Rattle.ga_event.specs.declared.event.Cause.{Cause}
 use Rattle.ga_event.specs.declared.made.Made.{Made}
 use Rattle.ga_event.specs.Told.{steps_of, events_told, made_in}
 use Rattle.ga_journal.specs.Histories.{Book, history}
-use Rattle.ga_journal.specs.kept.Histories.{Held, lists_of, pasts_of}
-use Rattle.ga_journal.specs.kept.Sound.{Keeps}
+use Rattle.ga_journal.specs.kept.Histories.{Held, lists_of, pasts_of, Keeps, older_events, WalksBack, IsFirst, IsWalked, IsUntold}
 use Rattle.ga_journal.specs.Events.{kept_of, events_of}
 use Rattle.ga_journal.specs.Logs.{Stamped, Records, IsWhole}
-use Rattle.ga_journal.specs.kept.Cuts.{older_events, WalksBack, IsFirst, IsWalked}
-use Rattle.ga_journal.specs.kept.Untold.{IsUntold}
 use Rattle.ga_journal.proofs.Logs.{length-tellings, kept_log, length-built}
 use Rattle.ga_journal.proofs.Down.{left_steps}
 use Rattle.ga_journal.proofs.Recalling.{older_are, walk_whole, walked_drop, log_lower, at_place}

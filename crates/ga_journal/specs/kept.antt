@@ -1,15 +1,5 @@
-pub mod Cuts
 pub mod Ends
-pub mod Entries
 pub mod Histories
 pub mod Lending
-pub mod Looks
-pub mod Making
 pub mod Marks
-pub mod Newest
-pub mod Popped
-pub mod Recalled
-pub mod Sound
 pub mod Stored
-pub mod Untold
-pub mod Window

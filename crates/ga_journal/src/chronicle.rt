@@ -18,14 +18,11 @@ impl Chronicle {
     ghost use Rattle.std.specs.Prelude.{◌≡◌, ◌<◌, ◌≤◌, ◌+◌, ◌^◌, ◌↔◌, length, map, take, drop, Some, IfOk, IfErr, IsNone};
     ghost use Rattle.std.specs.List.{slice_get, All};
     ghost use Rattle.std.specs.List.Sorted.{IsStrictlyIncreasing};
-    ghost use Rattle.ga_journal.specs.Work.{no_work};
-    ghost use Rattle.ga_journal.specs.Histories.{history};
+    ghost use Rattle.ga_journal.specs.Histories.{no_work, history, untold};
     ghost use Rattle.ga_journal.specs.Walked.{walked, CanWalk, overwritten};
     ghost use Rattle.ga_journal.specs.Events.{kept_of, causes_in_book, events_of};
     ghost use Rattle.ga_event.specs.Told.{steps_of, mades_of, made_in};
-    ghost use Rattle.ga_journal.specs.Since.{IsSince};
-    ghost use Rattle.ga_journal.specs.Logs.{IsWhole};
-    ghost use Rattle.ga_journal.specs.Untold.{untold};
+    ghost use Rattle.ga_journal.specs.Logs.{IsSince, IsWhole};
 
     /// What is told of the kept events that touch a node, in order.
     ///

@@ -146,11 +146,10 @@ impl History {
     ghost use Rattle.ga_node.specs.Table.{refusal};
     ghost use Rattle.ga_grid.specs.Chip.{node_at};
     ghost use Rattle.ga_journal.specs.Histories.{past};
-    ghost use Rattle.ga_journal.specs.kept.Histories.{past_of, bound_of};
+    ghost use Rattle.ga_journal.specs.kept.Histories.{past_of, bound_of, IsPastNewest};
     ghost use Rattle.ga_journal.specs.kept.Stored.{act_with};
     ghost use Rattle.ga_journal.specs.kept.Ends.{TellsOf, IsMadeAlone, CanGoBack, IsGoneBack};
     ghost use Rattle.ga_journal.specs.Looks.{HasLook, HasNoLook, IsNewestLook};
-    ghost use Rattle.ga_journal.specs.kept.Looks.{IsPastNewest};
 
     /// A history without an entry.
     #[inline(always)]

@@ -1,21 +1,39 @@
 -- The entries that a journal holds are the steps of its list.
-use Rattle.std.proofs.Common.{◌≡◌, ◌+◌, ◌*◌, ◌^◌, ◌<◌, List, [], length, Result, Ok, Err, sym, ◌∙◌, ap, subst, arith, ext_get_or}
-use Rattle.std.specs.Prelude.{map, OnOk}
+use Rattle.std.proofs.Common.{◌≡◌, ℕ, refl, ap, ◌∙◌, ◌+◌, ◌*◌, ◌^◌, ◌<◌, [], length, Result, Ok, Err, sym, subst, arith, ext_get_or}
+use Rattle.std.specs.Prelude.{List, Some, map, OnOk}
+use Rattle.ga_event.specs.declared.event.Cause.{Cause}
+use Rattle.ga_causal.specs.Dependence.{dependents, rest, IsRest, place_of, rest_from}
+use Rattle.ga_event.specs.Told.{events_in, steps_of}
+use Rattle.ga_causal.proofs.Exact.{dependents_exact, length-dependents}
+use Rattle.ga_causal.proofs.Places.{place_step}
+use Rattle.ga_lab.specs.Machine.{State, causes_of, rewound, IsBounded, steps_in}
 use Rattle.std.specs.List.{sum, range_with_len}
 use Rattle.std.proofs.lemmas.List.{length-map, get_or-map}
 use Rattle.std.proofs.lemmas.List.FromFn.{get_or-map-range_with_len, length-map-range_with_len}
 use Rattle.std.proofs.lemmas.List.Sums.{sum-map}
 use Rattle.ga_node.specs.Record.{NodeState}
-use Rattle.ga_journal.specs.Work.{Work, no_work}
-use Rattle.ga_journal.specs.Histories.{Book}
+use Rattle.ga_journal.specs.Histories.{Work, no_work, Book}
 use Rattle.ga_journal.specs.Events.{events_of}
-use Rattle.ga_event.specs.Told.{steps_of}
 use Rattle.ga_journal.specs.Marks.{entries}
 use Rattle.ga_journal.proofs.Logs.{length-built}
 use Rattle.ga_rollback.specs.Rewound.{IsTicked}
-use Rattle.ga_lab.specs.Machine.{IsBounded, steps_in}
 use Rattle.ga_lab.specs.kept.Tied.{IsLab, state_of}
 use Rattle.ga_lab.proofs.Rewinding.{steps_lab, kept_state}
+
+-- ---- what a rollback keeps, told by dependence
+
+pub rest_exact : (s new : State) (n k place : ℕ) → new ≡ rewound s n k → place_of (causes_of s) n k ≡ Some place
+    → (left : List Cause) × IsRest (causes_of s) place left × (new.kept ≡ events_in left)
+rest_exact s new n k place is there = (
+  rest (causes_of s) place,
+  record {
+    gone = dependents (causes_of s) place;
+    size = length-dependents (causes_of s) place;
+    exact = λ j l. dependents_exact (causes_of s) place j (place_step (causes_of s) n k place there).within;
+    kept = refl;
+  },
+  ap (λ (z : State). z.kept) is ∙ ap (λ o. events_in (rest_from (causes_of s) o)) there,
+)
 
 -- the histories, and how long each of them is
 histories_steps : (chip : List NodeState) (book : Book) → IsLab chip book → map length book.histories ≡ map (λ n. steps_of n (events_of book)) (range_with_len 0 144)

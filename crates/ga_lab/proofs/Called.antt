@@ -14,7 +14,7 @@ use Rattle.ga_event.specs.Apply.{Told, apply, after, unless, cause_of, run, repl
 use Rattle.ga_event.specs.Next.{next}
 use Rattle.ga_event.proofs.Nexts.{next_can}
 use Rattle.ga_causal.specs.Dependence.{cause_touches, rest, rest_from, rewound_list}
-use Rattle.ga_event.specs.Told.{events_in}
+use Rattle.ga_event.specs.Told.{events_in, steps_of, mades_of}
 use Rattle.ga_causal.specs.Steps.{touching}
 use Rattle.ga_causal.proofs.Runs.{causes, run_more, first_of_run}
 use Rattle.ga_causal.proofs.Consistent.{made_of}
@@ -22,8 +22,7 @@ use Rattle.ga_causal.proofs.Places.{place_split, touching_in}
 use Rattle.ga_causal.proofs.Accounts.{first_part_told}
 use Rattle.ga_lab.proofs.Told.{history_begins}
 use Rattle.ga_event.specs.declared.made.Made.{Made}
-use Rattle.ga_event.specs.Told.{steps_of, mades_of}
-use Rattle.ga_rollback.proofs.Replays.{run_snoc}
+use Rattle.ga_rollback.proofs.Rewinding.{run_snoc}
 use Rattle.ga_lab.specs.declared.fault.LabFault.{LabFault}
 use Rattle.ga_lab.specs.Machine.{State, first, chip_of, told_by, told_of_kept, causes_of, answer_to, with_event, unless_refused, stepped, undone, rewound, history_of}
 use Rattle.ga_lab.specs.Calls.{MachineCall, step, undo, rewind, called, called_all}

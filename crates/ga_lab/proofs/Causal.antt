@@ -17,9 +17,8 @@ use Rattle.ga_causal.specs.Equivalence.{AreEquivalent}
 use Rattle.ga_event.specs.declared.made.Made.{Made}
 use Rattle.ga_lab.specs.declared.fault.LabFault.{LabFault}
 use Rattle.ga_lab.specs.declared.fault.LabFault.TheVariants.{Full, Spent}
-use Rattle.ga_lab.specs.Machine.{State, first, chip_of, causes_of, told_next, answer_to, with_event, unless_refused, stepped, undone, rewound}
+use Rattle.ga_lab.specs.Machine.{State, first, chip_of, causes_of, told_next, answer_to, with_event, unless_refused, stepped, undone, rewound, actor_of}
 use Rattle.ga_lab.specs.Calls.{MachineCall, step, undo, rewind, called, called_all}
-use Rattle.ga_lab.specs.Forward.{actor_of}
 use Rattle.ga_lab.specs.Sequences.{AreCausal, back, chained, onward, either, TakesNoLook}
 use Rattle.ga_lab.proofs.Called.{Runs, runs_of, with_kept, call_runs, runs_some, call_load, first_runs}
 use Rattle.ga_lab.proofs.Forward.{made_is_next}

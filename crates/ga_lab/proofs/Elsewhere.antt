@@ -8,15 +8,13 @@ use Rattle.ga_grid.specs.Chip.{record_at}
 use Rattle.ga_event.specs.declared.event.Event.{Event}
 use Rattle.ga_event.specs.declared.event.Cause.{Cause}
 use Rattle.ga_event.specs.Touches.{meets}
-use Rattle.ga_event.specs.Apply.{Told, cause_of, run, replay}
-use Rattle.ga_event.specs.Agree.{Agree}
+use Rattle.ga_event.specs.Apply.{Told, cause_of, run, replay, Agree}
 use Rattle.ga_event.proofs.Locality.{Agree-sym}
 use Rattle.ga_causal.specs.Dependence.{cause_touches, dependents_after, without, rest, place_of, rest_from}
-use Rattle.ga_event.specs.Told.{events_in}
+use Rattle.ga_event.specs.Told.{events_in, steps_of}
 use Rattle.ga_causal.specs.Steps.{touching}
 use Rattle.ga_causal.proofs.Runs.{kept, run_more, FirstOf, first_of_run, keeps_of, Agree-marked, Same, same_of}
 use Rattle.ga_causal.proofs.Places.{touching_in, touching-cons}
-use Rattle.ga_event.specs.Told.{steps_of}
 use Rattle.ga_lab.specs.Machine.{State, chip_of, told_by, causes_of, rewound}
 use Rattle.ga_lab.proofs.Called.{Runs, runs_of, chip_is}
 use Rattle.ga_lab.proofs.Reasoned.{causes, replayed}

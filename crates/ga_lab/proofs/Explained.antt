@@ -9,8 +9,7 @@ use Rattle.ga_causal.specs.declared.chain.Link.{Link}
 use Rattle.ga_causal.specs.Chains.{IsChain, IsFound, chain_of}
 use Rattle.ga_causal.specs.Equivalence.{AreEquivalent}
 use Rattle.ga_causal.specs.Dependence.{place_of}
-use Rattle.ga_causal.proofs.ChainLaws.{chain_chain}
-use Rattle.ga_causal.proofs.ChainOf.{chain_found}
+use Rattle.ga_causal.proofs.ChainOf.{chain_chain, chain_found}
 use Rattle.ga_causal.proofs.Consistent.{shuffled_by}
 use Rattle.ga_causal.proofs.Moved.{Again, chain_again}
 use Rattle.ga_causal.proofs.Refusals.{touching}

@@ -11,8 +11,7 @@ use Rattle.ga_event.specs.Told.{made_in}
 use Rattle.ga_causal.specs.declared.chain.Link.{Link}
 use Rattle.ga_causal.specs.Dependence.{place_of}
 use Rattle.ga_causal.specs.Chains.{IsFound, IsLinked, IsChain, chain_of}
-use Rattle.ga_causal.proofs.ChainLaws.{chain_chain}
-use Rattle.ga_causal.proofs.ChainOf.{chain_found}
+use Rattle.ga_causal.proofs.ChainOf.{chain_chain, chain_found}
 use Rattle.ga_causal.proofs.Places.{place_step}
 use Rattle.ga_journal.specs.Histories.{Book}
 use Rattle.ga_journal.specs.Events.{kept_of}

@@ -22,11 +22,10 @@ use Rattle.ga_event.specs.declared.event.Cause.{Cause}
 use Rattle.ga_event.specs.Apply.{Told, writes_to, reads_from, is_number, is_open, unmatched, refusal_of, apply, after, unless, run, replay, cause_of}
 use Rattle.ga_event.specs.Next.{next, next_by, pass_to, or_waiting}
 use Rattle.ga_event.specs.declared.made.Made.{Made}
-use Rattle.ga_rollback.proofs.Replays.{run_snoc}
+use Rattle.ga_rollback.proofs.Rewinding.{run_snoc}
 use Rattle.ga_lab.specs.declared.fault.LabFault.TheVariants.{Full, Spent}
-use Rattle.ga_lab.specs.Machine.{State, first, chip_of, told_next, answer_to, with_event, unless_refused, stepped, undone}
+use Rattle.ga_lab.specs.Machine.{State, first, chip_of, told_next, answer_to, with_event, unless_refused, stepped, undone, actor_of, stepped_all}
 use Rattle.ga_causal.proofs.Runs.{run_more}
-use Rattle.ga_lab.specs.Forward.{actor_of, stepped_all}
 
 -- An event that can be made is the next of its node, a pass that of its writer.
 

@@ -11,9 +11,8 @@ use Rattle.ga_event.specs.Told.{events_in}
 use Rattle.ga_causal.specs.Equivalence.{AreApart, AreEquivalent, same, swapped, later, joined}
 use Rattle.ga_causal.proofs.Swaps.{replay_equivalent}
 use Rattle.ga_causal.proofs.Taken.{taken_last}
-use Rattle.ga_lab.specs.Machine.{State, first, chip_of, causes_of, with_event, step_answer, stepped, rewound}
+use Rattle.ga_lab.specs.Machine.{State, first, chip_of, causes_of, with_event, step_answer, stepped, rewound, actor_of, stepped_all}
 use Rattle.ga_lab.specs.Calls.{MachineCall, step, undo, rewind, called, called_all, AreEquivalentStates}
-use Rattle.ga_lab.specs.Forward.{actor_of, stepped_all}
 use Rattle.ga_lab.specs.Sequences.{AllNamed, undos, AreCausal, itself, chained, before, more, onward, refused, cancelled, turned, rolled, taken_from}
 use Rattle.ga_lab.proofs.Alike.{equivalent_length, same_rewind}
 use Rattle.ga_lab.proofs.Called.{Runs, runs_of, with_kept, causes_is, chip_is}

@@ -1,26 +1,51 @@
 -- What a place held right before a step, by what is kept of the step.
-use Rattle.std.proofs.Common.{◌≡◌, ℕ, ◌+◌, ◌<◌, ◌==◌, Bool, true, false, cond, List, [], ◌∷◌, length, take, drop, Option, Some, None, refl, sym, ◌∙◌, ap, subst, arith, ⊎_elim}
+use Rattle.std.proofs.Common.{◌≡◌, ℕ, zero, suc, ◌≤◌, List, [], ◌∷◌, ◌++◌, length, take, drop, refl, sym, ◌∙◌, ap, subst, arith, ◌+◌, ◌<◌, ◌==◌, Bool, true, false, cond, Option, Some, None, ⊎_elim}
+use Rattle.std.proofs.lemmas.List.{take-append-drop, length-set, get_or-set_same, get_or-set_other}
+use Rattle.ga_node.specs.Record.{NodeState, NodeRecord, HasSizes, record_of}
+use Rattle.ga_event.specs.Undo.{CanRestore}
+use Rattle.ga_event.specs.Told.{steps_of}
+use Rattle.ga_journal.specs.Histories.{Past, Book, history}
+use Rattle.ga_journal.specs.Walked.{walked, CanWalk, held_before, among, before_entry, overwritten}
+use Rattle.ga_journal.proofs.Logs.{steps_log}
+use Rattle.ga_lab.specs.kept.Tied.{IsTied, state_of}
+use Rattle.ga_lab.proofs.Stepping.{whole_of}
+use Rattle.ga_lab.proofs.Peeking.{kept_steps, peeked, steps_front, can_peek}
+use Rattle.ga_rollback.proofs.Link.{walked-append}
 use Rattle.std.specs.Prelude.{IfSome, IfNone, slice_index, slice_set}
 use Rattle.std.proofs.lemmas.Bool.{eqb-true, eqb-false}
-use Rattle.std.proofs.lemmas.List.{length-set, get_or-set_same, get_or-set_other}
 use Rattle.std.proofs.lemmas.Option.{none-some, slice_get_cases}
 use Rattle.ga_node.specs.declared.place.Place.{Place}
 use Rattle.ga_node.specs.declared.place.Place.TheVariants.{P, A, B, Ram, Wait}
-use Rattle.ga_node.specs.Record.{NodeRecord, NodeState, HasSizes, record_of}
-use Rattle.ga_node.specs.Waits.{wait_of}
-use Rattle.ga_node.specs.State.{restored, with_value, IsInRange, AreFit}
+use Rattle.ga_node.specs.State.{wait_of, restored, with_value, IsInRange, AreFit}
 use Rattle.ga_grid.specs.Chip.{node_at, record_at}
-use Rattle.ga_event.specs.Told.{steps_of}
-use Rattle.ga_event.specs.Undo.{CanRestore}
-use Rattle.ga_journal.specs.Histories.{Past, Book, history}
-use Rattle.ga_journal.specs.Walked.{walked, CanWalk, held_before, among, before_entry, overwritten}
-use Rattle.ga_journal.proofs.Overwritten.{overwritten_within}
-use Rattle.ga_journal.proofs.Walks.{walked_one, can_one}
+use Rattle.ga_journal.proofs.Walks.{overwritten_within, walked_one, can_one}
 use Rattle.ga_lab.specs.Machine.{chip_of, earlier}
 use Rattle.ga_lab.specs.Holding.{Holds}
-use Rattle.ga_lab.specs.kept.Tied.{IsTied, state_of}
-use Rattle.ga_lab.proofs.Peeking.{peeked, steps_front, can_peek}
-use Rattle.ga_lab.proofs.Walking.{kept_long}
+
+-- ---- A node walked back in parts
+
+can-append : (now : NodeState) (older newer : List Past) → CanWalk now (older ++ newer) → CanWalk (walked now newer) older
+can-append now [] newer can = tt
+can-append now (x ∷ xs) newer can = (subst (λ (z : NodeState). CanRestore z x.saved) (walked-append now xs newer) can.0, can-append now xs newer can.1)
+
+between : (to from : ℕ) (h : List Past) → to ≤ from → drop to h ≡ drop to (take from h) ++ drop from h
+between zero from h l = sym (take-append-drop from h)
+between (suc to) zero h l = absurd (omega (arith, l))
+between (suc to) (suc from) [] l = refl
+between (suc to) (suc from) (x ∷ xs) l = between to from xs (omega (arith, l))
+
+-- what was walked back to one step can be walked back to an earlier one, and is then as if it had been walked back there at once
+pub can_between : (now behind : NodeState) (to from : ℕ) (h : List Past) → to ≤ from → behind ≡ walked now (drop from h) → CanWalk now (drop to h) → CanWalk behind (drop to (take from h))
+can_between now behind to from h l is can =
+    subst (λ (z : NodeState). CanWalk z (drop to (take from h))) (sym is) (can-append now (drop to (take from h)) (drop from h) (subst (CanWalk now) (between to from h l) can))
+
+pub walked_between : (now behind last : NodeState) (to from : ℕ) (h : List Past) → to ≤ from → behind ≡ walked now (drop from h) → last ≡ walked behind (drop to (take from h)) → last ≡ walked now (drop to h)
+walked_between now behind last to from h l is e =
+    e ∙ ap (λ (z : NodeState). walked z (drop to (take from h))) is ∙ sym (walked-append now (drop to (take from h)) (drop from h)) ∙ ap (walked now) (sym (between to from h l))
+
+-- a history has as many entries as steps of its node are kept
+pub kept_long : (chip : List NodeState) (book : Book) (n : ℕ) → IsTied chip book → length (history book.histories n) ≡ steps_of n (state_of chip book).kept
+kept_long chip book n tied = steps_log book n (whole_of chip book tied) ∙ kept_steps chip book n
 
 pub if_some : (o : Option ℕ) (Q : ℕ → Type 0) → ((old : ℕ) → o ≡ Some old → Q old) → IfSome o Q
 if_some None Q h = tt

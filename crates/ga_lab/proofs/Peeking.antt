@@ -19,7 +19,7 @@ use Rattle.ga_journal.specs.Walked.{walked, walked_chip, CanWalk}
 use Rattle.ga_journal.specs.Logs.{Stamped, built, IsLog}
 use Rattle.ga_journal.proofs.Logs.{tells_of, tellings, events_push, kept_log, length-built, history-no_histories, steps_built}
 use Rattle.ga_journal.proofs.Walks.{walked_chip-appended, walked_appended, can_appended, can_later, length-unapplied}
-use Rattle.ga_rollback.proofs.Replays.{run_log}
+use Rattle.ga_rollback.proofs.Rewinding.{run_log}
 use Rattle.ga_lab.specs.Machine.{chip_of, earlier}
 use Rattle.ga_lab.specs.kept.Tied.{LeadsBack, IsTied, state_of}
 

@@ -15,12 +15,11 @@ use Rattle.ga_causal.specs.Equivalence.{AreApart, AreEquivalent, same, swapped, 
 use Rattle.ga_causal.proofs.Runs.{first_of_run, keeps_of, same_of}
 use Rattle.ga_causal.proofs.Shuffles.{AreApart-sym, apart_free}
 use Rattle.ga_event.specs.declared.made.Made.{Made}
-use Rattle.ga_rollback.proofs.Replays.{run_snoc}
+use Rattle.ga_rollback.proofs.Rewinding.{run_snoc}
 use Rattle.ga_lab.specs.declared.fault.LabFault.{LabFault}
 use Rattle.ga_lab.specs.declared.fault.LabFault.TheVariants.{Full, Spent}
-use Rattle.ga_lab.specs.Machine.{State, chip_of, told_next, answer_to, with_event, step_answer, unless_refused, stepped, undone}
+use Rattle.ga_lab.specs.Machine.{State, chip_of, told_next, answer_to, with_event, step_answer, unless_refused, stepped, undone, actor_of}
 use Rattle.ga_lab.specs.Calls.{MachineCall, step, undo, rewind, called, called_all, AreEquivalentStates}
-use Rattle.ga_lab.specs.Forward.{actor_of}
 use Rattle.ga_lab.specs.Sequences.{AllNamed, CanCountAll, AreCausal, itself, back, chained, before, more, onward, refused, either, cancelled, turned, rolled}
 use Rattle.ga_lab.proofs.Alike.{same_step, same_rewind}
 use Rattle.ga_lab.proofs.Called.{Runs, with_kept, chip_is, call_runs, calls_run, runs_some, call_load, calls_load}

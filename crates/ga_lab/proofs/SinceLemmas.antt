@@ -5,7 +5,7 @@ use Rattle.std.proofs.Math.Seq.{drop-append_seam}
 use Rattle.std.proofs.lemmas.Bool.{lt-ltb}
 use Rattle.std.proofs.lemmas.List.{length-append}
 use Rattle.ga_event.specs.declared.event.Cause.{Cause}
-use Rattle.ga_journal.specs.Since.{IsSince}
+use Rattle.ga_journal.specs.Logs.{IsSince}
 use Rattle.ga_causal.specs.declared.chain.Link.{Link}
 use Rattle.ga_causal.specs.Chains.{IsFound, chain_of}
 use Rattle.ga_causal.specs.Steps.{touching}

@@ -3,7 +3,7 @@ use Rattle.std.proofs.Common.{List, [], Option, Some, None, IfSome}
 use Rattle.std.specs.Prelude.{unwrap_or}
 use Rattle.ga_node.specs.Record.{fresh_node, NodeRecord, record_of}
 use Rattle.ga_event.specs.Apply.{replay}
-use Rattle.ga_grid.specs.Steady.{AreSteady}
+use Rattle.ga_grid.specs.Chip.{AreSteady}
 use Rattle.ga_lab.specs.Machine.{State, chip_of}
 
 -- no chip at all, each node of which reads as one at load

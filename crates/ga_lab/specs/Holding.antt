@@ -1,7 +1,7 @@
 -- What a node holds at a place, of those whose old values can be asked for alone (F18A Technology Reference DB001, registers and memory).
 use Rattle.std.specs.Prelude.{ℕ, ◌≡◌, slice_index}
 use Rattle.ga_node.specs.Record.{NodeRecord}
-use Rattle.ga_node.specs.Waits.{wait_of}
+use Rattle.ga_node.specs.State.{wait_of}
 use Rattle.ga_node.specs.declared.place.Place.{Place}
 use Rattle.ga_node.specs.declared.place.Place.TheVariants.{P, A, B, Ram, Wait}
 

@@ -11,8 +11,7 @@ use Rattle.ga_event.specs.Apply.{refusal_of, cause_of}
 use Rattle.ga_causal.specs.Dependence.{dependents, without, NoneLooks, place_of}
 use Rattle.ga_causal.specs.Equivalence.{AreApart}
 use Rattle.ga_lab.specs.Calls.{MachineCall, step, undo, rewind, called, called_all, AreEquivalentStates}
-use Rattle.ga_lab.specs.Forward.{actor_of}
-use Rattle.ga_lab.specs.Machine.{State, chip_of, causes_of, step_answer}
+use Rattle.ga_lab.specs.Machine.{actor_of, State, chip_of, causes_of, step_answer}
 
 -- no call is an undo
 abbrev pub AllNamed : List MachineCall → Type 0

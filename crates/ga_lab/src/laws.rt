@@ -6,20 +6,17 @@ ghost use Rattle.std.specs.Prelude.{◌≡◌, ◌<◌, ◌≤◌, ◌^◌, ◌�
 ghost use Rattle.ga_event.specs.declared.event.Event.{Event};
 ghost use Rattle.ga_event.specs.Touches.{touches};
 ghost use Rattle.ga_event.specs.Apply.{replay};
-ghost use Rattle.ga_event.specs.Told.{steps_of, made_in};
+ghost use Rattle.ga_event.specs.Told.{steps_of, made_in, events_in};
 ghost use Rattle.ga_grid.specs.declared.node_id.NodeId.{NodeId};
-ghost use Rattle.ga_grid.specs.Steady.{AreSteady};
+ghost use Rattle.ga_grid.specs.Chip.{AreSteady, record_at};
 ghost use Rattle.ga_event.specs.declared.made.Made.{Made};
-ghost use Rattle.ga_lab.specs.Machine.{State, first, chip_of, told_of_kept, causes_of, step_answer, stepped, stands, undone, rewind_answer, rewound, why_answer, history_of};
-ghost use Rattle.ga_lab.specs.Forward.{actor_of, stepped_all};
-ghost use Rattle.ga_grid.specs.Chip.{record_at};
+ghost use Rattle.ga_lab.specs.Machine.{State, first, chip_of, told_of_kept, causes_of, step_answer, stepped, stands, undone, rewind_answer, rewound, why_answer, history_of, actor_of, stepped_all};
 ghost use Rattle.ga_node.specs.Record.{NodeRecord};
 ghost use Rattle.ga_lab.specs.Calls.{MachineCall, called_all, IsReached, AreEquivalentStates};
 ghost use Rattle.ga_lab.specs.Sequences.{AreCausal, TakesNoLook, taken_from};
 ghost use Rattle.ga_causal.specs.Equivalence.{AreEquivalent, account};
 ghost use Rattle.ga_causal.specs.Words.{words_read};
 ghost use Rattle.ga_causal.specs.Dependence.{NoneLooks, place_of};
-ghost use Rattle.ga_event.specs.Told.{events_in};
 ghost use Rattle.ga_causal.specs.declared.chain.Link.{Link};
 ghost use Rattle.ga_causal.specs.Chains.{IsChain};
 ghost use Rattle.ga_causal.specs.Steps.{links_by_events};
@@ -36,7 +33,7 @@ pub fn machine_stays_steady()
 }
 
 /// What a step answers is told of it later, at the place behind the events that were kept before.
-#[tactic(auto, using(crate::proofs::Answering::told_later))]
+#[tactic(auto, using(crate::proofs::Stepping::told_later))]
 pub fn told_later()
     ensures { (s : State) (n : NodeId) (told : Made) → IsSome (replay s.load s.kept) →
         step_answer s n ≡ Ok told → made_in (told_of_kept (stepped s n)) (length s.kept) ≡ Some told }
@@ -58,7 +55,7 @@ pub fn kept_fits()
 {}
 
 /// After a rollback the history of each node is the first part of what it was.
-#[tactic(auto, using(crate::proofs::Called::history_kept, crate::proofs::Reached::some_reached))]
+#[tactic(auto, using(crate::proofs::Called::history_kept, crate::proofs::Again::some_reached))]
 pub fn history_kept()
     ensures { (s : State) (n k m : ℕ) → IsReached s →
         (later : List Made) × (history_of s m ≡ history_of (rewound s n k) m ++ later) }
@@ -66,7 +63,7 @@ pub fn history_kept()
 
 /// To undo the newest event is to roll back the last step of any of its nodes. A rollback of another node's last step takes another
 /// event.
-#[tactic(auto, using(crate::proofs::Called::undone_rewound, crate::proofs::Reached::some_reached))]
+#[tactic(auto, using(crate::proofs::Called::undone_rewound, crate::proofs::Again::some_reached))]
 pub fn undone_rewound()
     ensures { (s : State) (events : List Event) (event : Event) (n : ℕ) → IsReached s →
         s.kept ≡ events ++ event ∷ [] → touches event n ≡ true → undone s ≡ rewound s n (steps_of n s.kept) }
@@ -88,7 +85,7 @@ pub fn same_accounts()
 /// all, from any machine that is reached. The other direction is of sequences from the load, and wants that no rollback takes a
 /// look, since what a neighbour did after the look stays, and then the rollback is no undos (`examples/look_again`). It goes over as
 /// many steps and undos again, which have to be counted: so less than half of 2^64 calls.
-#[tactic(auto, using(crate::proofs::Sequences::sound, crate::proofs::Reached::runs_reached, crate::proofs::Causal::related))]
+#[tactic(auto, using(crate::proofs::Sequences::sound, crate::proofs::Again::runs_reached, crate::proofs::Causal::related))]
 pub fn causal_calls()
     ensures ends { (s : State) (calls others : List MachineCall) → IsReached s → AreCausal s calls others →
         AreEquivalent s.load (called_all s calls).kept (called_all s others).kept }
@@ -116,7 +113,7 @@ pub fn order_unseen()
 /// tells of the one is a chain of the other: the same steps, each of which depends directly on the one before by the same rule. (It
 /// need not be the one that is told there: where several of the events on which a step depends directly lead back to the first, the
 /// one that was made first is told.)
-#[tactic(auto, using(crate::proofs::Explained::same_none, crate::proofs::Reached::some_reached, crate::proofs::Explained::same_chain))]
+#[tactic(auto, using(crate::proofs::Explained::same_none, crate::proofs::Again::some_reached, crate::proofs::Explained::same_chain))]
 pub fn why_unseen()
     ensures none { (s z : State) (n k m j : ℕ) → IsReached s → AreEquivalentStates s z →
         ((why_answer s n k m j ≡ Ok None) ↔ (why_answer z n k m j ≡ Ok None)) }
@@ -157,7 +154,7 @@ pub fn words_tell()
 
 /// Whatever was taken back, the machine stands where steps alone lead from the load: one step for each kept event, in their order,
 /// of a pass one of its writer.
-#[tactic(auto, using(crate::proofs::Forward::reached_forward, crate::proofs::Reached::some_reached, crate::proofs::Reached::kept_reached, crate::proofs::Reached::count_reached))]
+#[tactic(auto, using(crate::proofs::Forward::reached_forward, crate::proofs::Again::some_reached, crate::proofs::Again::kept_reached, crate::proofs::Again::count_reached))]
 pub fn reached_forward()
     ensures { (s : State) → IsReached s →
         stepped_all (first s.load s.limit) (map actor_of s.kept) ≡ record s { made = length s.kept } }
@@ -165,14 +162,14 @@ pub fn reached_forward()
 
 /// `why` finds no chain from a step to another exactly where a rollback of the first leaves the other standing. Both must stand:
 /// `why` refuses a step that doesn't.
-#[tactic(auto, using(crate::proofs::Reasoned::takes_what_it_explains, crate::proofs::Reached::some_reached))]
+#[tactic(auto, using(crate::proofs::Reasoned::takes_what_it_explains, crate::proofs::Again::some_reached))]
 pub fn takes_what_it_explains()
     ensures { (s : State) (n k m j : ℕ) → IsReached s → stands s n k ≡ true → stands s m j ≡ true →
         ((why_answer s n k m j ≡ Ok None) ↔ (stands (rewound s n k) m j ≡ true)) }
 {}
 
 /// Two rollbacks leave the same machine in either order.
-#[tactic(auto, using(crate::proofs::Reasoned::either_order, crate::proofs::Reached::some_reached))]
+#[tactic(auto, using(crate::proofs::Reasoned::either_order, crate::proofs::Again::some_reached))]
 pub fn either_order()
     ensures { (s : State) (n k m j : ℕ) → IsReached s →
         rewound (rewound s n k) m j ≡ rewound (rewound s m j) n k }
@@ -180,7 +177,7 @@ pub fn either_order()
 
 /// What was undone is made again by a step of its node, of a pass by one of its writer (a step of its reader takes the word of the
 /// first writer that waits, which may be another). Once 2^64 - 1 events were made a step is refused.
-#[tactic(auto, using(crate::proofs::Forward::redone, crate::proofs::Reached::some_reached, crate::proofs::Reached::kept_reached))]
+#[tactic(auto, using(crate::proofs::Forward::redone, crate::proofs::Again::some_reached, crate::proofs::Again::kept_reached))]
 pub fn redone()
     ensures { (s : State) (xs : List Event) (e : Event) → IsReached s → s.kept ≡ xs ++ e ∷ [] →
         s.made < 2 ^ 64 - 1 → stepped (undone s) (actor_of e) ≡ record s { made = s.made + 1 } }
@@ -198,7 +195,7 @@ pub fn remade()
 {}
 
 /// A node that keeps all its steps stands after a rollback as it stood before. Another stands where its first steps left it.
-#[tactic(auto, using(crate::proofs::Elsewhere::stays_elsewhere, crate::proofs::Reached::some_reached))]
+#[tactic(auto, using(crate::proofs::Elsewhere::stays_elsewhere, crate::proofs::Again::some_reached))]
 pub fn stays_elsewhere()
     ensures { (s : State) (n k m : ℕ) → IsReached s → steps_of m (rewound s n k).kept ≡ steps_of m s.kept →
         record_at (chip_of (rewound s n k)) m ≡ record_at (chip_of s) m }

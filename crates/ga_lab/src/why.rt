@@ -3,7 +3,7 @@
 ghost use Rattle.std.specs.Prelude.{◌≡◌, ◌+◌, ◌<◌, ◌^◌, ◌⊎◌, ℕ, List, length, drop, Some, Err, IsOk};
 ghost use Rattle.ga_event.specs.declared.event.Cause.{Cause};
 ghost use Rattle.ga_causal.specs.Dependence.{place_of};
-ghost use Rattle.ga_journal.specs.Since.{IsSince};
+ghost use Rattle.ga_journal.specs.Logs.{IsSince};
 ghost use Rattle.ga_lab.specs.Machine.{why_between};
 
 use crate::fault::LabFault;

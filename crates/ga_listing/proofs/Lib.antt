@@ -9,5 +9,3 @@ pub mod SourceNames
 pub mod PlainWords
 pub mod PlainCells
 pub mod FreeCells
-pub mod PlainNodes
-pub mod SourceReads

@@ -14,13 +14,11 @@ use Rattle.ga_parser.specs.declared.scan.Token.{Token}
 use Rattle.ga_parser.specs.Saying.{all_in, all_said}
 use Rattle.ga_source.specs.Mending.{with_numbers, mended, IsAssembledOf}
 use Rattle.ga_source.specs.Programs.{IsAssembled}
-use Rattle.ga_source.specs.Asks.{AreRead}
-use Rattle.ga_source.specs.Asks.{AreAsked}
+use Rattle.ga_source.specs.Asks.{AreRead, AreAsked}
 use Rattle.ga_source.specs.Made.{IsChipOfSource}
 use Rattle.ga_source.specs.Sound.{IsSoundSource}
 use Rattle.ga_text.specs.Image.{HasNoEnd}
-use Rattle.ga_text.specs.Whole.{IsReadWhole}
-use Rattle.ga_text.specs.Output.{Begins}
+use Rattle.ga_text.specs.Output.{IsReadWhole, Begins}
 use Rattle.ga_display.specs.Texts.{image_fault_text}
 use Rattle.ga_console.specs.Run.{Refused}
 use Rattle.ga_console.specs.Race.{OfImage, IsCutShort}

@@ -1,9 +1,9 @@
 //! Source in, the image of its chip out.
 ghost use Rattle.std.specs.Prelude.{◌≡◌, ◌++◌, Some, IfSome};
 ghost use Rattle.ga_text.specs.Lines.{Bytes};
-ghost use Rattle.ga_console.specs.kept.Race.{Writes};
+ghost use Rattle.ga_console.specs.kept.Run.{Writes};
 ghost use Rattle.ga_listing.specs.Source.{IsAssembly, Assembles};
-ghost use Rattle.ga_listing.specs.kept.Source.{Assembly};
+ghost use Rattle.ga_listing.specs.kept.{Assembly};
 
 use super::reading::read_source;
 use ga_console::Status;

@@ -1,8 +1,8 @@
 //! Source that is read whole.
 ghost use Rattle.std.specs.Prelude.{◌≡◌, ◌++◌, Some, IfOk, IfErr};
 ghost use Rattle.ga_text.specs.Lines.{Bytes};
-ghost use Rattle.ga_text.specs.Whole.{IsWholeText};
-ghost use Rattle.ga_listing.specs.kept.Source.{IsUnread};
+ghost use Rattle.ga_text.specs.Output.{IsWholeText};
+ghost use Rattle.ga_listing.specs.kept.{IsUnread};
 
 use ga_console::Status;
 use ga_notes::{tell_long, tell_memory};

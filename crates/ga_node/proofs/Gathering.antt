@@ -5,8 +5,7 @@ use Rattle.ga_node.specs.Record.{NodeState}
 use Rattle.ga_node.specs.State.{with_value, restored, IsInRange, AreFit}
 use Rattle.ga_node.specs.declared.place.Place.{Place}
 use Rattle.ga_node.specs.declared.place.Place.TheVariants.{T, S, DataCell, DataPointer, R, ReturnCell, ReturnPointer, Ram, Rom, A, B, P, I, Slot, Io, Carry, Wait, Stop}
-use Rattle.ga_node.specs.kept.Packed.{code_of, place_by, unpacked, IsWord}
-use Rattle.ga_node.specs.kept.Gathered.{pairs_of, AreAt}
+use Rattle.ga_node.specs.kept.Packed.{code_of, place_by, unpacked, IsWord, pairs_of, AreAt}
 use Rattle.ga_node.proofs.Packing.{kind_in}
 
 -- ---- values at places

@@ -8,9 +8,8 @@ use Rattle.ga_node.specs.Record.{NodeState, NodeRecord, record_of}
 use Rattle.ga_node.specs.State.{restored, AreFit}
 use Rattle.ga_node.specs.Changes.{Change, SetRam, SetIo, after_changes}
 use Rattle.ga_node.specs.Saving.{written_places, IsOnce, Overwrites}
-use Rattle.ga_node.specs.kept.Saving.{IsMade, IsDone, IsEnded, Saves}
+use Rattle.ga_node.specs.kept.Saving.{IsMade, IsDone, IsEnded, Saves, kind_of}
 use Rattle.ga_node.specs.Table.{t, stored, followed, with_kind, fetched, effect, due_of, done_by, own_event, own}
-use Rattle.ga_node.specs.kept.Table.{kind_of}
 use Rattle.ga_node.specs.declared.place.Place.{Place}
 use Rattle.ga_node.specs.declared.seen.Seen.{Seen}
 use Rattle.ga_node.specs.declared.due.Due.{Due}

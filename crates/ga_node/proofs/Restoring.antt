@@ -4,11 +4,10 @@ use Rattle.std.specs.List.{slice_get}
 use Rattle.std.proofs.lemmas.Option.{get_or_from_slice_get, slice_get_within}
 use Rattle.std.proofs.lemmas.List.{set-get_or, set-set}
 use Rattle.ga_node.specs.Record.{NodeState, record_of}
-use Rattle.ga_node.specs.State.{with_value, restored, IsInRange, IsApart, StaysApart, AreFit}
+use Rattle.ga_node.specs.State.{with_value, restored, IsInRange, IsApart, StaysApart, AreFit, wait_code}
 use Rattle.std.specs.Int.{from_bool}
 use Rattle.ga_node.specs.declared.wait.Wait.{Wait}
 use Rattle.ga_node.specs.declared.wait.Wait.TheVariants.{Nothing, Fetch as FetchWait, Read as ReadWait, Write as WriteWait}
-use Rattle.ga_node.specs.Waits.{wait_code}
 use Rattle.ga_node.specs.Table.{refused_by, refusal}
 use Rattle.ga_node.specs.declared.place.Place.{Place}
 use Rattle.ga_node.specs.declared.place.Place.TheVariants.{T, S, DataCell, DataPointer, R, ReturnCell, ReturnPointer, Ram, Rom, A, B, P, I, Slot, Io, Carry, Wait as WaitCode, Stop}

@@ -9,10 +9,9 @@ use Rattle.ga_ports.specs.Address.{classified, is_single, side_of}
 use Rattle.ga_ports.specs.declared.side.Side.{Side}
 use Rattle.ga_ports.specs.declared.address.Target.{Target}
 use Rattle.ga_ports.specs.declared.address.Target.TheVariants.{Ram, Rom, Io, Ports, Bad}
-use Rattle.ga_node.specs.Record.{NodeRecord}
+use Rattle.ga_node.specs.Record.{NodeRecord, FitsWait, IsSteady}
 use Rattle.ga_node.specs.Changes.{Change, PushData, PopData, SetTop, PopTo, PushReturn, PopReturn, SetTopReturn, SetP, SetA, SetB, SetI, SetIo, SetCarry, SetRam, GoOn, Skip, StartAgain, SetWait, SetStop, changed, after_changes}
 use Rattle.ga_node.specs.Table.{t, r, found, stored, followed, effect, fetched, with_kind, posts, halts, is_extended, own_event, own, refused_by, refusal, sent, taken, taking}
-use Rattle.ga_node.specs.Steady.{FitsWait, IsSteady}
 use Rattle.ga_node.specs.declared.seen.Seen.{Seen}
 use Rattle.ga_node.specs.declared.wait.Wait.{Wait}
 use Rattle.ga_node.specs.declared.wait.Wait.TheVariants as wait

@@ -1,4 +1,2 @@
-pub mod Gathered
 pub mod Saving
 pub mod Packed
-pub mod Table

@@ -21,7 +21,7 @@ pub struct Gathered {
 impl Model for Gathered {
     ghost use Rattle.std.specs.Prelude.{◌≡◌, List, ℕ, length};
     ghost use Rattle.ga_node.specs.declared.place.Place.{Place};
-    ghost use Rattle.ga_node.specs.kept.Gathered.{pairs_of, AreAt};
+    ghost use Rattle.ga_node.specs.kept.Packed.{pairs_of, AreAt};
 
     ghost Value = { List (Place × ℕ) };
 

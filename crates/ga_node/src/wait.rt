@@ -1,7 +1,7 @@
 //! What a node waits for.
 
 ghost use Rattle.std.specs.Prelude.{◌≡◌};
-ghost use Rattle.ga_node.specs.Waits.{wait_code, wait_of, IsWaitCode};
+ghost use Rattle.ga_node.specs.State.{wait_code, wait_of, IsWaitCode};
 
 use ga_ports::{PortSet, Side};
 

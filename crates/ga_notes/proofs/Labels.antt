@@ -7,7 +7,7 @@ use Rattle.ga_parser.specs.declared.item.Asked.{Asked}
 use Rattle.ga_source.specs.declared.program.Program.{Program}
 use Rattle.ga_parser.specs.declared.item.Request.TheVariants.{Mark}
 use Rattle.ga_notes.specs.Source.{label_cell, marked_by, last_marked, nearest_found, label_before}
-use Rattle.ga_notes.specs.kept.Marking.{label_at, IsMarked}
+use Rattle.ga_notes.specs.kept.{label_at, IsMarked}
 
 -- ---- first choices
 

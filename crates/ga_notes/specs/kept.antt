@@ -1,2 +1,29 @@
-pub mod Marking
-pub mod Texts
+-- What only private contracts and proofs name.
+use Rattle.std.specs.Prelude.{◌≡◌, ◌<◌, ℕ, List, Option, None, slice_index_or, nat_lt, ◌&&◌, if◌then◌else◌, [], ◌∷◌, ◌++◌, flat_map, codes, decimal}
+use Rattle.ga_source.specs.declared.program.Program.{Program}
+use Rattle.ga_notes.specs.Source.{last_marked}
+use Rattle.ga_text.specs.Lines.{Text}
+use Rattle.ga_text.specs.Digits.{hex2_of}
+
+-- ---- the labels that stand last at the cells of a node, as they are noted
+
+-- the label at a cell
+abbrev pub label_at : List (Option ℕ) → ℕ → Option ℕ
+label_at labels cell = slice_index_or labels cell None
+
+-- of each cell the label is noted that the program's requests mark last there
+pub record IsMarked (program : Program) (labels : List (Option ℕ)) : Type 0 where
+  pub last : (cell : ℕ) → cell < 192 → label_at labels cell ≡ last_marked program cell program.asked.items
+
+-- ---- what standard error is told of a word of source
+
+-- a byte that a terminal shows stands as it is, and any other as `\x` and its two hexadecimal digits
+abbrev pub shown_byte : ℕ → Text
+shown_byte byte = if nat_lt 32 byte && nat_lt byte 127 then byte ∷ [] else codes "\\x" ++ hex2_of byte
+
+abbrev pub shown : Text → Text
+shown word = flat_map shown_byte word
+
+-- a word that says nothing
+abbrev pub unknown_text : ℕ → Text → Text
+unknown_text line word = codes "ga144: line " ++ decimal line ++ codes ": what is " ++ shown word ++ codes "\n"

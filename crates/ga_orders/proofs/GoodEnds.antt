@@ -9,9 +9,8 @@ use Rattle.ga_event.specs.declared.event.Event.{Event}
 use Rattle.ga_event.specs.Apply.{replay}
 use Rattle.ga_races.specs.Orders.{IsAtEnd}
 use Rattle.ga_races.proofs.Orders.{order_replay}
-use Rattle.ga_check.specs.Every.{IsEveryOrder, ends_of}
-use Rattle.ga_check.specs.Kinds.{waiting_fate, fate_of, fates_of, fate_code, are_same, with_order, with_ends, kinds_of}
-use Rattle.ga_check.specs.Tallies.{AreAlike, IsTally}
+use Rattle.ga_check.specs.Runs.{IsEveryOrder, ends_of}
+use Rattle.ga_check.specs.Kinds.{waiting_fate, fate_of, fates_of, fate_code, are_same, with_order, with_ends, kinds_of, AreAlike, IsTally}
 use Rattle.ga_check.specs.declared.tally.EndKind.{EndKind}
 use Rattle.ga_check.specs.declared.tally.Tally.{Tally}
 use Rattle.ga_check.specs.declared.tally.Fate.{Fate}

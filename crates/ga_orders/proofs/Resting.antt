@@ -15,7 +15,7 @@ use Rattle.ga_races.proofs.Exact.{replay_into}
 use Rattle.ga_races.proofs.Frees.{replay_more}
 use Rattle.ga_lab.specs.declared.fault.LabFault.{LabFault}
 use Rattle.ga_lab.specs.Machine.{State, chip_of, step_answer, stepped, with_event, unless_refused}
-use Rattle.ga_check.specs.Reached.{HasMade}
+use Rattle.ga_check.specs.Runs.{HasMade}
 use Rattle.ga_orders.specs.Settled.{fetches_from_ports, settled_at, settled_below, settled}
 
 record IsLater (s t : State) : Type 0 where

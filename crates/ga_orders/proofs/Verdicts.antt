@@ -5,10 +5,8 @@ use Rattle.std.proofs.lemmas.Bool.{le-ltb}
 use Rattle.ga_node.specs.Record.{NodeRecord}
 use Rattle.ga_event.specs.declared.event.Event.{Event}
 use Rattle.ga_lab.specs.Machine.{State}
-use Rattle.ga_check.specs.Every.{IsSomeOrders, IsEveryOrder, ends_of}
-use Rattle.ga_check.specs.Tallies.{IsTally}
-use Rattle.ga_check.specs.Reached.{IsBack}
-use Rattle.ga_check.specs.Runs.{Rests}
+use Rattle.ga_check.specs.Runs.{IsSomeOrders, IsEveryOrder, ends_of, IsBack, Rests}
+use Rattle.ga_check.specs.Kinds.{IsTally}
 use Rattle.ga_check.proofs.Searching.{chip_back}
 use Rattle.ga_check.specs.declared.tally.Tally.{Tally}
 use Rattle.ga_check.specs.declared.tally.Stop.{Stop}
@@ -16,7 +14,7 @@ use Rattle.ga_check.specs.declared.tally.Stop.TheVariants.{Reached, Memory}
 use Rattle.ga_console.specs.declared.run.Status.TheVariants.{ImageRefused, StreamFault}
 use Rattle.ga_orders.specs.OrderTexts.{orders_text, no_order_text}
 use Rattle.ga_orders.specs.EveryOrder.{IsSearched, IsLooked, IsFoundBy, IsTextOut, is_faultless, verdict_of, no_order_verdict, found_text, found_verdict, searched, said_verdict, TellsOrders, TellsEvery}
-use Rattle.ga_orders.specs.kept.Looking.{TellsLooks}
+use Rattle.ga_orders.specs.kept.{TellsLooks}
 use Rattle.ga_orders.specs.declared.every_order.Verdict.{Verdict}
 use Rattle.ga_orders.specs.declared.every_order.Verdict.TheVariants.{Alike, Several, SearchedAlike, SearchedSeveral, Open, Ended}
 

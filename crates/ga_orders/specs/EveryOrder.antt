@@ -7,10 +7,8 @@ use Rattle.ga_text.specs.Lines.{Bytes, Text}
 use Rattle.ga_event.specs.declared.event.Event.{Event}
 use Rattle.ga_lab.specs.Machine.{State, chip_of}
 use Rattle.ga_lab.specs.declared.fault.LabFault.TheVariants as fault
-use Rattle.ga_check.specs.Every.{IsSomeOrders, IsEveryOrder, ends_of}
-use Rattle.ga_check.specs.Reached.{IsOrderReached}
-use Rattle.ga_check.specs.Runs.{Rests, IsRunReached}
-use Rattle.ga_check.specs.Tallies.{IsTally}
+use Rattle.ga_check.specs.Runs.{IsSomeOrders, IsEveryOrder, ends_of, IsOrderReached, Rests, IsRunReached}
+use Rattle.ga_check.specs.Kinds.{IsTally}
 use Rattle.ga_check.specs.declared.tally.Tally.{Tally}
 use Rattle.ga_check.specs.declared.tally.EndKind.{EndKind}
 use Rattle.ga_check.specs.declared.tally.Fate.{Fate}
@@ -21,11 +19,10 @@ use Rattle.ga_text.specs.Output.{Begins}
 use Rattle.ga_display.specs.Texts.{refusal_text}
 use Rattle.ga_console.specs.declared.run.Status.{Status}
 use Rattle.ga_console.specs.declared.run.Status.TheVariants.{ImageRefused, StreamFault}
-use Rattle.ga_explorer.specs.Opening.{OpensExploring, IsFront, Unbegun}
+use Rattle.ga_explorer.specs.Opening.{OpensExploring, IsFront, Unbegun, Exploring}
 use Rattle.ga_orders.specs.OrderTexts.{orders_text, no_order_text}
 use Rattle.ga_orders.specs.Settled.{begun_from}
 use Rattle.ga_answers.specs.Saved.{saved_text}
-use Rattle.ga_explorer.specs.Exploring.{Exploring}
 use Rattle.ga_orders.specs.declared.every_order.Verdict.{Verdict}
 use Rattle.ga_orders.specs.declared.every_order.Verdict.TheVariants.{Alike, Several, SearchedAlike, SearchedSeveral, Open, Ended}
 

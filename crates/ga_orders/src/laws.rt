@@ -7,7 +7,7 @@ ghost use Rattle.ga_event.specs.declared.event.Event.{Event};
 ghost use Rattle.ga_event.specs.Apply.{replay};
 ghost use Rattle.ga_races.specs.Orders.{IsAtEnd};
 ghost use Rattle.ga_lab.specs.Machine.{State, chip_of};
-ghost use Rattle.ga_check.specs.Reached.{HasMade};
+ghost use Rattle.ga_check.specs.Runs.{HasMade};
 ghost use Rattle.ga_orders.specs.Settled.{settled};
 ghost use Rattle.ga_orders.specs.EveryOrder.{TellsOrders, TellsEvery};
 ghost use Rattle.ga_orders.specs.declared.every_order.Verdict.{Verdict};

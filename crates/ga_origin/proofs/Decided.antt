@@ -3,7 +3,7 @@ use Rattle.std.proofs.Common.{◌≡◌, ℕ, suc, ◌<◌, ◌≤◌, Bool, [],
 use Rattle.std.specs.Prelude.{Option, option_map, option_and_then, option_to_list, unwrap_or}
 use Rattle.std.specs.List.{slice_get, All}
 use Rattle.std.proofs.lemmas.List.Elements.{All-head}
-use Rattle.std.proofs.lemmas.Option.{same_Some}
+use Rattle.std.proofs.lemmas.Option.{same_Some, none-some}
 use Rattle.ga_node.specs.declared.kind.Kind.{Kind}
 use Rattle.ga_grid.specs.declared.node_id.NodeId.{NodeId}
 use Rattle.ga_event.specs.declared.made.Made.{Made}
@@ -16,12 +16,10 @@ use Rattle.ga_flow.specs.Flow.{Flow, Same, From, top, part_of}
 use Rattle.ga_origin.specs.declared.value.Value.{Value}
 use Rattle.ga_origin.specs.declared.deciding.Decision.{Decision}
 use Rattle.ga_origin.specs.Origins.{value_of_step, node_after, flow_at, origin_of}
-use Rattle.ga_origin.specs.Rows.{sender_in}
-use Rattle.ga_origin.specs.Causes.{IsCause, IsNamedFor}
+use Rattle.ga_origin.specs.Rows.{sender_in, IsCause, IsNamedFor}
 use Rattle.ga_origin.specs.Deciding.{code_by, brought_at, came_over, kind_tested, tested_at, decision, decided_by, decided_at, newer, newest_decided}
 use Rattle.ga_origin.specs.kept.Tested.{IsOwn}
 use Rattle.ga_origin.proofs.Causes.{earlier, earlier_step, named_origin, named_sender}
-use Rattle.std.proofs.lemmas.Option.{none-some}
 
 abbrev some_decision : ℕ → Made → Value → ℕ → Value → Option Decision
 some_decision step told tested word source = Some (record { step = step; made = told; tested = tested; word = word; source = source })

@@ -24,7 +24,7 @@ use Rattle.ga_flow.specs.declared.choice.Choice.{Choice}
 use Rattle.ga_flow.specs.declared.part.Part.{Part}
 use Rattle.ga_flow.specs.Flow.{Same, choice, moves_where, moves_by, moved_all, flow_where, own_flow}
 use Rattle.ga_origin.specs.Origins.{node_after}
-use Rattle.ga_origin.specs.kept.Known.{IsDueBy}
+use Rattle.ga_origin.specs.kept.Searching.{IsDueBy}
 use Rattle.ga_origin.proofs.Ran.{WasNext, ran_so}
 
 -- an event that neither waits nor stops its node did what it was for

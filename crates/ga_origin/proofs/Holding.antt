@@ -9,7 +9,7 @@ use Rattle.ga_lab.specs.Holding.{Holds}
 use Rattle.ga_origin.specs.declared.kept.Kept.{Kept}
 use Rattle.ga_origin.specs.declared.kept.Kept.TheVariants.{A, B, Ram}
 use Rattle.ga_origin.specs.Origins.{place_after, node_after}
-use Rattle.ga_origin.specs.kept.Kept.{place_of, word_of}
+use Rattle.ga_origin.specs.kept.Searching.{place_of, word_of}
 use Rattle.ga_origin.proofs.Made.{place_holds}
 
 -- where it is told

@@ -4,8 +4,6 @@ pub mod Telling
 pub mod Causes
 pub mod Walking
 pub mod Closed
-pub mod First
-pub mod Asking
 pub mod Ran
 pub mod Keeping
 pub mod Moves

@@ -2,7 +2,7 @@
 use Rattle.std.proofs.Common.{◌≡◌, ℕ, zero, suc, ◌==◌, Bool, true, false, ◌||◌, cond, List, [], ◌∷◌, ◌++◌, ◌+◌, length, set, length-set, get_or-set_same, arith, take, Some, None, refl, sym, ◌∙◌, ap, subst}
 use Rattle.std.specs.Prelude.{Option, option_map, option_and_then, option_to_list, unwrap_or, IfSome}
 use Rattle.std.specs.List.{slice_get}
-use Rattle.std.proofs.lemmas.Option.{same_Some}
+use Rattle.std.proofs.lemmas.Option.{same_Some, none-some}
 use Rattle.std.proofs.lemmas.Bool.{eqb-true}
 use Rattle.ga_node.specs.Record.{NodeRecord}
 use Rattle.ga_node.specs.Table.{own}
@@ -16,14 +16,12 @@ use Rattle.ga_event.specs.declared.event.Event.TheVariants as event
 use Rattle.ga_event.specs.declared.event.Cause.{Cause}
 use Rattle.ga_event.specs.declared.made.Made.{Made}
 use Rattle.ga_event.specs.declared.made.Made.TheVariants as made
-use Rattle.ga_event.specs.Apply.{Told, seen_from, after, refusal_of, cause_of, unless, run, replay}
-use Rattle.ga_event.specs.Agree.{Agree}
+use Rattle.ga_event.specs.Apply.{Told, seen_from, after, refusal_of, cause_of, unless, run, replay, Agree}
 use Rattle.ga_event.specs.Touches.{touches}
 use Rattle.ga_event.specs.Told.{made_after, mades_after}
 use Rattle.ga_event.proofs.Locality.{apply_keeps}
 use Rattle.ga_lab.specs.Machine.{State, told_by, history_of}
 use Rattle.ga_origin.specs.Origins.{place_after, node_after}
-use Rattle.std.proofs.lemmas.Option.{none-some}
 
 abbrev Ended : Type 0
 Ended = List NodeRecord × List (Cause × Told)

@@ -23,7 +23,7 @@ use Rattle.ga_lab.specs.Machine.{State, history_of}
 use Rattle.ga_origin.specs.declared.kept.Kept.{Kept}
 use Rattle.ga_origin.specs.declared.kept.Kept.TheVariants.{A, B, Ram}
 use Rattle.ga_origin.specs.Origins.{node_after}
-use Rattle.ga_origin.specs.kept.Kept.{word_of, writes, rests_by, rests, IsWhole}
+use Rattle.ga_origin.specs.kept.Searching.{word_of, writes, rests_by, rests, IsWhole}
 use Rattle.ga_origin.proofs.Ran.{became_so}
 
 -- a change of something else

@@ -16,7 +16,7 @@ use Rattle.ga_origin.specs.declared.value.Value.{Value}
 use Rattle.ga_origin.specs.declared.listing.Row.{Row}
 use Rattle.ga_origin.specs.Origins.{flow_at, value_of_step}
 use Rattle.ga_origin.specs.Rows.{sender_in, source_values, sources_from, row_at, below}
-use Rattle.ga_origin.specs.kept.Open.{IsOpen}
+use Rattle.ga_origin.specs.kept.Searching.{IsOpen}
 
 pub no_parts : (xs : List Part) → (0 < length xs → ⊥) → xs ≡ []
 no_parts [] none = refl

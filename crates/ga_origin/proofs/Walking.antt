@@ -1,8 +1,7 @@
 -- Rows told one after another.
-use Rattle.std.proofs.Common.{◌≡◌, ℕ, ◌+◌, ◌<◌, ◌≤◌, Bool, true, false, List, [], ◌∷◌, ◌++◌, length, refl, sym, ◌∙◌, ap, subst, arith}
+use Rattle.std.proofs.Common.{◌≡◌, ℕ, ◌+◌, ◌<◌, ◌≤◌, Bool, true, false, List, [], ◌∷◌, ◌++◌, length, refl, sym, ◌∙◌, ap, subst, arith, append_assoc, append-nil}
 use Rattle.std.specs.Prelude.{reverse}
 use Rattle.std.specs.List.{All}
-use Rattle.std.proofs.Common.{append_assoc, append-nil}
 use Rattle.std.proofs.lemmas.List.{reverse-append, length-append}
 use Rattle.std.proofs.lemmas.List.Elements.{All-head, All-tail, All-append, All-weaker}
 use Rattle.ga_lab.specs.Machine.{State}
@@ -10,7 +9,7 @@ use Rattle.ga_origin.specs.declared.value.Value.{Value}
 use Rattle.ga_origin.specs.declared.listing.Row.{Row}
 use Rattle.ga_origin.specs.Origins.{origin_of}
 use Rattle.ga_origin.specs.Rows.{has_value, made_row, below, row_at, AreRows, all, again, next, cut}
-use Rattle.ga_origin.specs.kept.Open.{IsOpen}
+use Rattle.ga_origin.specs.kept.Searching.{IsOpen}
 
 -- with these rows told and those still to come, what comes makes the rows of the first whole
 abbrev pub Tells : State → Row → List Row → List Row → Type 0

@@ -1,5 +1,4 @@
 pub mod Asked
-pub mod Causes
 pub mod Deciding
 pub mod Fetched
 pub mod Origins

@@ -1,16 +1,31 @@
 -- The steps whose values went into a value, as a tree whose rows are told one after another, each with those below it behind it.
-use Rattle.std.specs.Prelude.{ℕ, zero, suc, ◌+◌, ◌-◌, ◌==◌, ◌≡◌, Bool, true, false, ◌&&◌, List, [], ◌∷◌, ◌++◌, map, Option, Some, None, option_to_list}
+use Rattle.ga_event.specs.declared.made.Made.TheVariants as made
+use Rattle.ga_flow.specs.declared.part.Part.TheVariants as part
+use Rattle.std.specs.Prelude.{◌≡◌, ℕ, ◌⊎◌, Some, zero, suc, ◌+◌, ◌-◌, ◌==◌, Bool, true, false, ◌&&◌, List, [], ◌∷◌, ◌++◌, map, Option, None, option_to_list}
+use Rattle.ga_causal.specs.Dependence.{DependsOn, place_of}
+use Rattle.ga_lab.specs.Machine.{State, causes_of, history_of}
+use Rattle.ga_origin.specs.declared.value.Value.{Value}
 use Rattle.std.specs.List.{list_any, slice_get}
 use Rattle.ga_grid.specs.declared.node_id.NodeId.{NodeId}
 use Rattle.ga_event.specs.declared.made.Made.{Made}
-use Rattle.ga_event.specs.declared.made.Made.TheVariants as made
-use Rattle.ga_lab.specs.Machine.{State, history_of}
 use Rattle.ga_flow.specs.declared.part.Part.{Part}
-use Rattle.ga_flow.specs.declared.part.Part.TheVariants as part
 use Rattle.ga_flow.specs.Flow.{Flow, Same, From, top, is_same}
-use Rattle.ga_origin.specs.declared.value.Value.{Value}
 use Rattle.ga_origin.specs.declared.listing.Row.{Row}
 use Rattle.ga_origin.specs.Origins.{value_of_step, flow_at, origin_of}
+
+-- ---- values whose steps are causes of another's (Danos and Krivine, "Reversible Communicating Systems", 2004)
+
+-- the step of the second value, which is kept, depends on that of the first
+pub record IsCause (s : State) (earlier later : Value) : Type 0 where
+  pub cause : ℕ
+  pub effect : ℕ
+  pub cause_place : place_of (causes_of s) earlier.node.number earlier.step ≡ Some cause
+  pub effect_place : place_of (causes_of s) later.node.number later.step ≡ Some effect
+  pub depends : DependsOn (causes_of s) cause effect
+
+-- a value that was loaded, or whose step is a cause of the one asked for
+abbrev pub IsNamedFor : State → Value → Value → Type 0
+IsNamedFor s asked value = (value.step ≡ 0) ⊎ IsCause s value asked
 
 -- two values are one, and a value was told
 abbrev pub is_one : Value → Value → Bool

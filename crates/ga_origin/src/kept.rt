@@ -5,7 +5,7 @@ ghost use Rattle.std.specs.List.{slice_get};
 ghost use Rattle.ga_event.specs.Told.{steps_of};
 ghost use Rattle.ga_lab.specs.Machine.{history_of};
 ghost use Rattle.ga_origin.specs.Origins.{node_after};
-ghost use Rattle.ga_origin.specs.kept.Kept.{place_of, word_of, writes, rests, IsWhole};
+ghost use Rattle.ga_origin.specs.kept.Searching.{place_of, word_of, writes, rests, IsWhole};
 
 use ga_event::Made;
 use ga_grid::NodeId;

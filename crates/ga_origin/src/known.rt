@@ -3,13 +3,13 @@
 ghost use Rattle.std.specs.Prelude.{◌≡◌, ◌<◌, ◌≤◌, IfSome};
 ghost use Rattle.ga_ports.specs.Address.{IsTarget};
 ghost use Rattle.ga_node.specs.Table.{due_of};
-ghost use Rattle.ga_node.specs.Waits.{wait_of};
+ghost use Rattle.ga_node.specs.State.{wait_of};
 ghost use Rattle.ga_node.specs.declared.due.Due.TheVariants as due;
 ghost use Rattle.ga_lab.specs.Machine.{standing};
 ghost use Rattle.ga_flow.specs.Flow.{IsPart, choice, target_of, own_flow, take_flow};
 ghost use Rattle.ga_flow.specs.Following.{flow_of, AreSources};
 ghost use Rattle.ga_origin.specs.Origins.{node_after, flow_at};
-ghost use Rattle.ga_origin.specs.kept.Known.{IsDueBy};
+ghost use Rattle.ga_origin.specs.kept.Searching.{IsDueBy};
 
 use crate::trail::Trail;
 use ga_event::Made;

@@ -9,8 +9,7 @@ ghost use Rattle.ga_origin.specs.declared.value.Value.{Value};
 ghost use Rattle.ga_origin.specs.declared.listing.Row.{Row};
 ghost use Rattle.ga_origin.specs.Origins.{value_of_step};
 ghost use Rattle.ga_origin.specs.Asked.{asked_of};
-ghost use Rattle.ga_origin.specs.Rows.{row_at, sources_of, IsToldIn, AreRows};
-ghost use Rattle.ga_origin.specs.Causes.{IsCause, IsNamedFor};
+ghost use Rattle.ga_origin.specs.Rows.{row_at, sources_of, IsToldIn, AreRows, IsCause, IsNamedFor};
 ghost use Rattle.ga_origin.specs.declared.deciding.Decision.{Decision};
 ghost use Rattle.ga_origin.specs.Deciding.{decided_at};
 

@@ -4,7 +4,7 @@ ghost use Rattle.std.specs.Prelude.{◌≡◌, ◌<◌, ◌≤◌, ◌+◌, ◌^
 ghost use Rattle.std.specs.List.{slice_get};
 ghost use Rattle.ga_node.specs.Record.{record_of};
 ghost use Rattle.ga_lab.specs.Machine.{history_of, standing};
-ghost use Rattle.ga_origin.specs.kept.Kept.{AreHeld};
+ghost use Rattle.ga_origin.specs.kept.Searching.{AreHeld};
 
 use crate::kept::{Kept, both_rest, word_before};
 use ga_event::Made;

@@ -5,7 +5,7 @@ ghost use Rattle.std.specs.List.{slice_get};
 ghost use Rattle.ga_lab.specs.Machine.{history_of};
 ghost use Rattle.ga_flow.specs.Flow.{IsPart};
 ghost use Rattle.ga_origin.specs.Origins.{origin_of};
-ghost use Rattle.ga_origin.specs.kept.Kept.{AreHeld};
+ghost use Rattle.ga_origin.specs.kept.Searching.{AreHeld};
 ghost use Rattle.ga_origin.specs.kept.Moving.{moved_by};
 
 use crate::moving::{data_place, misses, moved_by};
@@ -160,7 +160,7 @@ pub(crate) struct Trail<'l> {
 
 impl<'l> Model for Trail<'l> {
     ghost use Rattle.ga_lab.specs.Machine.{Standing};
-    ghost use Rattle.ga_origin.specs.kept.Kept.{AreHeld};
+    ghost use Rattle.ga_origin.specs.kept.Searching.{AreHeld};
 
     ghost Value = { Standing };
 
@@ -176,7 +176,7 @@ impl<'l> Trail<'l> {
     ghost use Rattle.ga_lab.specs.Machine.{history_of, standing};
     ghost use Rattle.ga_flow.specs.Flow.{IsPart};
     ghost use Rattle.ga_origin.specs.Origins.{origin_of};
-    ghost use Rattle.ga_origin.specs.kept.Kept.{IsWhole, AreHeld};
+    ghost use Rattle.ga_origin.specs.kept.Searching.{IsWhole, AreHeld};
     ghost use Rattle.ga_origin.specs.kept.Moving.{moved_by};
 
     /// From where a node is walked back to.

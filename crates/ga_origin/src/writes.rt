@@ -5,8 +5,7 @@ ghost use Rattle.ga_node.specs.Record.{record_of};
 ghost use Rattle.ga_event.specs.Told.{steps_of};
 ghost use Rattle.ga_flow.specs.Following.{flow_of};
 ghost use Rattle.ga_origin.specs.Writes.{is_written, written_at, newest_written};
-ghost use Rattle.ga_origin.specs.kept.Searching.{IsReached, IsFollowedBack};
-ghost use Rattle.ga_origin.specs.kept.Stores.{ran_store};
+ghost use Rattle.ga_origin.specs.kept.Searching.{IsReached, IsFollowedBack, ran_store};
 
 use crate::kept::{Kept, word_before, word_behind};
 use crate::moving::misses;

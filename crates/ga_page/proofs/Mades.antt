@@ -3,7 +3,7 @@ use Rattle.std.proofs.Common.{◌≡◌, ℕ, ◌+◌, ◌<◌, List, [], ◌∷
 use Rattle.std.proofs.lemmas.List.{take_more}
 use Rattle.ga_node.specs.Record.{NodeRecord}
 use Rattle.ga_event.specs.declared.event.Cause.{Cause}
-use Rattle.ga_page.specs.kept.Made.{Makes, MakesAll, more}
+use Rattle.ga_page.specs.kept.{Makes, MakesAll, more}
 
 pub made_more : (load : List NodeRecord) (nodes : List ℕ) (at n : ℕ) (causes : List Cause) (chip after : List NodeRecord) (cause : Cause)
     → at < length nodes → get_or nodes at 0 ≡ n → MakesAll load (take at nodes) causes chip → Makes chip n cause after

@@ -1,9 +1,9 @@
 -- What was told, of the machine that was reached.
 use Rattle.std.proofs.Common.{◌≡◌, ◌++◌, ℕ, List, length, take, Ok, ◌⊎◌, inl, inr, subst}
 use Rattle.ga_lab.specs.Machine.{State}
-use Rattle.ga_explorer.specs.Exploring.{Exploring}
+use Rattle.ga_explorer.specs.Opening.{Exploring}
 use Rattle.ga_picture.specs.Following.{FollowsTo}
-use Rattle.ga_page.specs.kept.Makers.{makers_of}
+use Rattle.ga_page.specs.kept.{makers_of}
 
 pub kept_told : (limit result : ℕ) (input old new read rest text : List ℕ) (seen : State) (last : Exploring)
     → input ≡ read ++ rest → FollowsTo limit read rest text (Ok last) → seen ≡ last.lab

@@ -1,7 +1,7 @@
 //! What depends on a step, and on what it depends, as one call.
 
 ghost use Rattle.std.specs.Prelude.{◌≡◌, ◌⊎◌, ℕ, List, length, take, map, IfSome};
-ghost use Rattle.ga_page.specs.kept.Shaded.{AreCodes, code_of};
+ghost use Rattle.ga_page.specs.kept.{AreCodes, code_of};
 
 use crate::buffer::put_front;
 use crate::made::make_all;

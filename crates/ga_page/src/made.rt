@@ -2,7 +2,7 @@
 
 ghost use Rattle.std.specs.Prelude.{IfSome};
 ghost use Rattle.ga_grid.specs.Chip.{records_of};
-ghost use Rattle.ga_page.specs.kept.Made.{Makes, MakesAll};
+ghost use Rattle.ga_page.specs.kept.{Makes, MakesAll};
 
 use ga_event::{Cause, apply, cause_of, next_event};
 use ga_grid::{Chip, NODES, NodeId};

@@ -2,9 +2,9 @@
 
 ghost use Rattle.std.specs.Prelude.{◌≡◌, ◌++◌, ◌⊎◌, ℕ, List, Ok, IfSome, length, map, take};
 ghost use Rattle.ga_text.specs.Lines.{Bytes};
-ghost use Rattle.ga_explorer.specs.Exploring.{Exploring};
+ghost use Rattle.ga_explorer.specs.Opening.{Exploring};
 ghost use Rattle.ga_picture.specs.Following.{FollowsTo};
-ghost use Rattle.ga_page.specs.kept.Makers.{maker_of, makers_of};
+ghost use Rattle.ga_page.specs.kept.{maker_of, makers_of};
 
 use crate::buffer::put_front;
 use ga_event::{Cause, Event};

@@ -8,7 +8,7 @@ use Rattle.ga_parser.specs.declared.scan.Token.{Token}
 use Rattle.ga_parser.specs.Asking.{Asking, Refusal, refuse_line, line_of, all_closed, hear, next_text, asked_from, finished, is_waiting, all_placed, ◌▷◌}
 use Rattle.ga_parser.specs.Asking.Wrong.{Unclosed}
 use Rattle.ga_parser.specs.Saying.{said_of, all_said}
-use Rattle.ga_parser.specs.kept.Hearing.{texts_of}
+use Rattle.ga_parser.specs.kept.Drafting.{texts_of}
 
 -- ---- what is still open
 

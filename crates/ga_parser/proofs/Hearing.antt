@@ -15,11 +15,11 @@ use Rattle.ga_parser.specs.declared.draft.Expect.{Expect}
 use Rattle.ga_parser.specs.declared.draft.Expect.TheVariants.{Word, Address, Name, Register, Nothing}
 use Rattle.ga_parser.specs.Asking.{carried}
 use Rattle.ga_ports.specs.Steps.{◌>>=◌}
-use Rattle.ga_ports.specs.Letters.{set_number}
+use Rattle.ga_ports.specs.Address.{set_number}
 use Rattle.ga_parser.specs.Numbers.{by_name, number_by_word}
 use Rattle.ga_parser.specs.Plain.{Plain, with_two_words, with_request, by_number, only_if, is_cell, plain_from}
 use Rattle.ga_parser.specs.Vocabulary.{directives}
-use Rattle.ga_parser.specs.kept.Hearing.{Heard, end_of, may_give, next_of, hear, hear_all}
+use Rattle.ga_parser.specs.kept.Drafting.{Heard, end_of, may_give, next_of, hear, hear_all}
 
 abbrev is_some : {X : Type 0} → Option X → Type 0
 is_some (Some _) = Unit {0}

@@ -24,20 +24,16 @@ use Rattle.ga_parser.specs.declared.draft.Expect.TheVariants.{Word, Address, Nam
 use Rattle.ga_parser.specs.declared.scan.TokenKind.{TokenKind}
 use Rattle.ga_parser.specs.declared.scan.TokenKind.TheVariants.{Word as WordKind, LongLine as LongLineKind, OpenComment as OpenCommentKind}
 use Rattle.ga_parser.specs.declared.controls.Open.{Open}
-use Rattle.ga_parser.specs.Asking.{Mention, is_waiting}
+use Rattle.ga_parser.specs.Asking.{Mention, is_waiting, carried, Asking, Refusal, asking as asks, nothing_asked, by_range, value_said, cell, directive, word_asks, named_word, address_asks, register_asks, given_in, with_given, hear as hear_asking, expected, of_kind, asked_from, asked_by_words, finished, all_closed, all_placed, next_text, ◌▷◌, mention_of}
 use Rattle.ga_parser.specs.Asking.Wrong.{LongLine, OpenComment}
-use Rattle.ga_parser.specs.Asking.{carried}
 use Rattle.ga_parser.specs.Saying.{Said, said_of, all_said}
 use Rattle.ga_ports.specs.Steps.{◌>>=◌}
 use Rattle.ga_parser.specs.Numbers.{by_name, has_prefix, number_by_word}
 use Rattle.ga_parser.specs.Plain.{Plain, with_request, by_number, only_if, is_cell, asked_by, value_in, plain_of, no_request}
 use Rattle.ga_parser.specs.Vocabulary.{directives, directive_in, bound_of}
-use Rattle.ga_parser.specs.Asking.{Asking, Refusal, asking as asks, nothing_asked, by_range, value_said, cell, directive, word_asks, named_word, address_asks, register_asks, given_in, with_given, hear as hear_asking, expected, of_kind, asked_from, asked_by_words, finished, all_closed, all_placed, next_text, ◌▷◌}
-use Rattle.ga_parser.specs.kept.Hearing.{Heard, HasHeard, nothing_heard, end_of, with_register, may_give, next_of, hear_word, hear, hear_all}
+use Rattle.ga_parser.specs.kept.Drafting.{Heard, HasHeard, nothing_heard, end_of, with_register, may_give, next_of, hear_word, hear, hear_all, texts_of}
 use Rattle.ga_parser.specs.declared.labels.Label.{Label}
 use Rattle.ga_parser.specs.declared.scan.Token.{Token}
-use Rattle.ga_parser.specs.Asking.{mention_of}
-use Rattle.ga_parser.specs.kept.Hearing.{texts_of}
 use Rattle.ga_parser.specs.declared.item.NodeRequests.{NodeRequests}
 use Rattle.ga_parser.specs.Requests.{AreRequestsOf}
 use Rattle.ga_parser.proofs.Hearing.{no_some, some_same, no_label, numbered, allowed, not_carried, same_text, hear_plain, end_heard}

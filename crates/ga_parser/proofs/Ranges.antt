@@ -7,7 +7,7 @@ use Rattle.std.proofs.lemmas.Bool.{cases_Bool, ltb-true}
 use Rattle.std.proofs.lemmas.Nat.{xor_lt}
 use Rattle.ga_parser.specs.declared.number.Number.{Number}
 use Rattle.ga_parser.specs.declared.number.Number.TheVariants.{Of, OutOfRange, Nothing}
-use Rattle.ga_ports.specs.Letters.{side_value, set_number}
+use Rattle.ga_ports.specs.Address.{side_value, set_number}
 use Rattle.ga_ports.specs.Steps.{◌>>=◌}
 use Rattle.ga_parser.specs.Numbers.{has_prefix, plain_in, word_of_size, word_below, numeral_in, set_address, set_in, by_name, ports, port_in, number_by_word}
 use Rattle.ga_parser.specs.Plain.{by_number}

@@ -5,7 +5,7 @@ use Rattle.std.specs.List.{list_all}
 use Rattle.std.proofs.lemmas.Bool.{cond-true, cond-false, both_ways, and_parts, cases_Bool, le-ltb, lt-ltb}
 use Rattle.ga_parser.specs.declared.scan.TokenKind.TheVariants.{LongLine, OpenComment}
 use Rattle.ga_parser.specs.Saying.{onto_first_part, parted, is_blank, source_lines, has_bytes, source_words, longest_source_line, bare, Said, a_word, a_fault, is_word, closes, spoken, said_by, up_to_fault, next_line, said_from}
-use Rattle.ga_parser.specs.kept.Telling.{IsTold}
+use Rattle.ga_parser.specs.kept.Drafting.{IsTold}
 
 -- ---- parts
 

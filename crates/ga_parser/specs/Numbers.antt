@@ -2,7 +2,7 @@
 use Rattle.std.specs.Prelude.{ℕ, ◌+◌, ◌-◌, ◌*◌, ◌%◌, ◌==◌, nat_lt, nat_le, bit_xor, ◌&&◌, if◌then◌else◌, List, [], ◌∷◌, length, take, drop, codes, bytes_eq, Bool, Option, Some, None}
 use Rattle.std.specs.List.{list_all}
 use Rattle.ga_ports.specs.Steps.{◌>>=◌}
-use Rattle.ga_ports.specs.Letters.{set_number}
+use Rattle.ga_ports.specs.Address.{set_number}
 use Rattle.std.specs.Option.{option_or, option_and_then, option_map_or}
 use Rattle.std.specs.Char.{is_digit}
 use Rattle.std.specs.Str.Parse.{digits_value}

@@ -3,7 +3,7 @@
 ghost use Rattle.std.specs.Prelude.{◌≡◌, ◌&&◌, not, [], length, map, IfOk, OnOk};
 ghost use Rattle.ga_parser.specs.Saying.{has_bytes};
 ghost use Rattle.ga_parser.specs.Asking.{Asking, mention_of, named_before, label_number, with_name, one_label_more, is_behind, with_mark, all_placed};
-ghost use Rattle.ga_parser.specs.kept.Answering.{Answers};
+ghost use Rattle.ga_parser.specs.kept.Drafting.{Answers};
 
 use super::fault::{Fault, SourceCause, fault_at};
 use std::alloc::{AllocError, Global};

@@ -1,16 +1,27 @@
 -- The events on which one depends, found from the newest on.
-use Rattle.std.proofs.Common.{◌≡◌, ℕ, ◌+◌, ◌<◌, ◌≤◌, ◌⊎◌, ◌↔◌, Bool, true, false, ◌||◌, List, length, set, replicate, refl, sym, ◌∙◌, subst, inl, inr, ⊎_elim, arith, IsTrue, slice_index_or, length-set, get_or-set_same, get_or-set_other}
+use Rattle.std.proofs.Common.{◌≡◌, ℕ, ◌==◌, Bool, true, false, List, [], ◌∷◌, refl, sym, subst, ⊎_elim, eqb-true, eq-eqb, ◌+◌, ◌<◌, ◌≤◌, ◌⊎◌, ◌↔◌, ◌||◌, length, set, replicate, ◌∙◌, inl, inr, arith, IsTrue, slice_index_or, length-set, get_or-set_same, get_or-set_other}
 use Rattle.std.specs.List.{list_any}
-use Rattle.std.proofs.lemmas.List.{length-replicate}
 use Rattle.std.proofs.lemmas.Bool.{or_left, or_right, or_cases, both_ways, cases_eq}
+use Rattle.ga_causal.proofs.Exact.{any-mono, rule_meets, meets_rule}
+use Rattle.std.proofs.lemmas.List.{length-replicate}
 use Rattle.ga_event.specs.declared.event.Cause.{Cause}
 use Rattle.ga_event.specs.Touches.{seen_by}
 use Rattle.ga_causal.specs.Dependence.{cause_nodes, cause_touches, event_at, IsDirect, DependsOn, itself, through}
 use Rattle.ga_causal.specs.Equivalence.{sees}
-use Rattle.ga_causal.proofs.Exact.{rule_meets, meets_rule}
-use Rattle.ga_causal.proofs.Flags.{none_marked}
-use Rattle.ga_picture.proofs.Flags.{any_of_one, any_at}
-use Rattle.ga_causal.proofs.Oldest.{DependsOn-order as ordered}
+use Rattle.ga_causal.proofs.Oldest.{none_marked, DependsOn-order as ordered}
+
+-- ---- tests on the nodes of a list
+
+-- one of a list that passes
+pub any_of_one : (p : ℕ → Bool) (n : ℕ) → p n ≡ true → (ns : List ℕ) → list_any (λ m. m == n) ns ≡ true → list_any p ns ≡ true
+any_of_one p n h ns t = any-mono (λ k. k == n) p (λ k q. subst (λ z. p z ≡ true) (sym (eqb-true k n q)) h) ns t
+
+pub any_at : (p : ℕ → Bool) (ns : List ℕ) → list_any p ns ≡ true → (n : ℕ) × (list_any (λ m. m == n) ns ≡ true) × (p n ≡ true)
+any_at p [] t = absurd (both_ways false refl t)
+any_at p (m ∷ ms) t = ⊎_elim
+    (λ u. (m, or_left (m == m) (list_any (λ k. k == m) ms) (eq-eqb m m refl), u))
+    (λ u. let r = any_at p ms u in (r.0, or_right (m == r.0) (list_any (λ k. k == r.0) ms) r.1, r.2))
+    (or_cases (p m) (list_any p ms) t)
 
 -- the first link of a chain of dependence
 pub record First (es : List Cause) (i j : ℕ) : Type 0 where

@@ -2,14 +2,14 @@
 use Rattle.std.proofs.Common.{◌≡◌, ◌↔◌, ℕ, List, [], ◌++◌, Bool, false, true≢false, IsTrue, Some, length, arith, inl, inr, refl, sym, ap, subst, ◌∙◌, Ok}
 use Rattle.std.proofs.lemmas.List.{append-nil}
 use Rattle.std.proofs.lemmas.Option.{same_Some}
-use Rattle.ga_explorer.specs.Exploring.{Exploring}
+use Rattle.ga_explorer.specs.Opening.{Exploring}
 use Rattle.ga_text.specs.Output.{IsSaid}
-use Rattle.ga_console.specs.kept.Turns.{Turns}
+use Rattle.ga_console.specs.kept.Run.{Turns}
 use Rattle.ga_console.specs.declared.responder.Turn.{Turn}
 use Rattle.ga_console.specs.declared.responder.Turn.TheVariants.{Answered, Quit}
 use Rattle.ga_explorer.specs.Answers.{Explores}
 use Rattle.ga_picture.specs.Following.{IsShort}
-use Rattle.ga_picture.specs.kept.Following.{Notes}
+use Rattle.ga_picture.specs.kept.{Notes}
 use Rattle.ga_picture.specs.declared.silent.Silent.{Silent}
 use Rattle.ga_picture.proofs.Following.{Silently}
 

@@ -1,4 +1,3 @@
-pub mod Flags
 pub mod Grounded
 pub mod Touching
 pub mod Plains
@@ -8,11 +7,8 @@ pub mod Listed
 pub mod Loose
 pub mod Tallied
 pub mod Lined
-pub mod Drawn
-pub mod Shaded
 pub mod RaceMarked
 pub mod Grouped
 pub mod Following
 pub mod Reached
-pub mod Going
 pub mod Hearing

@@ -1,11 +1,15 @@
 -- Lines put one behind another, and what stands at an index of a list that grows.
-use Rattle.std.proofs.Common.{◌≡◌, ℕ, zero, suc, ◌+◌, ◌<◌, ◌⊎◌, Bool, true, false, List, [], ◌∷◌, ◌++◌, length, set, replicate, Some, refl, sym, ◌∙◌, ap, subst, inl, inr, ⊎_elim, arith, slice_get, slice_index, length-set, get_or-set_other, length-append}
+use Rattle.std.proofs.Common.{◌≡◌, ℕ, zero, suc, ◌+◌, ◌<◌, ◌⊎◌, Bool, true, false, List, [], ◌∷◌, ◌++◌, length, set, replicate, Some, refl, sym, ◌∙◌, ap, subst, inl, inr, ⊎_elim, arith, slice_get, slice_index, length-set, get_or-set_other, length-append, ◌↔◌, Option, IsTrue}
 use Rattle.std.proofs.lemmas.Option.{same_Some, slice_get_within}
 use Rattle.std.proofs.lemmas.List.{length-replicate}
-use Rattle.std.proofs.lemmas.Bool.{both_ways, cases_eq}
+use Rattle.std.proofs.lemmas.Bool.{both_ways, cases_eq, cases_Bool}
 use Rattle.std.proofs.lemmas.Grind.{get_or-set_at}
 use Rattle.ga_grid.specs.declared.node_id.NodeId.{NodeId}
-use Rattle.ga_picture.specs.kept.Lines.{AreLines}
+use Rattle.ga_picture.specs.kept.{AreLines}
+use Rattle.ga_event.specs.declared.event.Cause.{Cause}
+use Rattle.ga_picture.specs.declared.shade.Shade.{Shade}
+use Rattle.ga_picture.specs.declared.shade.Shade.TheVariants.{Black, Grey, Red}
+use Rattle.ga_picture.specs.Drawing.{Goes, DependsOnPlace, IsShade}
 
 -- nothing stands in an empty list
 pub none_at : {A : Type 0} (i : ℕ) (x : A) → slice_get [] i ≡ Some x → ⊥
@@ -77,4 +81,35 @@ lines_more used lines columns k node l is a t =
           (λ p. ⊎_elim (λ q. a.rising i j m n p q b) (λ q. let s : n.number ≡ node.number = ap (λ (z : NodeId). z.number) q.1 in omega (arith, a.below i m p)) (get_pushed lines node j n f))
           (λ p. let here : i ≡ length lines = p.0 in let more : length (lines ++ node ∷ []) ≡ length lines + 1 = length-append lines (node ∷ []) in absurd (omega (arith, slice_get_within (lines ++ node ∷ []) j n f)))
           (get_pushed lines node i m e);
+    }
+
+-- ---- colours put one after another
+
+pub is_shade : (es : List Cause) (cause rewind : Option ℕ) (place : ℕ) (goes leads : Bool) (s : Shade) → IsTrue goes ↔ Goes es rewind place → IsTrue leads ↔ DependsOnPlace es cause place
+    → (goes ≡ true → s ≡ Red) → (goes ≡ false → leads ≡ true → s ≡ Black) → (goes ≡ false → leads ≡ false → s ≡ Grey) → IsShade es cause rewind place s
+is_shade es cause rewind place goes leads s g l red black grey = ⊎_elim
+    (λ t. subst (λ z. IsShade es cause rewind place z) (sym (red t)) (g.0 t))
+    (λ f. let stays : ¬ Goes es rewind place = λ d. both_ways goes f (g.1 d) in ⊎_elim
+    (λ t. subst (λ z. IsShade es cause rewind place z) (sym (black f t)) (stays, l.0 t))
+    (λ v. subst (λ z. IsShade es cause rewind place z) (sym (grey f v)) (stays, λ d. both_ways leads v (l.1 d)))
+    (cases_Bool leads))
+    (cases_Bool goes)
+
+-- what holds once the first events have their colours
+pub record AreSome (es : List Cause) (cause rewind : Option ℕ) (place : ℕ) (shades : List Shade) : Type 0 where
+  pub count : length shades ≡ place
+  pub exact : (k : ℕ) (s : Shade) → slice_get shades k ≡ Some s → IsShade es cause rewind k s
+
+pub shades_none : (es : List Cause) (cause rewind : Option ℕ) → AreSome es cause rewind 0 []
+shades_none es cause rewind = record { count = refl; exact = λ k s e. absurd (none_at k s e) }
+
+pub shades_more : (es : List Cause) (cause rewind : Option ℕ) (place : ℕ) (shades : List Shade) (s : Shade) → AreSome es cause rewind place shades → IsShade es cause rewind place s → AreSome es cause rewind (place + 1) (shades ++ s ∷ [])
+shades_more es cause rewind place shades s a h =
+    let count : length shades ≡ place = a.count in
+    let more : length (shades ++ s ∷ []) ≡ length shades + 1 = length-append shades (s ∷ []) in
+    record {
+      count = omega arith;
+      exact = λ k x e. ⊎_elim (λ q. a.exact k x q)
+          (λ q. subst (λ z. IsShade es cause rewind k z) (sym q.1) (subst (λ z. IsShade es cause rewind z s) (sym (q.0 ∙ a.count)) h))
+          (get_pushed shades s k x e);
     }

@@ -17,8 +17,7 @@ use Rattle.ga_picture.specs.Runs.{IsSimple}
 use Rattle.ga_picture.specs.Drawing.{AreShades}
 use Rattle.ga_picture.specs.ByItself.{without_nodes}
 use Rattle.ga_picture.specs.Picture.{place_for, start_in, end_in, known_of, items_in}
-use Rattle.ga_picture.specs.kept.Items.{known_by, AreListed, AreItemsOf}
-use Rattle.ga_picture.specs.kept.ByItself.{IsHeld}
+use Rattle.ga_picture.specs.kept.{known_by, AreListed, AreItemsOf, IsHeld}
 
 plain_parts : (pass look runs more : Bool) → ((not pass && (not look && runs)) && more) ≡ true → (pass ≡ false) × (look ≡ false)
 plain_parts true look runs more e = absurd (true≢false (sym e))

@@ -9,22 +9,22 @@ use Rattle.ga_ports.specs.declared.side.Side.{Side}
 use Rattle.ga_ports.specs.declared.side.Side.TheVariants.{Right, Down, Left, Up}
 use Rattle.ga_grid.specs.Grid.{neighbour_of}
 use Rattle.ga_grid.specs.declared.node_id.NodeId.{NodeId}
-use Rattle.ga_grid.proofs.Links.{neighbour_of-back, neighbour_of-other}
+use Rattle.ga_grid.proofs.NodeIds.{neighbour_of-back, neighbour_of-other}
 use Rattle.ga_event.specs.declared.event.Event.{Event}
 use Rattle.ga_event.specs.declared.event.Event.TheVariants.{Own, Pass}
 use Rattle.ga_event.specs.declared.event.Cause.{Cause}
 use Rattle.ga_event.specs.Touches.{nodes_of, looked_at, neighbours, seen_by}
 use Rattle.ga_event.specs.Touches as Touches
-use Rattle.ga_causal.specs.kept.Firsts.{any_of}
+use Rattle.ga_causal.specs.kept.{any_of}
 use Rattle.ga_causal.specs.Dependence.{cause_touches, is_a_pass}
 use Rattle.ga_causal.specs.Equivalence.{sees}
-use Rattle.ga_causal.proofs.Looks.{any_neighbours}
+use Rattle.ga_causal.proofs.Oldest.{any_neighbours}
 use Rattle.ga_picture.specs.declared.item.PictureItem.{PictureItem}
 use Rattle.ga_picture.specs.Runs.{at_place, no_item}
 use Rattle.ga_picture.specs.Drawing.{IsTouched}
 use Rattle.ga_picture.specs.ByItself.{IsDrawnOf, IsFree}
-use Rattle.ga_picture.specs.kept.ByItself.{IsHeld, is_on, is_look, touched_in, held_in, looking_in, is_loose}
-use Rattle.ga_picture.proofs.Flags.{any_of_one, any_at}
+use Rattle.ga_picture.specs.kept.{IsHeld, is_on, is_look, touched_in, held_in, looking_in, is_loose}
+use Rattle.ga_picture.proofs.Grounded.{any_of_one, any_at}
 use Rattle.ga_picture.proofs.Touching.{touched_below}
 
 -- ---- neighbours

@@ -1,18 +1,16 @@
 -- From the parts of a session whose answers are dropped to the whole.
 use Rattle.std.proofs.Common.{◌≡◌, ℕ, ◌-◌, List, [], ◌++◌, length, inl, inr, refl, Result, Ok, Err}
-use Rattle.ga_explorer.specs.Exploring.{Exploring}
+use Rattle.ga_explorer.specs.Opening.{Exploring, OpensExploring, IsFront}
 use Rattle.ga_text.specs.Input.{input_limit}
 use Rattle.ga_console.specs.Run.{status_of}
-use Rattle.ga_console.specs.Session.{Serves, Written}
-use Rattle.ga_console.specs.Turns.{Answering}
+use Rattle.ga_console.specs.Session.{Serves, Written, Answering}
 use Rattle.ga_console.specs.declared.commands.Ending.{Ending}
 use Rattle.ga_text.specs.declared.output.WriteFailed.{WriteFailed}
 use Rattle.ga_console.specs.declared.run.Status.{Status}
 use Rattle.ga_console.specs.declared.run.Status.TheVariants.{Done}
-use Rattle.ga_explorer.specs.Opening.{OpensExploring, IsFront}
 use Rattle.ga_picture.specs.Following.{Hears, Follows, Followed, FollowsTo}
 use Rattle.ga_picture.specs.Following.Unreached.{broken, short}
-use Rattle.ga_picture.specs.kept.Following.{Goes}
+use Rattle.ga_picture.specs.kept.{Goes}
 
 followed_in : (A : Answering Exploring) (limit : ℕ) (text commands rest said written : List ℕ) (machine last : Exploring) (ending : Result Ending WriteFailed) → IsFront text (commands ++ rest)
     → OpensExploring text limit machine → Serves A (input_limit - length text) machine commands rest said last ending → Written ending said written

@@ -16,7 +16,7 @@ use Rattle.ga_picture.specs.declared.by_itself.Tally.{Tally}
 use Rattle.ga_picture.specs.Runs.{at_place}
 use Rattle.ga_picture.specs.Drawing.{IsTouched}
 use Rattle.ga_picture.specs.ByItself.{IsByItself, IsFree, steps_made}
-use Rattle.ga_picture.specs.kept.ByItself.{AreTallied, HasJoined, IsHeld, touched_in, held_in, looking_in, is_loose, works_loose, works_joined}
+use Rattle.ga_picture.specs.kept.{AreTallied, HasJoined, IsHeld, touched_in, held_in, looking_in, is_loose, works_loose, works_joined}
 use Rattle.ga_picture.proofs.Touching.{touched_below}
 use Rattle.ga_picture.proofs.Loose.{touched_from, into_touched, loose_in, free_from, loose_from}
 

@@ -1,5 +1,5 @@
 -- The nodes that events touch.
-use Rattle.std.proofs.Common.{◌≡◌, ℕ, ◌+◌, ◌<◌, ◌==◌, Bool, true, false, ◌||◌, List, length, refl, sym, ◌∙◌, ap, subst, inl, inr, ⊎_elim, arith, eq-eqb, eqb-true}
+use Rattle.std.proofs.Common.{◌≡◌, ℕ, ◌+◌, ◌<◌, ◌==◌, Bool, true, false, ◌||◌, List, length, refl, sym, ◌∙◌, ap, subst, inl, inr, ⊎_elim, arith, eq-eqb, eqb-true, slice_index}
 use Rattle.std.specs.List.{list_any}
 use Rattle.std.proofs.lemmas.Bool.{or_left, or_right, or_cases, both_ways, cases_eq}
 use Rattle.ga_ports.specs.declared.side.Side.{Side}
@@ -11,7 +11,7 @@ use Rattle.ga_event.specs.Touches.{nodes_of}
 use Rattle.ga_causal.specs.Dependence.{cause_touches}
 use Rattle.ga_picture.specs.declared.item.PictureItem.{PictureItem}
 use Rattle.ga_picture.specs.Runs.{at_place}
-use Rattle.ga_picture.specs.Drawing.{IsTouched}
+use Rattle.ga_picture.specs.Drawing.{IsTouched, IsLineOf, IsMark, IsArrow}
 
 pub own_touches : (e : Cause) (node : NodeId) → e.event ≡ Own node → cause_touches e node.number ≡ true
 own_touches e node is = subst (λ z. list_any (λ m. m == node.number) (nodes_of z) ≡ true) (sym is) (or_left (node.number == node.number) false (eq-eqb node.number node.number refl))
@@ -76,3 +76,23 @@ touched_below (Pass w r side) n t = ⊎_elim
     (λ v. absurd (both_ways false refl v))
     (or_cases (r.number == n) false u))
     (or_cases (w.number == n) ((r.number == n) || false) t)
+
+-- ---- events drawn one after another
+
+-- each node of the event has its line noted
+abbrev pub HasColumns : Cause → List NodeId → List ℕ → Type 0
+HasColumns e lines columns = (n : ℕ) → cause_touches e n ≡ true → IsLineOf lines (slice_index columns n) n
+
+pub mark_drawn : (e : Cause) (lines : List NodeId) (columns : List ℕ) (node : NodeId) (k : ℕ) → e.event ≡ Own node → k ≡ node.number → HasColumns e lines columns → IsMark e lines (slice_index columns k)
+mark_drawn e lines columns node k is at h =
+    record { node = node; own = is; on = subst (λ z. IsLineOf lines (slice_index columns z) node.number) (sym at) (h node.number (own_touches e node is)) }
+
+pub arrow_drawn : (e : Cause) (lines : List NodeId) (columns : List ℕ) (w r : NodeId) (side : Side) (k j : ℕ) → e.event ≡ Pass w r side → k ≡ w.number → j ≡ r.number → HasColumns e lines columns → IsArrow e lines (slice_index columns k) (slice_index columns j)
+arrow_drawn e lines columns w r side k j is at to h = record {
+  writer = w;
+  reader = r;
+  side = side;
+  pass = is;
+  start = subst (λ z. IsLineOf lines (slice_index columns z) w.number) (sym at) (h w.number (writer_touches e w r side is));
+  head = subst (λ z. IsLineOf lines (slice_index columns z) r.number) (sym to) (h r.number (reader_touches e w r side is));
+}

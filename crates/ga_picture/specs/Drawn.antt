@@ -12,7 +12,7 @@ use Rattle.ga_console.specs.declared.run.Status.{Status}
 use Rattle.ga_console.specs.declared.run.Status.TheVariants.{Done, ImageRefused, StreamFault, NotFinished}
 use Rattle.ga_picture.specs.Picture.{IsPictureText, all_stand}
 use Rattle.ga_picture.specs.declared.view.View.{View}
-use Rattle.ga_explorer.specs.Exploring.{Exploring}
+use Rattle.ga_explorer.specs.Opening.{Exploring}
 use Rattle.ga_picture.specs.Following.{Follows, Followed, Declines, Unreached}
 
 -- a step that is asked for doesn't stand; or all do, and memory was wanting for the picture

@@ -1,21 +1,19 @@
 -- A session whose answers are dropped (docs/REFERENCE.md, "Pictures"; this project's own).
 use Rattle.std.specs.Prelude.{◌≡◌, ℕ, ◌-◌, ◌⊎◌, [], ◌++◌, length, take, codes, Result, Ok, Err}
 use Rattle.ga_text.specs.Lines.{Bytes, Text, Line}
-use Rattle.ga_explorer.specs.Exploring.{Exploring}
+use Rattle.ga_explorer.specs.Opening.{Exploring, OpensExploring, IsFront, Unbegun}
 use Rattle.ga_lab.specs.declared.fault.LabFault.{LabFault}
 use Rattle.ga_lab.specs.declared.fault.LabFault.TheVariants.{Memory}
 use Rattle.ga_text.specs.Input.{input_limit}
 use Rattle.ga_text.specs.Output.{Begins}
 use Rattle.ga_console.specs.Run.{status_of}
-use Rattle.ga_console.specs.Session.{Serves, Written}
+use Rattle.ga_console.specs.Session.{Serves, Written, Answering}
 use Rattle.ga_display.specs.Texts.{refusal_text}
-use Rattle.ga_console.specs.Turns.{Answering}
 use Rattle.ga_console.specs.declared.commands.Ending.{Ending}
 use Rattle.ga_text.specs.declared.output.WriteFailed.{WriteFailed}
 use Rattle.ga_console.specs.declared.run.Status.{Status}
 use Rattle.ga_console.specs.declared.run.Status.TheVariants.{Done, ImageRefused, StreamFault, NotFinished}
 use Rattle.ga_explorer.specs.Answers.{Explores}
-use Rattle.ga_explorer.specs.Opening.{OpensExploring, IsFront, Unbegun}
 
 -- the answer tells that memory was wanting: to a command, or to an event of a run
 abbrev pub IsShort : Text → Type 0

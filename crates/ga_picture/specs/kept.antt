@@ -1,6 +1,162 @@
-pub mod Lines
-pub mod Following
-pub mod Items
-pub mod Runs
-pub mod Svg
-pub mod ByItself
+-- What only private contracts and proofs name.
+use Rattle.std.specs.Prelude.{◌≡◌, ℕ, ◌<◌, ◌≤◌, Bool, true, ◌&&◌, not, List, length, slice_index, ◌⊎◌, false, [], Result, Ok, Err, ◌↔◌, map, Option, IsTrue, Some, slice_get, if◌then◌else◌, slice_index_or, ◌++◌}
+use Rattle.std.specs.List.{list_any}
+use Rattle.ga_event.specs.Touches.{neighbours}
+use Rattle.ga_causal.specs.Dependence.{cause_touches, is_a_pass, is_marked}
+use Rattle.ga_picture.specs.declared.item.PictureItem.{PictureItem}
+use Rattle.ga_picture.specs.declared.by_itself.Tally.{Tally}
+use Rattle.ga_picture.specs.ByItself.{steps_made, IsByItself, without_nodes, told_nodes}
+use Rattle.ga_text.specs.Lines.{Bytes, Text, Line}
+use Rattle.ga_explorer.specs.Opening.{Exploring}
+use Rattle.ga_lab.specs.declared.fault.LabFault.TheVariants.{Memory}
+use Rattle.ga_console.specs.Run.{status_of}
+use Rattle.ga_console.specs.Session.{Serves, Written}
+use Rattle.ga_console.specs.declared.commands.Ending.{Ending}
+use Rattle.ga_text.specs.declared.output.WriteFailed.{WriteFailed}
+use Rattle.ga_console.specs.declared.run.Status.{Status}
+use Rattle.ga_console.specs.declared.run.Status.TheVariants.{Done, StreamFault}
+use Rattle.ga_explorer.specs.Answers.{Explores}
+use Rattle.ga_picture.specs.Following.{IsShort, Hears, Follows, Declines}
+use Rattle.ga_event.specs.declared.event.Cause.{Cause}
+use Rattle.ga_picture.specs.declared.by_itself.ByItself.{ByItself}
+use Rattle.ga_picture.specs.declared.item.Facts.{Facts}
+use Rattle.ga_picture.specs.declared.shade.Shade.{Shade}
+use Rattle.ga_picture.specs.declared.view.View.{View}
+use Rattle.ga_picture.specs.Drawing.{AreShades, IsLineOf}
+use Rattle.ga_picture.specs.Items.{Known}
+use Rattle.ga_picture.specs.Picture.{place_for, items_in}
+use Rattle.ga_grid.specs.declared.node_id.NodeId.{NodeId}
+use Rattle.ga_picture.specs.declared.shade.Shade.TheVariants.{Black}
+use Rattle.ga_picture.specs.declared.runs.Runs.{Runs}
+use Rattle.ga_picture.specs.Runs.{is_same_run}
+use Rattle.ga_picture.specs.declared.placing.PictureRow.{PictureRow}
+use Rattle.ga_picture.specs.Svg.{AreGroups, classes_in}
+
+-- ---- what the events of each node are like, as the code keeps it
+
+-- a pass holds its nodes
+abbrev pub IsHeld : PictureItem → Type 0
+IsHeld item = is_a_pass item.cause.event ≡ true → item.holds ≡ true
+
+-- an event that isn't left out touches the node
+abbrev pub is_on : PictureItem → ℕ → Bool
+is_on item n = not item.out && cause_touches item.cause n
+
+abbrev pub is_look : PictureItem → Bool
+is_look item = not (is_a_pass item.cause.event) && item.cause.look
+
+abbrev pub touched_in : List PictureItem → ℕ → Bool
+touched_in items n = list_any (λ item. is_on item n) items
+
+abbrev pub held_in : List PictureItem → ℕ → Bool
+held_in items n = list_any (λ (item : PictureItem). is_on item n && item.holds) items
+
+abbrev pub looking_in : List PictureItem → ℕ → Bool
+looking_in items n = list_any (λ item. is_on item n && is_look item) items
+
+-- what was taken in of these events
+pub record AreTallied (items : List PictureItem) (tally : Tally) : Type 0 where
+  pub steps : (n : ℕ) → n < 144 → slice_index tally.steps n ≡ steps_made items n
+  pub touched : (n : ℕ) → is_marked tally.touched n ≡ touched_in items n
+  pub held : (n : ℕ) → is_marked tally.held n ≡ held_in items n
+  pub looking : (n : ℕ) → is_marked tally.looking n ≡ looking_in items n
+
+-- no node has more steps
+pub record HasFew (tally : Tally) (bound : ℕ) : Type 0 where
+  pub size : length tally.steps ≡ 144
+  pub few : (n : ℕ) → slice_index tally.steps n ≤ bound
+
+-- nothing holds the node, and no look joins it to another, by what is marked
+abbrev pub is_loose : (ℕ → Bool) → (ℕ → Bool) → (ℕ → Bool) → ℕ → Bool
+is_loose touched held looking n =
+    not (held n) && (not (looking n && list_any touched (neighbours n)) && not (list_any looking (neighbours n)))
+
+abbrev pub is_loose_by : Tally → ℕ → Bool
+is_loose_by tally n = is_loose (is_marked tally.touched) (is_marked tally.held) (is_marked tally.looking) n
+
+abbrev pub works_loose : Tally → ℕ → Bool
+works_loose tally n = is_marked tally.touched n && is_loose_by tally n
+
+abbrev pub works_joined : Tally → ℕ → Bool
+works_joined tally n = is_marked tally.touched n && not (is_loose_by tally n)
+
+-- something holds a node that works, or joins it to another
+pub record HasJoined (tally : Tally) : Type 0 where
+  pub node : ℕ
+  pub joined : works_joined tally node ≡ true
+
+-- ---- what private contracts, invariants and bridges cite
+
+-- where memory is not told to be wanting afterwards, it was not before, nor for this answer
+abbrev pub Notes : Bool → Text → Bool → Type 0
+Notes before answer after = after ≡ false → (before ≡ false) × (¬ IsShort answer)
+
+-- it may answer the line so, here nothing is said, and it is noted whether memory was wanting
+abbrev pub HearsLine : Exploring → Bool → Line → Text → Exploring → Bool → Type 0
+HearsLine s before line said new after = (said ≡ []) × (answer : Text) × Explores s line answer new × Notes before answer after
+
+-- From this machine the commands are followed, up to so many bytes of them.
+abbrev pub Goes : ℕ → Exploring → Bytes → Bytes → Text → Result Exploring Status → Type 0
+Goes room s read rest text (Ok last) =
+    (text ≡ []) × (ending : Result Ending WriteFailed) × (status_of ending ≡ Done) × Serves Follows room s read rest [] last ending
+Goes room s read rest text (Err status) = (last : Exploring) × (ending : Result Ending WriteFailed)
+    × (((status_of ending ≡ StreamFault) × (status ≡ StreamFault) × (said : Text) × Serves Hears room s read rest said last ending × Written ending said text)
+    ⊎ ((status_of ending ≡ Done) × Serves Hears room s read rest [] last ending × Declines Memory text status))
+
+-- What comes of a machine that was reached.
+abbrev pub Ends : Exploring → Bool → Text → Result Exploring Status → Type 0
+Ends s short text (Ok last) = (last ≡ s) × (short ≡ false) × (text ≡ [])
+Ends s short text (Err status) = Declines Memory text status
+
+-- ---- what is known of events, as the code has it
+
+abbrev pub known_by : List Cause → List Shade → (ℕ → Bool) → (ℕ → Bool) → Option ℕ → Option ℕ → Known
+known_by events shades ready idle cause rewind =
+    record { events = events; shades = shades; ready = ready; idle = idle; cause = cause; rewind = rewind }
+
+abbrev pub known_in : Facts → (ℕ → Bool) → Known
+known_in facts ready = known_by facts.events.now facts.shades.now ready (is_marked facts.idle.now) facts.cause facts.rewind
+
+-- what is drawn of events that are looked at, and which nodes are told at the foot
+pub record AreListed (looked items : List PictureItem) (told : List ByItself) : Type 0 where
+  pub alone : ℕ → Bool
+  pub are_alone : (n : ℕ) → IsTrue (alone n) ↔ IsByItself looked n
+  pub tells : told ≡ told_nodes looked alone
+  pub are : items ≡ map (without_nodes alone) looked
+
+-- the events that are looked at, as the picture takes them
+pub record AreItemsOf (events : List Cause) (ready idle : ℕ → Bool) (view : View) (items : List PictureItem) (told : List ByItself) : Type 0 where
+  pub shades : List Shade
+  pub shaded : AreShades events (place_for events view.cause) (place_for events view.rewind) shades
+  pub listed : AreListed (items_in events ready idle view shades) items told
+
+-- ---- the lines of the first nodes, as they are put one behind another
+
+-- Of the nodes below a number, those that are used have lines, and no others, by their numbers; and each has its index noted.
+pub record AreLines (used : ℕ → Bool) (lines : List NodeId) (columns : List ℕ) (bound : ℕ) : Type 0 where
+  pub size : length columns ≡ 144
+  pub few : length lines ≤ bound
+  pub found : (n : ℕ) → n < bound → used n ≡ true → IsLineOf lines (slice_index columns n) n
+  pub below : (line : ℕ) (node : NodeId) → slice_get lines line ≡ Some node → node.number < bound
+  pub needed : (line : ℕ) (node : NodeId) → slice_get lines line ≡ Some node → used node.number ≡ true
+  pub rising : (line other : ℕ) (node next : NodeId) → slice_get lines line ≡ Some node → slice_get lines other ≡ Some next
+      → line < other → node.number < next.number
+
+-- ---- runs of the nodes, as they are kept while a list is gone through
+
+-- how many events the run of a node has in a colour
+abbrev pub count_in : Runs → ℕ → Shade → ℕ
+count_in runs n shade = if is_same_run (slice_index_or runs.shades n Black) shade then slice_index runs.counts n else 0
+
+abbrev pub HasNodes : Runs → Type 0
+HasNodes runs = (length runs.counts ≡ 144) × (length runs.shades ≡ 144)
+
+-- no run has more events
+abbrev pub AreWithin : Runs → ℕ → Type 0
+AreWithin runs bound = (n : ℕ) → slice_index runs.counts n ≤ bound
+
+-- ---- the front of a picture's text
+
+-- a head and the groups of the rows
+abbrev pub BeginsSvg : List PictureRow → List ℕ → Type 0
+BeginsSvg rows text = (head : List ℕ) × (groups : List ℕ) × AreGroups (classes_in rows) groups × (text ≡ head ++ groups)

@@ -5,11 +5,10 @@ ghost use Rattle.std.specs.List.{All, list_any};
 ghost use Rattle.ga_grid.specs.Grid.{neighbour_of};
 ghost use Rattle.ga_event.specs.Touches.{neighbours};
 ghost use Rattle.ga_causal.specs.Dependence.{cause_touches, is_marked};
-ghost use Rattle.ga_causal.specs.kept.Firsts.{any_of};
+ghost use Rattle.ga_causal.specs.kept.{any_of};
 ghost use Rattle.ga_picture.specs.Items.{actor, is_plain_at, items_of};
 ghost use Rattle.ga_picture.specs.ByItself.{IsByItself, told_nodes};
-ghost use Rattle.ga_picture.specs.kept.Items.{known_in};
-ghost use Rattle.ga_picture.specs.kept.ByItself.{AreTallied, HasFew, HasJoined, IsHeld, is_look, is_loose_by, works_loose, works_joined};
+ghost use Rattle.ga_picture.specs.kept.{known_in, AreTallied, HasFew, HasJoined, IsHeld, is_look, is_loose_by, works_loose, works_joined};
 
 use crate::item::{Facts, PictureItem, actor, is_pass, item_at};
 use crate::view::View;
@@ -180,7 +179,7 @@ impl Tally {
 }
 
 /// Whether a neighbour of a node is one of these.
-#[tactic(auto, using(ga_causal::proofs::Looks::any_neighbours))]
+#[tactic(auto, using(ga_causal::proofs::Oldest::any_neighbours))]
 fn has_beside(nodes: &Nodes, node: NodeId) -> bool
     ensures { result ≡ list_any (is_marked nodes.now) (neighbours node.number) }
 {

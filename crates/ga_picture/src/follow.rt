@@ -3,7 +3,7 @@ ghost use Rattle.std.specs.Prelude.{◌≡◌, ◌-◌, ◌++◌, Some};
 ghost use Rattle.ga_text.specs.Lines.{Bytes};
 ghost use Rattle.ga_text.specs.Input.{IsWithin, input_limit};
 ghost use Rattle.ga_picture.specs.Following.{FollowsTo, Declines};
-ghost use Rattle.ga_picture.specs.kept.Following.{Goes, Ends};
+ghost use Rattle.ga_picture.specs.kept.{Goes, Ends};
 
 use super::silent::Silent;
 use ga_console::{Status, serve, status_of};

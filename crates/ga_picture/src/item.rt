@@ -5,7 +5,7 @@ ghost use Rattle.ga_event.specs.Apply.{is_number};
 ghost use Rattle.ga_causal.specs.Dependence.{is_marked, is_a_pass};
 ghost use Rattle.ga_picture.specs.Items.{actor, is_plain_at, is_asked_step, is_asked_shade, is_narrow, is_left_out, holds_node, item_of, item_at, items_of};
 ghost use Rattle.ga_picture.specs.ByItself.{without_nodes};
-ghost use Rattle.ga_picture.specs.kept.Items.{known_in};
+ghost use Rattle.ga_picture.specs.kept.{known_in};
 
 use crate::shade::Shade;
 use crate::view::View;

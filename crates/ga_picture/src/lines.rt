@@ -2,7 +2,7 @@
 
 ghost use Rattle.std.specs.Prelude.{IfOk};
 ghost use Rattle.ga_causal.specs.Dependence.{is_marked};
-ghost use Rattle.ga_picture.specs.kept.Lines.{AreLines};
+ghost use Rattle.ga_picture.specs.kept.{AreLines};
 
 use ga_causal::{Memory, Nodes};
 use ga_grid::{NODES, NodeId};

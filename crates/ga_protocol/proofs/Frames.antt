@@ -1,5 +1,7 @@
 -- What stands first in some bytes.
-use Rattle.std.proofs.Common.{◌≡◌, ◌≤◌, ◌<◌, ◌+◌, ◌-◌, ◌++◌, ◌∙◌, ℕ, suc, zero, List, [], ◌∷◌, length, take, drop, min, replicate, get_or, refl, sym, ap, subst, inl, inr, arith, append_assoc, length-append, length-drop}
+use Rattle.std.proofs.Common.{◌≡◌, ◌<◌, ◌∙◌, ℕ, Bool, true, false, inl, inr, arith, ◌≤◌, ◌+◌, ◌-◌, ◌++◌, suc, zero, List, [], ◌∷◌, length, take, drop, min, replicate, get_or, refl, sym, ap, subst, append_assoc, length-append, length-drop}
+use Rattle.std.specs.Bool.{◌==◌}
+use Rattle.std.proofs.lemmas.Bool.Decides.{eqb_tells}
 use Rattle.std.proofs.lemmas.List.{append_cancel_left, take-append-le, take-append-drop, append-nil, length-take, length-replicate, take_at, drop_at, take_all, drop-take, get_or-drop}
 use Rattle.std.proofs.lemmas.Bool.{cases_lt}
 use Rattle.std.proofs.Math.Seq.{take-add}
@@ -7,7 +9,21 @@ use Rattle.std.specs.List.{All}
 use Rattle.ga_protocol.specs.declared.framing.Front.TheVariants.{Message, Part, Wrong}
 use Rattle.ga_protocol.specs.declared.broken.Broken.TheVariants.{NoDigit, TooLong, ManyDigits, HeaderEnd}
 use Rattle.ga_protocol.specs.Framing.{content_limit, digit_limit, field, header_end, header_part, IsDigit, value_from, IsLength, BeginsOne, BeginsNone, OneBeginsOther, Finds}
-use Rattle.ga_protocol.proofs.Digits.{right_of, no_digit_first, run, grows, value_more}
+use Rattle.ga_protocol.proofs.Unique.{right_of, no_digit_first, run, grows, value_more}
+
+-- ---- what a test of a length says
+
+pub is_zero : (n : ℕ) (b : Bool) → b ≡ (n == 0) → b ≡ true → n ≡ 0
+is_zero n b e t = elim (eqb_tells n 0) as (λ w. n ≡ 0) [
+  | inl p ↦ p.1
+  | inr p ↦ let f : b ≡ false = e ∙ p.0 in (cc)
+]
+
+pub not_zero : (n : ℕ) (b : Bool) → b ≡ (n == 0) → b ≡ false → 0 < n
+not_zero n b e f = elim (eqb_tells n 0) as (λ w. 0 < n) [
+  | inl p ↦ let t : b ≡ true = e ∙ p.0 in absurd (cc)
+  | inr p ↦ let h = p.1 in omega arith
+]
 
 -- ---- two beginnings of one text agree
 

@@ -1,5 +1,3 @@
-pub mod Digits
 pub mod Frames
-pub mod Tests
 pub mod Unique
 pub mod Wholes

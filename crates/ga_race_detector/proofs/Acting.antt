@@ -1,30 +1,33 @@
 -- Going back over the kept events, node by node.
-use Rattle.std.proofs.Common.{◌≡◌, ◌≢◌, ℕ, zero, suc, ◌+◌, ◌<◌, ◌≤◌, ◌==◌, Bool, true, false, ◌||◌, cond, inl, inr, List, [], ◌∷◌, ◌++◌, length, take, get_or, set, Option, Some, refl, sym, ◌∙◌, ap, ap₂, subst, arith, ne_eqb, length-append, get_or-set_other}
+use Rattle.std.proofs.Common.{◌≡◌, ℕ, ◌+◌, ◌<◌, ◌≤◌, inl, inr, List, length, get_or, set, sym, subst, arith, get_or-set_other, ◌≢◌, zero, suc, ◌==◌, Bool, true, false, ◌||◌, cond, [], ◌∷◌, ◌++◌, take, Option, Some, refl, ◌∙◌, ap, ap₂, ne_eqb, length-append}
+use Rattle.std.proofs.lemmas.List.{length-set, get_or-set_same, get_or-map, length-map, map-append, take_more, take_all}
+use Rattle.std.proofs.lemmas.Bool.{cases_eq, or_from}
+use Rattle.ga_event.specs.declared.event.Cause.{Cause}
+use Rattle.ga_causal.specs.Dependence.{event_at, no_cause}
+use Rattle.ga_lab.specs.Machine.{State, chip_of, told_by, causes_of, earlier}
+use Rattle.ga_race_detector.specs.declared.moments.Moment.{Moment}
+use Rattle.ga_race_detector.specs.kept.Glances.{IsMoment, AreMomentsFrom, AreMoments, no_moment, StoodSo, AllStood, IsAt, IsActAt}
 use Rattle.std.specs.Prelude.{map, unwrap_or, slice_index}
 use Rattle.std.proofs.Math.Seq.{take-append_seam, take-append-add}
-use Rattle.std.proofs.lemmas.List.{get_or-map, length-map, length-set, get_or-set_same, map-append, take_more, take_all}
 use Rattle.std.proofs.lemmas.List.Sums.{sum_by-append}
-use Rattle.std.proofs.lemmas.Bool.{cases_eq, or_from}
 use Rattle.ga_node.specs.Record.{NodeRecord}
-use Rattle.ga_node.specs.Waits.{wait_of, IsWaitCode}
+use Rattle.ga_node.specs.State.{wait_of, IsWaitCode}
 use Rattle.ga_ports.specs.declared.side.Side.{Side}
 use Rattle.ga_grid.specs.Grid.{neighbour_of}
 use Rattle.ga_grid.specs.Chip.{record_at}
 use Rattle.ga_grid.specs.declared.node_id.NodeId.{NodeId}
-use Rattle.ga_grid.proofs.Links.{neighbour_of-other}
+use Rattle.ga_grid.proofs.NodeIds.{neighbour_of-other}
 use Rattle.ga_event.specs.declared.event.Event.{Event}
 use Rattle.ga_event.specs.declared.event.Event.TheVariants.{Own, Pass}
-use Rattle.ga_event.specs.declared.event.Cause.{Cause}
 use Rattle.ga_event.specs.Touches.{touches}
 use Rattle.ga_event.specs.Apply.{Told, after, replay}
 use Rattle.ga_event.specs.Told.{steps_of}
-use Rattle.ga_causal.specs.Dependence.{no_cause, event_at}
 use Rattle.ga_races.specs.declared.act.EventAccess.{EventAccess}
 use Rattle.ga_races.specs.declared.act.Sides.{Sides}
 use Rattle.ga_races.specs.Orders.{CanBe}
 use Rattle.ga_races.specs.HappensBefore.{Action, no_action, action_of, actions, action_at, causes_in}
 use Rattle.ga_races.specs.Acts.{action_in, actions_in}
-use Rattle.ga_races.specs.kept.Changed.{changed_sides, HasChangedSides, AreAlike}
+use Rattle.ga_races.specs.kept.{changed_sides, HasChangedSides, AreAlike}
 use Rattle.ga_races.proofs.Frees.{first_of, replay_more, stays, touches_own, touches_writer, touches_reader}
 use Rattle.ga_races.proofs.Exact.{replay_into}
 use Rattle.ga_races.proofs.Orders.{is_some_of}
@@ -33,10 +36,26 @@ use Rattle.ga_races.proofs.Rivals.{open_of, number_of}
 use Rattle.ga_races.proofs.Before.{actions_length, causes_of_run}
 use Rattle.ga_races.proofs.Sweeps.{Split, split_at, action_there}
 use Rattle.ga_races.proofs.Shown.{act_changes}
-use Rattle.ga_lab.specs.Machine.{State, chip_of, told_by, causes_of, earlier}
 use Rattle.ga_lab.proofs.Called.{Runs, runs_of}
-use Rattle.ga_race_detector.specs.kept.Acts.{StoodSo, AllStood, IsAt, IsActAt}
 use Rattle.ga_race_detector.proofs.Standing.{steps-cons}
+
+-- ---- what was before each of the kept events
+
+pub moments_none : (s : State) (place : ℕ) (causes : List Cause) (moments : List Moment) → length moments ≤ place → AreMomentsFrom s place causes moments
+moments_none s place causes moments past i from within = absurd (omega (arith, past, from, within))
+
+pub moments_next : (s : State) (place next : ℕ) (causes : List Cause) (moments : List Moment) (moment : Moment) → place ≤ next + 1 → next < length moments → IsMoment s next (event_at causes next) moment
+    → AreMomentsFrom s place causes moments → AreMomentsFrom s next causes (set moments next moment)
+moments_next s place next causes moments moment up l is made i from within =
+    let size : length (set moments next moment) ≡ length moments = length-set moments next moment in
+    elim (cases_eq i next) [
+      | inl q ↦ subst (λ (z : ℕ). IsMoment s z (event_at causes z) (get_or (set moments next moment) z no_moment)) (sym q)
+          (subst (IsMoment s next (event_at causes next)) (sym (get_or-set_same moments next moment no_moment l)) is)
+      | inr ne ↦ subst (IsMoment s i (event_at causes i)) (sym (get_or-set_other moments next i moment no_moment ne)) (made i (omega (arith, from, ne, up)) (omega (arith, within, size)))
+    ]
+
+pub moments_all : (s : State) (place : ℕ) (causes : List Cause) (moments : List Moment) → place ≤ 0 → length moments ≡ length causes → AreMomentsFrom s place causes moments → AreMoments s causes moments
+moments_all s place causes moments low size made = record { size = size; each = λ i from within. made i (omega (arith, low)) within }
 
 -- ---- the event at a place
 

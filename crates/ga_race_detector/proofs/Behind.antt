@@ -17,12 +17,10 @@ use Rattle.ga_event.specs.declared.event.Cause.{Cause}
 use Rattle.ga_event.specs.declared.made.Made.{Made}
 use Rattle.ga_event.specs.declared.made.Made.TheVariants as made
 use Rattle.ga_event.specs.Touches.{touches}
-use Rattle.ga_event.specs.Apply.{Told, apply, after, unless, refusal_of, cause_of, run, replay}
-use Rattle.ga_event.specs.Agree.{Agree}
-use Rattle.ga_event.specs.Told.{steps_of, made_after, mades_after, mades_of}
+use Rattle.ga_event.specs.Apply.{Told, apply, after, unless, refusal_of, cause_of, run, replay, Agree}
+use Rattle.ga_event.specs.Told.{steps_of, made_after, mades_after, mades_of, events_in}
 use Rattle.ga_event.proofs.Locality.{Agree-sym}
 use Rattle.ga_causal.specs.Dependence.{cause_touches, rest, rest_from, place_of}
-use Rattle.ga_event.specs.Told.{events_in}
 use Rattle.ga_causal.proofs.Runs.{kept, causes, FirstOf, first_of_run, keeps_of}
 use Rattle.ga_causal.proofs.Swaps.{replay-cons}
 use Rattle.ga_lab.specs.Machine.{State, chip_of, causes_of, history_of, told_by, earlier, rewound, stands}

@@ -1,5 +1,10 @@
 -- What is told of a look and a change at two places.
-use Rattle.std.proofs.Common.{◌≡◌, ◌≢◌, ℕ, ◌+◌, ◌<◌, ◌≤◌, cond, Bool, true, false, inl, inr, List, length, take, get_or, Option, Some, None, IsSome, refl, sym, ◌∙◌, ap, subst, arith, true≢false}
+use Rattle.std.proofs.Common.{◌≡◌, ℕ, zero, suc, List, [], ◌∷◌, take, refl, ◌∙◌, ap, ◌≢◌, ◌+◌, ◌<◌, ◌≤◌, cond, Bool, true, false, inl, inr, length, get_or, Option, Some, None, IsSome, sym, subst, arith, true≢false}
+use Rattle.ga_event.specs.declared.event.Event.{Event}
+use Rattle.ga_event.specs.declared.event.Cause.{Cause}
+use Rattle.ga_event.specs.Told.{steps_of, events_in}
+use Rattle.ga_causal.specs.Steps.{touching}
+use Rattle.ga_causal.proofs.Places.{touching_in, touching_before}
 use Rattle.std.specs.Prelude.{nat_lt, is_some, is_none, ◌&&◌}
 use Rattle.std.proofs.lemmas.Bool.{cases_Bool}
 use Rattle.std.specs.List.{All}
@@ -11,33 +16,35 @@ use Rattle.ga_node.specs.Table.{refusal, looks}
 use Rattle.ga_node.specs.declared.kind.NotReady.{NotReady}
 use Rattle.ga_grid.specs.Chip.{record_at}
 use Rattle.ga_grid.specs.declared.node_id.NodeId.{NodeId}
-use Rattle.ga_event.specs.declared.event.Event.{Event}
 use Rattle.ga_event.specs.declared.event.Event.TheVariants.{Own, Pass}
-use Rattle.ga_event.specs.declared.event.Cause.{Cause}
 use Rattle.ga_event.specs.Touches.{touches}
 use Rattle.ga_event.specs.Apply.{replay, cause_of}
-use Rattle.ga_event.specs.Told.{steps_of, events_in}
 use Rattle.ga_causal.specs.Dependence.{cause_touches, event_at}
-use Rattle.ga_causal.specs.Steps.{touching}
-use Rattle.ga_causal.proofs.Places.{touching_before}
-use Rattle.ga_races.specs.HappensBefore.{Action, actions}
+use Rattle.ga_races.specs.HappensBefore.{Action, actions, are_linked}
 use Rattle.ga_races.specs.declared.near.Near.{Near}
 use Rattle.ga_races.proofs.Frees.{touches_own, touches_writer, touches_reader}
 use Rattle.ga_races.proofs.Before.{actions_length}
 use Rattle.ga_lab.specs.Machine.{State, chip_of, causes_of, earlier, rewound}
-use Rattle.ga_races.specs.Near.{are_linked}
 use Rattle.ga_race_detector.specs.Races.{looks_next}
 use Rattle.ga_race_detector.specs.Readings.{IsOtherwise}
-use Rattle.ga_race_detector.specs.kept.Acts.{IsMoment, AreMoments, first_part, last_part, no_moment}
-use Rattle.ga_race_detector.specs.kept.Readings.{part_beside}
-use Rattle.ga_race_detector.specs.kept.Glances.{IsGlance, IsGlanced, IsOtherWord, HasStep}
+use Rattle.ga_race_detector.specs.kept.Glances.{IsMoment, AreMoments, first_part, last_part, no_moment, part_beside, IsGlance, IsGlanced, IsOtherWord, HasStep}
 use Rattle.ga_race_detector.specs.declared.moments.Moment.{Moment}
 use Rattle.ga_race_detector.specs.declared.glances.Glance.{Glance}
 use Rattle.ga_race_detector.proofs.Acting.{Made, made_at, cause_at, cause_there, causes_are, causes_long}
 use Rattle.ga_race_detector.proofs.NearReadings.{kept_caused}
-use Rattle.ga_race_detector.proofs.Placed.{steps_at}
 use Rattle.ga_race_detector.proofs.Posted.{stood_alike}
 use Rattle.ga_race_detector.proofs.Standing.{Stands, stands_somewhere}
+
+-- ---- how many steps of a node stand before a place, by the causes and by the kept events
+
+take_events : (causes : List Cause) (place : ℕ) → events_in (take place causes) ≡ take place (events_in causes)
+take_events causes zero = refl
+take_events [] (suc place) = refl
+take_events (cause ∷ causes) (suc place) = ap (λ (z : List Event). cause.event ∷ z) (take_events causes place)
+
+pub steps_at : (causes : List Cause) (kept : List Event) (place m : ℕ) → events_in causes ≡ kept → touching m (take place causes) ≡ steps_of m (take place kept)
+steps_at causes kept place m is =
+    touching_in m (take place causes) ∙ ap (steps_of m) (take_events causes place) ∙ ap (λ (z : List Event). steps_of m (take place z)) is
 
 some_led : (s : State) (last : List NodeRecord) → replay s.load s.kept ≡ Some last → IsSome (replay s.load s.kept)
 some_led s last led = ap is_some led

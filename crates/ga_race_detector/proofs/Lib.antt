@@ -1,4 +1,3 @@
-pub mod Sessions
 pub mod Standing
 pub mod Offering
 pub mod Behind
@@ -6,11 +5,8 @@ pub mod Untold
 pub mod Silent
 pub mod Racing
 pub mod Acting
-pub mod Placed
 pub mod NearReadings
 pub mod Depths
 pub mod Posted
-pub mod AtMoments
 pub mod Glancing
-pub mod Showing
 pub mod Lefts

@@ -1,24 +1,68 @@
 -- A session without looks of which no step could have taken another word has no race.
-use Rattle.std.proofs.Common.{◌≡◌, ◌≢◌, ℕ, Bool, true, false, ◌&&◌, cond, List, [], Option, Some, None, IsSome, refl, sym, ◌∙◌, ap, subst}
+use Rattle.ga_lab.proofs.Called as Called
+use Rattle.std.proofs.Common.{◌≡◌, ℕ, List, [], ◌++◌, Option, Some, None, IsSome, true≢false, ◌↔◌, Ok, refl, sym, subst, ◌≢◌, Bool, true, false, ◌&&◌, cond, ◌∙◌, ap}
 use Rattle.std.specs.Prelude.{unwrap_or}
-use Rattle.ga_ports.specs.declared.side.Side.{Side}
 use Rattle.ga_node.specs.Record.{NodeRecord}
-use Rattle.ga_node.specs.Table.{t}
+use Rattle.ga_event.specs.declared.event.Event.{Event}
+use Rattle.ga_event.specs.Apply.{replay, writes_to, reads_from}
 use Rattle.ga_grid.specs.declared.node_id.NodeId.{NodeId}
+use Rattle.ga_event.specs.Next.{next}
+use Rattle.ga_event.proofs.Nexts.{next_can}
+use Rattle.ga_lab.proofs.Forward.{made_is_next}
+use Rattle.ga_lab.specs.Machine.{actor_of, State, first, chip_of, causes_of, told_by, rewound}
+use Rattle.ga_lab.specs.Calls.{MachineCall, called_all, IsReached}
+use Rattle.ga_races.specs.Orders.{AreOrders, IsAtEnd, HasNoRace, CanBe}
+use Rattle.ga_races.proofs.Orders.{beginning_quiet, end_quiet}
+use Rattle.ga_ports.specs.declared.side.Side.{Side}
+use Rattle.ga_node.specs.Table.{t}
 use Rattle.ga_grid.specs.Chip.{record_at}
 use Rattle.ga_event.specs.declared.event.Event.TheVariants.{Pass}
-use Rattle.ga_event.specs.Apply.{writes_to, reads_from, replay}
 use Rattle.ga_causal.specs.Dependence.{rewound_list, NoneLooks}
 use Rattle.ga_event.specs.Told.{events_in}
 use Rattle.ga_causal.proofs.Runs.{causes}
-use Rattle.ga_lab.specs.Machine.{State, chip_of, causes_of, told_by, rewound}
-use Rattle.ga_lab.specs.Calls.{IsReached}
 use Rattle.ga_lab.proofs.Called.{Runs, chip_is}
-use Rattle.ga_lab.proofs.Reached.{runs_reached}
-use Rattle.ga_races.specs.Orders.{CanBe, IsAtEnd, HasNoRace}
+use Rattle.ga_lab.proofs.Again.{runs_reached}
 use Rattle.ga_races.proofs.Rivals.{Open, open_of, back}
 use Rattle.ga_races.proofs.Blind.{NoneShows, none_races, end_blind}
-use Rattle.ga_race_detector.specs.Offered.{offered_by, offered}
+use Rattle.ga_race_detector.specs.Races.{offered_by, offered}
+
+-- ---- sessions from one load, one of which has no race
+
+-- a list that can be made leads to the chip that is read off it
+leads : (o : Option (List NodeRecord)) → IsSome o → o ≡ Some (unwrap_or o [])
+leads None h = absurd (true≢false (sym h))
+leads (Some c) h = refl
+
+-- what calls lead to, from one load
+record Stands (load : List NodeRecord) (s : State) : Type 0 where
+  same : s.load ≡ load
+  led : replay load s.kept ≡ Some (chip_of s)
+
+stands_of : (load : List NodeRecord) (s : State) → s.load ≡ load → IsSome (replay s.load s.kept) → Stands load s
+stands_of load s is some = record { same = is; led = subst (λ (z : List NodeRecord). replay z s.kept ≡ Some (chip_of s)) is (leads (replay s.load s.kept) some) }
+
+stands : (load : List NodeRecord) (limit : ℕ) (calls : List MachineCall) → Stands load (called_all (first load limit) calls)
+stands load limit calls = let r = Called.reached load limit calls in stands_of load (called_all (first load limit) calls) r.0 r.1
+
+some_led : (load last : List NodeRecord) (es : List Event) → replay load es ≡ Some last → IsSome (replay load es)
+some_led load last es h = subst (λ (o : Option (List NodeRecord)). IsSome o) (sym h) refl
+
+pub on_the_way : (load : List NodeRecord) (limit bound : ℕ) (calls others : List MachineCall) → HasNoRace load (called_all (first load limit) calls).kept → IsAtEnd (chip_of (called_all (first load limit) calls))
+    → (later : List Event) × AreOrders load (called_all (first load limit) calls).kept ((called_all (first load bound) others).kept ++ later)
+on_the_way load limit bound calls others calm end =
+    let s = called_all (first load limit) calls in
+    let z = called_all (first load bound) others in
+    beginning_quiet load (chip_of s) s.kept z.kept (stands load limit calls).led calm end (some_led load (chip_of z) z.kept (stands load bound others).led)
+
+pub same_end : (load : List NodeRecord) (limit bound : ℕ) (calls others : List MachineCall) → HasNoRace load (called_all (first load limit) calls).kept → IsAtEnd (chip_of (called_all (first load limit) calls))
+    → IsAtEnd (chip_of (called_all (first load bound) others)) → chip_of (called_all (first load bound) others) ≡ chip_of (called_all (first load limit) calls)
+same_end load limit bound calls others calm end stop =
+    let s = called_all (first load limit) calls in
+    let z = called_all (first load bound) others in
+    (end_quiet load (chip_of s) (chip_of z) s.kept z.kept (stands load limit calls).led calm end (stands load bound others).led stop).1
+
+pub no_next : (chip : List NodeRecord) → IsAtEnd chip ↔ ((n : NodeId) (event : Event) → next chip n ≡ Ok event → ⊥)
+no_next chip = (λ end n event h. end event (next_can chip n event h), λ none event can. none (actor_of event) event (made_is_next chip event can))
 
 -- a pass that can be made is offered
 pub is_offered : (c : List NodeRecord) (w r : NodeId) (side : Side) → CanBe c (Pass w r side) → IsSome (offered c r.number side)

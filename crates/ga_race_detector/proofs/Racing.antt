@@ -14,11 +14,10 @@ use Rattle.ga_event.specs.declared.event.Cause.{Cause}
 use Rattle.ga_event.specs.declared.made.Made.{Made}
 use Rattle.ga_ports.specs.declared.side.Side.{Side}
 use Rattle.ga_lab.specs.Machine.{State, chip_of, history_of, rewound}
-use Rattle.ga_race_detector.specs.Offered.{offered}
+use Rattle.ga_race_detector.specs.Races.{offered, race_from, races_over, races_told, races_before, races_of, races_below, has_look, looks_next, has_next_look, first_ready}
 use Rattle.ga_race_detector.specs.declared.races.Race.{Race}
-use Rattle.ga_race_detector.specs.Races.{race_from, races_over, races_told, races_before, races_of, races_below, has_look, looks_next, has_next_look, first_ready}
 use Rattle.ga_event.specs.Next.{next}
-use Rattle.ga_races.specs.Ready.{can_go}
+use Rattle.ga_races.specs.Orders.{can_go}
 use Rattle.ga_races.proofs.Ready.{can_go_is, none_of}
 
 pub added : (r : NodeId) (k : ℕ) (w : NodeId) (word : ℕ) (other : NodeId) (offer : Option ℕ) (o cut : ℕ) → offer ≡ Some o → other.number ≢ w.number → cut ≡ o % (2 ^ 18)

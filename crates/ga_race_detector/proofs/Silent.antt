@@ -11,12 +11,11 @@ use Rattle.ga_event.specs.declared.event.Event.{Event}
 use Rattle.std.proofs.lemmas.Bool.{cases_eq}
 use Rattle.ga_event.specs.Told.{steps_of}
 use Rattle.ga_lab.specs.Machine.{State, Standing, standing, chip_of, earlier, rewound, stands}
-use Rattle.ga_race_detector.specs.Offered.{offered_by, offered}
-use Rattle.ga_node.specs.Waits.{wait_of}
+use Rattle.ga_race_detector.specs.Races.{offered_by, offered, race_from, races_over}
+use Rattle.ga_node.specs.State.{wait_of}
 use Rattle.ga_grid.specs.declared.node_id.NodeId.{NodeId}
 use Rattle.ga_lab.proofs.Called.{Runs}
 use Rattle.ga_lab.proofs.Reasons.{stands_counted}
-use Rattle.ga_race_detector.specs.Races.{race_from, races_over}
 use Rattle.ga_race_detector.proofs.Standing.{stands_somewhere, steps-cons}
 use Rattle.ga_race_detector.proofs.Behind.{TakenBack, taken_back, stands_many}
 

@@ -9,12 +9,10 @@ use Rattle.ga_grid.specs.Chip.{record_at}
 use Rattle.ga_event.specs.declared.event.Event.{Event}
 use Rattle.ga_event.specs.declared.event.Cause.{Cause}
 use Rattle.ga_event.specs.Touches.{meets, touches}
-use Rattle.ga_event.specs.Apply.{Told, apply, cause_of, run, replay}
-use Rattle.ga_event.specs.Agree.{Agree}
+use Rattle.ga_event.specs.Apply.{Told, apply, cause_of, run, replay, Agree}
 use Rattle.ga_event.proofs.Locality.{Agree-sym}
-use Rattle.ga_event.specs.Told.{steps_of}
+use Rattle.ga_event.specs.Told.{steps_of, events_in}
 use Rattle.ga_causal.specs.Dependence.{cause_touches, rest, place_of, rest_from}
-use Rattle.ga_event.specs.Told.{events_in}
 use Rattle.ga_causal.proofs.Runs.{kept, causes, FirstOf, first_of_run, keeps_of, Agree-marked, same_of}
 use Rattle.ga_causal.proofs.Swaps.{replay-cons}
 use Rattle.ga_races.proofs.Blind.{no_touch}

@@ -1,4 +1,3 @@
-pub mod Offered
 pub mod Races
 pub mod Readings
 pub mod kept

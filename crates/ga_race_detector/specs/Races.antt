@@ -1,25 +1,40 @@
 -- Steps that could have come out otherwise: a node took a word, and another neighbour could have given it one in its place. Which it
 -- was hung on the order in which nodes happened to run (after Netzer and Miller, "Optimal tracing and replay for debugging
 -- message-passing parallel programs", 1992, who speak of messages). Without looks these are all races of what is kept: laws `every_order` and `no_other_order`.
-use Rattle.std.specs.Prelude.{◌≡◌, ◌≢◌, ℕ, zero, suc, ◌+◌, ◌==◌, Bool, false, ◌&&◌, ◌||◌, if◌then◌else◌, List, [], ◌∷◌, ◌++◌, Option, Some, None, is_none, Ok}
-use Rattle.std.specs.List.{slice_get}
+use Rattle.ga_event.specs.declared.event.Event.TheVariants as event
+use Rattle.ga_event.specs.declared.made.Made.TheVariants as made
+use Rattle.std.specs.Prelude.{ℕ, ◌&&◌, if◌then◌else◌, List, Option, Some, None, ◌≡◌, ◌≢◌, zero, suc, ◌+◌, ◌==◌, Bool, false, ◌||◌, [], ◌∷◌, ◌++◌, is_none, Ok}
 use Rattle.ga_ports.specs.declared.side.Side.{Side}
-use Rattle.ga_ports.specs.declared.side.Side.TheVariants.{Right, Down, Left, Up}
 use Rattle.ga_node.specs.Record.{NodeRecord}
 use Rattle.ga_node.specs.Table.{t, refusal, looks}
-use Rattle.ga_grid.specs.declared.node_id.NodeId.{NodeId}
-use Rattle.ga_grid.specs.Grid.{node_id, neighbour_of}
+use Rattle.ga_grid.specs.Grid.{neighbour_of, node_id}
 use Rattle.ga_grid.specs.Chip.{record_at}
-use Rattle.ga_event.specs.declared.event.Event.TheVariants as event
+use Rattle.ga_event.specs.Apply.{writes_to, reads_from}
+use Rattle.std.specs.List.{slice_get}
+use Rattle.ga_ports.specs.declared.side.Side.TheVariants.{Right, Down, Left, Up}
+use Rattle.ga_grid.specs.declared.node_id.NodeId.{NodeId}
 use Rattle.ga_event.specs.declared.event.Cause.{Cause}
 use Rattle.ga_event.specs.Next.{next}
 use Rattle.ga_event.specs.declared.made.Made.{Made}
-use Rattle.ga_event.specs.declared.made.Made.TheVariants as made
 use Rattle.ga_event.specs.Told.{steps_of}
 use Rattle.ga_lab.specs.Machine.{State, chip_of, history_of, rewound}
 use Rattle.ga_race_detector.specs.declared.races.Race.{Race}
-use Rattle.ga_race_detector.specs.Offered.{offered}
-use Rattle.ga_races.specs.Ready.{can_go, first_in}
+use Rattle.ga_races.specs.Orders.{can_go, first_in}
+
+-- ---- the words that the neighbours of a node wait to give it
+
+-- the word that a writer waits to give a reader over a side, where that waits for it there
+abbrev pub given : NodeRecord → NodeRecord → Side → Option ℕ
+given reader writer side = if writes_to writer.wait side && reads_from reader.wait side then Some (t writer) else None
+
+-- the same of the neighbour of this number
+abbrev pub offered_by : List NodeRecord → ℕ → Side → Option ℕ → Option ℕ
+offered_by chip reader side None = None
+offered_by chip reader side (Some writer) = given (record_at chip reader) (record_at chip writer) side
+
+-- the word that can come over a side of a node
+abbrev pub offered : List NodeRecord → ℕ → Side → Option ℕ
+offered chip reader side = offered_by chip reader side (neighbour_of reader side)
 
 -- the word that a neighbour would give the node, in place of the one that came from this writer
 abbrev pub race_from : NodeId → ℕ → NodeId → ℕ → Option ℕ → Option ℕ → List Race

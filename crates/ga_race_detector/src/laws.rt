@@ -12,13 +12,12 @@ ghost use Rattle.ga_causal.specs.Dependence.{NoneLooks};
 ghost use Rattle.ga_races.specs.Orders.{AreOrders, IsAtEnd, HasNoRace};
 ghost use Rattle.ga_lab.specs.Machine.{State, first, chip_of, causes_of, rewound};
 ghost use Rattle.ga_lab.specs.Calls.{MachineCall, called_all, IsReached};
-ghost use Rattle.ga_race_detector.specs.Offered.{offered};
-ghost use Rattle.ga_race_detector.specs.Races.{races_asked, has_looks, first_ready, IsOther};
+ghost use Rattle.ga_race_detector.specs.Races.{offered, races_asked, has_looks, first_ready, IsOther};
 
 /// Where what one session keeps has no race, and no node of its chip has an event, every other session from that load, whatever was
 /// stepped, undone or rewound in it, stands on the way there: its kept events can be gone on with to those of the first in another
 /// order. Once no node has an event there either, its chip is the same: the nodes that are stopped are stopped in both.
-#[tactic(auto, using(crate::proofs::Sessions::on_the_way, crate::proofs::Sessions::same_end))]
+#[tactic(auto, using(crate::proofs::Offering::on_the_way, crate::proofs::Offering::same_end))]
 pub fn any_session()
     ensures way { (load : List NodeRecord) (limit bound : ℕ) (calls others : List MachineCall) →
         let s = called_all (first load limit) calls in

@@ -9,8 +9,8 @@ ghost use Rattle.ga_grid.specs.Grid.{neighbour_of};
 ghost use Rattle.ga_event.specs.Apply.{replay, reads_from};
 ghost use Rattle.ga_causal.specs.Dependence.{rewound_list};
 ghost use Rattle.ga_causal.specs.Steps.{touching};
-ghost use Rattle.ga_race_detector.specs.Offered.{offered, given};
-ghost use Rattle.ga_race_detector.specs.kept.Left.{posted, word_between};
+ghost use Rattle.ga_race_detector.specs.Races.{offered, given};
+ghost use Rattle.ga_race_detector.specs.kept.Writers.{posted, word_between};
 
 use ga_event::{is_reading, is_writing};
 use ga_grid::{NodeId, neighbour};

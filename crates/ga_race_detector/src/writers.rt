@@ -1,13 +1,13 @@
 //! Which neighbours of a node ever waited to write to it: no other can give it a word, whatever is taken back.
 
 ghost use Rattle.std.specs.Prelude.{◌≡◌, ◌+◌, ◌<◌, ℕ, true, false, Some, None};
-ghost use Rattle.ga_node.specs.Waits.{wait_of, IsWaitCode};
+ghost use Rattle.ga_node.specs.State.{wait_of, IsWaitCode};
 ghost use Rattle.ga_event.specs.Apply.{reads_from};
 ghost use Rattle.ga_grid.specs.Chip.{record_at};
 ghost use Rattle.ga_event.specs.Told.{steps_of};
 ghost use Rattle.ga_grid.specs.Grid.{neighbour_of};
 ghost use Rattle.ga_lab.specs.Machine.{chip_of, rewound, stands};
-ghost use Rattle.ga_race_detector.specs.Offered.{offered};
+ghost use Rattle.ga_race_detector.specs.Races.{offered};
 ghost use Rattle.ga_race_detector.specs.kept.Writers.{at_side, NeverOffers, AreSilent};
 
 use ga_event::{is_reading, is_writing};

@@ -15,16 +15,15 @@ use Rattle.ga_event.specs.declared.event.Event.TheVariants.{Own, Pass}
 use Rattle.ga_event.specs.declared.event.Cause.{Cause}
 use Rattle.ga_event.specs.Touches.{nodes_of, touches, meets}
 use Rattle.ga_event.specs.Apply.{Told, writes_to, seen_from, after, is_look, cause_of, run, replay}
-use Rattle.ga_event.specs.Told.{steps_of}
+use Rattle.ga_event.specs.Told.{steps_of, events_in}
 use Rattle.ga_event.proofs.Locality.{touched_free, Agree-sym}
 use Rattle.ga_causal.specs.Dependence.{cause_touches, marked, rest, rest_from, rewound_list, NoneLooks}
-use Rattle.ga_event.specs.Told.{events_in}
 use Rattle.ga_causal.specs.Equivalence.{sees, AreApart, AreEquivalent}
 use Rattle.ga_causal.specs.Equivalence as equivalence
 use Rattle.ga_causal.specs.Steps.{touching}
 use Rattle.ga_causal.specs.Words.{word_of}
 use Rattle.ga_causal.proofs.Accounts.{marked-stays}
-use Rattle.ga_causal.proofs.Blind.{seen_blind}
+use Rattle.ga_causal.proofs.Taken.{seen_blind}
 use Rattle.ga_causal.proofs.Consistent.{made_of}
 use Rattle.ga_causal.proofs.Places.{place_split, touching_in}
 use Rattle.ga_causal.proofs.Rolled.{rolled_back}

@@ -11,11 +11,10 @@ use Rattle.ga_node.specs.Record.{NodeRecord}
 use Rattle.ga_node.specs.Table.{looks}
 use Rattle.ga_grid.specs.Grid.{neighbour_of}
 use Rattle.ga_grid.specs.Chip.{record_at}
-use Rattle.ga_event.specs.Agree.{Agree}
+use Rattle.ga_event.specs.Apply.{Agree, shows, beside_in, seen_from, after, is_look}
 use Rattle.ga_event.specs.declared.event.Event.{Event}
 use Rattle.ga_event.specs.declared.event.Event.TheVariants.{Own, Pass}
 use Rattle.ga_event.specs.Touches.{nodes_of, touches}
-use Rattle.ga_event.specs.Apply.{shows, beside_in, seen_from, after, is_look}
 use Rattle.ga_causal.specs.Words.{word_of}
 use Rattle.ga_causal.proofs.Words.{same_node}
 use Rattle.ga_races.specs.Orders.{CanBe, AreFree}

@@ -12,9 +12,8 @@ use Rattle.ga_grid.specs.Grid.{neighbour_of}
 use Rattle.ga_grid.specs.Chip.{record_at}
 use Rattle.ga_event.specs.Apply.{writes_to, reads_from}
 use Rattle.ga_causal.specs.Dependence.{is_marked}
-use Rattle.ga_races.specs.Stuck.{AreStuck, awaits}
-use Rattle.ga_races.specs.kept.Freed.{frees, is_freed_on, is_freed, MarksHalted, IsSettled}
-use Rattle.ga_races.specs.Freed.{IsSubset}
+use Rattle.ga_races.specs.Acts.{AreStuck, awaits, IsSubset}
+use Rattle.ga_races.specs.kept.{frees, is_freed_on, is_freed, MarksHalted, IsSettled}
 use Rattle.ga_event.proofs.Nexts.{neighbour_of-within as neighbour_within}
 
 abbrev pub how_many : List Bool → ℕ

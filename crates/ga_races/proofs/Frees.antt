@@ -13,8 +13,7 @@ use Rattle.ga_grid.specs.Chip.{record_at}
 use Rattle.ga_event.specs.declared.event.Event.{Event}
 use Rattle.ga_event.specs.declared.event.Event.TheVariants.{Own, Pass}
 use Rattle.ga_event.specs.Touches.{nodes_of, touches}
-use Rattle.ga_event.specs.Apply.{Told, refusal_of, unmatched, is_open, unless, after, apply, replay}
-use Rattle.ga_event.specs.Agree.{Agree}
+use Rattle.ga_event.specs.Apply.{Told, refusal_of, unmatched, is_open, unless, after, apply, replay, Agree}
 use Rattle.ga_causal.specs.Words.{word_of, with_words, account_read}
 use Rattle.ga_causal.proofs.Runs.{keeps_of}
 use Rattle.ga_causal.proofs.Swaps.{replay-cons}

@@ -3,7 +3,6 @@ pub mod Orders
 pub mod Rivals
 pub mod Exact
 pub mod Blind
-pub mod Swaps
 pub mod Exploring
 pub mod Kahn
 pub mod Bound
@@ -17,7 +16,6 @@ pub mod Clocks
 pub mod Reaching
 pub mod Asking
 pub mod Shown
-pub mod Likeness
 pub mod Nexts
 pub mod Ready
 pub mod Stuck

@@ -15,15 +15,14 @@ use Rattle.ga_node.specs.declared.wait.Wait.TheVariants.{Nothing, Fetch, Read, W
 use Rattle.ga_grid.specs.declared.node_id.NodeId.{NodeId}
 use Rattle.ga_grid.specs.Grid.{node_id, neighbour_of}
 use Rattle.ga_grid.specs.Chip.{record_at}
-use Rattle.ga_grid.proofs.Links.{neighbour_of-back}
+use Rattle.ga_grid.proofs.NodeIds.{neighbour_of-back}
 use Rattle.ga_event.specs.declared.event.Event.{Event}
 use Rattle.ga_event.specs.declared.event.Event.TheVariants.{Own, Pass}
-use Rattle.ga_event.specs.Apply.{Told, writes_to, reads_from, apply}
+use Rattle.ga_event.specs.Apply.{Told, writes_to, reads_from, apply, Agree}
 use Rattle.ga_event.specs.Next.{beside, pass_to, pass_from, pass_over, or_else, first_over, or_waiting, next_by, next}
 use Rattle.ga_event.specs.Touches.{touches}
-use Rattle.ga_event.specs.Agree.{Agree}
 use Rattle.ga_event.proofs.Locality.{apply_keeps}
-use Rattle.ga_races.specs.Near.{IsMarkedOrBeside}
+use Rattle.ga_races.specs.HappensBefore.{IsMarkedOrBeside}
 use Rattle.ga_event.proofs.Nexts.{neighbour_of-within as neighbour_within}
 
 abbrev wait_at : List NodeRecord → ℕ → Wait

@@ -6,7 +6,7 @@ use Rattle.std.proofs.Math.Nat.{mod-eq_of_lt}
 use Rattle.ga_grid.proofs.NodeIds.{NodeId-same, node_id-number}
 use Rattle.ga_grid.specs.declared.node_id.NodeId.{NodeId}
 use Rattle.ga_grid.specs.Grid.{node_id}
-use Rattle.ga_races.specs.Ready.{first_in, can_go}
+use Rattle.ga_races.specs.Orders.{first_in, can_go}
 use Rattle.ga_node.specs.Record.{NodeRecord}
 use Rattle.ga_event.specs.Next.{next}
 

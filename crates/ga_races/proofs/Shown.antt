@@ -11,7 +11,7 @@ use Rattle.ga_node.specs.Record.{NodeRecord}
 use Rattle.ga_grid.specs.Grid.{neighbour_of}
 use Rattle.ga_grid.specs.Chip.{record_at}
 use Rattle.ga_grid.specs.declared.node_id.NodeId.{NodeId}
-use Rattle.ga_grid.proofs.Links.{neighbour_of-back}
+use Rattle.ga_grid.proofs.NodeIds.{neighbour_of-back}
 use Rattle.ga_event.specs.declared.event.Event.{Event}
 use Rattle.ga_event.specs.declared.event.Event.TheVariants.{Own, Pass}
 use Rattle.ga_event.specs.Apply.{shows, beside_in, seen_from, is_number, after}
@@ -20,7 +20,7 @@ use Rattle.ga_races.specs.declared.act.Sides.{Sides}
 use Rattle.ga_races.specs.Orders.{CanBe}
 use Rattle.ga_races.specs.HappensBefore.{action_of}
 use Rattle.ga_races.specs.Acts.{side_leads_to, shown_by}
-use Rattle.ga_races.specs.kept.Changed.{shown_as, is_changed, HasChangedSides}
+use Rattle.ga_races.specs.kept.{shown_as, is_changed, HasChangedSides}
 use Rattle.ga_races.proofs.Frees.{stays}
 use Rattle.ga_races.proofs.Reaching.{or4_cases, or4_from}
 use Rattle.ga_races.proofs.Rivals.{number_of as number_is}

@@ -9,15 +9,14 @@ use Rattle.ga_node.specs.declared.kind.NotReady.{NotReady}
 use Rattle.ga_grid.specs.declared.node_id.NodeId.{NodeId}
 use Rattle.ga_grid.specs.Grid.{neighbour_of}
 use Rattle.ga_grid.specs.Chip.{record_at}
-use Rattle.ga_grid.proofs.Links.{neighbour_of-back}
+use Rattle.ga_grid.proofs.NodeIds.{neighbour_of-back}
 use Rattle.ga_event.specs.declared.event.Event.{Event}
 use Rattle.ga_event.specs.declared.event.Event.TheVariants.{Own, Pass}
 use Rattle.ga_event.specs.declared.event.Cause.{Cause}
-use Rattle.ga_event.specs.Apply.{Told, cause_of, writes_to, reads_from, is_number, refusal_of, unless, after, run, replay}
+use Rattle.ga_event.specs.Apply.{Told, cause_of, writes_to, reads_from, is_number, refusal_of, unless, after, run, replay, Agree}
 use Rattle.ga_event.specs.Touches.{touches}
-use Rattle.ga_event.specs.Agree.{Agree}
 use Rattle.ga_event.proofs.Locality.{apply_keeps}
-use Rattle.ga_races.specs.Stuck.{AreStuck}
+use Rattle.ga_races.specs.Acts.{AreStuck}
 use Rattle.ga_races.proofs.Rivals.{matched_of as matched, number_of}
 
 -- the ends of a pass that can be

@@ -1,15 +1,40 @@
 -- Actions as they are kept to be read: of each event whether it looks, and on which sides of the nodes that it touches what it shows
 -- there changes.
-use Rattle.std.specs.Prelude.{◌≡◌, ◌⊎◌, ◌==◌, ℕ, Bool, true, false, ◌&&◌, ◌||◌, List, map}
-use Rattle.ga_ports.specs.declared.side.Side.TheVariants.{Right, Down, Left, Up}
+use Rattle.std.specs.Prelude.{◌≡◌, ℕ, ◌<◌, Bool, true, ◌≢◌, false, ◌||◌, List, Some, None, ◌⊎◌, ◌==◌, ◌&&◌, map}
+use Rattle.ga_ports.specs.declared.side.Side.{Side}
+use Rattle.ga_node.specs.Record.{NodeRecord}
+use Rattle.ga_node.specs.Table.{refusal}
+use Rattle.ga_node.specs.declared.wait.Wait.{Wait}
 use Rattle.ga_grid.specs.Grid.{neighbour_of}
+use Rattle.ga_grid.specs.Chip.{record_at}
+use Rattle.ga_event.specs.Apply.{writes_to, reads_from, is_number}
+use Rattle.ga_ports.specs.declared.side.Side.TheVariants.{Right, Down, Left, Up}
 use Rattle.ga_event.specs.declared.event.Event.{Event}
 use Rattle.ga_event.specs.declared.event.Event.TheVariants.{Own, Pass}
-use Rattle.ga_event.specs.Apply.{is_number}
 use Rattle.ga_races.specs.declared.act.EventAccess.{EventAccess}
 use Rattle.ga_races.specs.declared.act.Sides.{Sides}
 use Rattle.ga_races.specs.declared.near.Near.{Near}
 use Rattle.ga_races.specs.HappensBefore.{Action, action_at, AreNear}
+
+-- ---- sets of nodes of the chip, one within another
+
+-- each node that is marked by the first is marked by the second
+abbrev pub IsSubset : (ℕ → Bool) → (ℕ → Bool) → Type 0
+IsSubset marks others = (n : ℕ) → n < 144 → marks n ≡ true → others n ≡ true
+
+-- ---- sets of nodes that can never go on. A bare ring of nodes that wait for one another need not be one: a node that reads from several sides can be freed from outside of the ring. Here all whom a node of the set awaits are in the set too (F18A Technology Reference DB001, ports; G144A12 Chip Reference DB002, links).
+
+-- a node that waits so awaits the neighbour on this side
+abbrev pub awaits : Wait → Side → Bool
+awaits wait side = writes_to wait side || reads_from wait side
+
+-- None of the marked nodes can ever go on: each waits or is stopped, each neighbour that it awaits is marked, and no two of them can
+-- transfer a word.
+pub record AreStuck (chip : List NodeRecord) (marks : ℕ → Bool) : Type 0 where
+  pub halted : (n : ℕ) → marks n ≡ true → refusal (record_at chip n) ≢ None
+  pub inside : (n m : ℕ) (side : Side) → marks n ≡ true → awaits (record_at chip n).wait side ≡ true → neighbour_of n side ≡ Some m → marks m ≡ true
+  pub apart : (n m : ℕ) (side : Side) → marks n ≡ true → marks m ≡ true → neighbour_of n side ≡ Some m
+      → writes_to (record_at chip n).wait side ≡ true → reads_from (record_at chip m).wait side ≡ false
 
 -- one of the sides of the first node leads to the second
 abbrev pub side_leads_to : Sides → ℕ → ℕ → Bool

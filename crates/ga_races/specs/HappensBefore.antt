@@ -3,19 +3,32 @@
 -- of one another keep their order, and so do those that a chain of such joins. Netzer and Miller ("Optimal tracing and replay for
 -- debugging message-passing parallel programs", 1992) decide by it what races. That a look keeps its place among the changes of what
 -- is shown to it is this project's own, as looks are.
-use Rattle.std.specs.Prelude.{◌≡◌, ℕ, zero, suc, ◌+◌, ◌<◌, ◌≤◌, ◌==◌, max, ◌⊎◌, ◌↔◌, Bool, true, false, not, ◌&&◌, ◌||◌, if◌then◌else◌, List, [], ◌∷◌, length, map, take, slice_index_or, Some}
+use Rattle.std.specs.Prelude.{◌≡◌, ℕ, Bool, true, ◌||◌, ◌⊎◌, Some, zero, suc, ◌+◌, ◌<◌, ◌≤◌, ◌==◌, max, ◌↔◌, false, not, ◌&&◌, if◌then◌else◌, List, [], ◌∷◌, length, map, take, slice_index_or}
+use Rattle.ga_ports.specs.declared.side.Side.{Side}
+use Rattle.ga_ports.specs.declared.side.Side.TheVariants.{Right, Down, Left, Up}
+use Rattle.ga_grid.specs.Grid.{neighbour_of}
+use Rattle.ga_event.specs.Apply.{is_number, writes_to, reads_from, seen_from, after, cause_of}
 use Rattle.std.specs.List.{list_any}
 use Rattle.ga_node.specs.Io.{io_word}
 use Rattle.ga_node.specs.Record.{NodeRecord}
-use Rattle.ga_grid.specs.Grid.{neighbour_of}
 use Rattle.ga_grid.specs.Chip.{record_at}
 use Rattle.ga_event.specs.declared.event.Event.{Event}
 use Rattle.ga_event.specs.declared.event.Cause.{Cause}
 use Rattle.ga_event.specs.Touches.{touches}
-use Rattle.ga_event.specs.Apply.{writes_to, reads_from, seen_from, after, cause_of}
 use Rattle.ga_causal.specs.Dependence.{cause_nodes, cause_touches, no_cause}
 use Rattle.ga_causal.specs.Steps.{touching, IsStep}
 use Rattle.ga_races.specs.Orders.{AreRivals}
+
+-- ---- nodes at which an event can change what the next event is: those that it touches and their neighbours (F18A Technology Reference DB001, ports; G144A12 Chip Reference DB002, links). A node's next event hangs on its own wait and stop and on the waits of its neighbours.
+
+-- the node of this number is one of the marked, or beside one of them
+abbrev pub IsMarkedOrBeside : (ℕ → Bool) → ℕ → Type 0
+IsMarkedOrBeside marks n = (t : ℕ) × (marks t ≡ true) × ((n ≡ t) ⊎ ((side : Side) × (neighbour_of t side ≡ Some n)))
+
+-- the nodes of these numbers are neighbours
+abbrev pub are_linked : ℕ → ℕ → Bool
+are_linked n m =
+    is_number (neighbour_of n Right) m || (is_number (neighbour_of n Down) m || (is_number (neighbour_of n Left) m || is_number (neighbour_of n Up) m))
 
 -- an event as it was made (a letter of a trace): with whether it looked, and the nodes to which it changed what their neighbours show
 pub record Action : Type 0 where

@@ -1,11 +1,6 @@
 pub mod Orders
-pub mod Exploring
 pub mod Rounds
 pub mod HappensBefore
 pub mod Acts
 pub mod Kahn
 pub mod kept
-pub mod Near
-pub mod Ready
-pub mod Stuck
-pub mod Freed

@@ -1,15 +1,28 @@
 -- Other orders of the same steps, and steps that race: of which the order in which nodes happened to run decided (after Netzer and
 -- Miller, "Optimal tracing and replay for debugging message-passing parallel programs", 1992, who speak of messages; that a look
 -- races too is this project's own, as looks are).
-use Rattle.std.specs.Prelude.{◌≡◌, ◌≢◌, ℕ, true, false, List, ◌∷◌, ◌++◌, Some, None}
-use Rattle.ga_ports.specs.declared.side.Side.{Side}
+use Rattle.std.specs.Prelude.{ℕ, zero, suc, ◌+◌, ◌%◌, nat_lt, Bool, ◌&&◌, if◌then◌else◌, List, Option, Some, None, is_ok, ◌≡◌, ◌≢◌, true, false, ◌∷◌, ◌++◌, ◌⊎◌, [], IsSome}
 use Rattle.ga_node.specs.Record.{NodeRecord}
 use Rattle.ga_grid.specs.declared.node_id.NodeId.{NodeId}
+use Rattle.ga_grid.specs.Grid.{node_id}
+use Rattle.ga_event.specs.Next.{next}
+use Rattle.ga_ports.specs.declared.side.Side.{Side}
 use Rattle.ga_event.specs.declared.event.Event.{Event}
 use Rattle.ga_event.specs.declared.event.Event.TheVariants.{Pass}
 use Rattle.ga_event.specs.Touches.{touches}
 use Rattle.ga_event.specs.Apply.{refusal_of, after, replay}
 use Rattle.ga_causal.specs.Words.{word_of}
+
+-- ---- A set of nodes that holds those that have an event
+
+-- the node of this number has an event
+abbrev pub can_go : List NodeRecord → ℕ → Bool
+can_go chip n = nat_lt n 144 && is_ok (next chip (node_id n))
+
+-- the first of so many numbers from this one on, round the chip, of which a test holds
+abbrev pub first_in : (ℕ → Bool) → ℕ → ℕ → Option NodeId
+first_in test n zero = None
+first_in test n (suc k) = if test (n % 144) then Some (node_id n) else first_in test (n + 1) k
 
 -- the event can be made on the chip
 abbrev pub CanBe : List NodeRecord → Event → Type 0
@@ -62,3 +75,25 @@ pub record AreRivals (e f : Event) : Type 0 where
   pub two : f ≡ Pass second reader other
   pub writers : first.number ≢ second.number
   pub sides : side ≢ other
+
+-- ---- sets of lists that meet every order in which the nodes of a chip can run (after Flanagan and Godefroid, "Dynamic partial-order reduction for model checking software", 2005, and Abdulla and others, "Optimal dynamic partial order reduction", 2014: source sets).
+
+-- the event comes first in an order of the list
+abbrev pub ComesFirst : List NodeRecord → List Event → Event → Type 0
+ComesFirst chip events event = (others : List Event) × AreOrders chip events (event ∷ others)
+
+-- The set has lists that can be made, the empty one among them. It goes on with each list that can be gone on with, by some event. And
+-- it turns races around: where it went on with an event, and in an order of the list from there on some steps come before this event
+-- behind which another could have been made in its place, of which it is not free, there it also goes on with one of these steps or
+-- the other event, which comes first in an order of them. This it has to do only where the other event comes right behind in that
+-- order, or both are passes to one reader, of which the list may never make the other.
+pub record IsExplored (chip : List NodeRecord) (has : List Event → Type 0) : Type 0 where
+  pub made : (events : List Event) → has events → IsSome (replay chip events)
+  pub begun : has []
+  pub onward : (events : List Event) (now : List NodeRecord) (event : Event) → has events → replay chip events ≡ Some now → CanBe now event
+      → (next : Event) × CanBe now next × has (events ++ next ∷ [])
+  pub turned : (events behind before later : List Event) (now there : List NodeRecord) (event other : Event)
+      → has (events ++ event ∷ behind) → replay chip events ≡ Some now → AreOrders now (event ∷ behind) (before ++ event ∷ later)
+      → replay now before ≡ Some there → CanBe there other → event ≢ other → (AreFree there event other → ⊥)
+      → AreRivals event other ⊎ ((more : List Event) × (later ≡ other ∷ more))
+      → (next : Event) × ComesFirst now (before ++ other ∷ []) next × has (events ++ next ∷ [])

@@ -1,6 +1,183 @@
-pub mod Marked
-pub mod Reached
-pub mod Asked
-pub mod Changed
-pub mod Same
-pub mod Freed
+-- What only private contracts and proofs name.
+use Rattle.std.specs.Prelude.{◌≡◌, ◌<◌, ◌≤◌, ◌⊎◌, ◌&&◌, ℕ, Bool, true, List, Contains, ◌==◌, not, length, false, ◌||◌, Option, Some, None, is_some}
+use Rattle.ga_ports.specs.declared.side.Side.{Side}
+use Rattle.ga_grid.specs.Grid.{neighbour_of}
+use Rattle.ga_event.specs.Apply.{is_number, shows, writes_to, reads_from}
+use Rattle.ga_races.specs.declared.act.EventAccess.{EventAccess}
+use Rattle.ga_races.specs.declared.act.Sides.{Sides}
+use Rattle.ga_races.specs.declared.near.Near.{Near}
+use Rattle.ga_races.specs.HappensBefore.{action_at, Action, are_bound, HappensBefore}
+use Rattle.ga_races.specs.Acts.{side_leads_to, actions_in, is_look_of, IsNearLook, awaits}
+use Rattle.ga_ports.specs.declared.side.Side.TheVariants.{Right, Down, Left, Up}
+use Rattle.ga_node.specs.declared.seen.Beside.{Beside}
+use Rattle.ga_node.specs.declared.seen.Beside.TheVariants.{Nobody, Idle, Reading, Writing}
+use Rattle.ga_node.specs.declared.wait.Wait.{Wait}
+use Rattle.ga_node.specs.Record.{NodeRecord}
+use Rattle.ga_grid.specs.Chip.{record_at}
+use Rattle.ga_event.specs.declared.event.Event.{Event}
+use Rattle.ga_event.specs.declared.event.Event.TheVariants.{Own, Pass}
+use Rattle.ga_node.specs.Table.{refusal}
+use Rattle.ga_causal.specs.kept.{any_of}
+use Rattle.std.specs.List.{list_any}
+use Rattle.ga_event.specs.Touches.{touches}
+use Rattle.ga_causal.specs.Dependence.{cause_nodes}
+
+-- ---- which looks and changes are told by a part of a list
+
+-- A list has more than before: what it had, nothing but what is near, and of what was asked for all that is near.
+pub record IsMore (acts : List EventAccess) (asked : Near → Type 0) (old new : List Near) : Type 0 where
+  pub kept : (near : Near) → Contains old near → Contains new near
+  pub sound : (near : Near) → Contains new near → Contains old near ⊎ IsNearLook acts near
+  pub all : (near : Near) → asked near → IsNearLook acts near → Contains new near
+
+-- these two
+abbrev pub OfPair : ℕ → ℕ → Near → Type 0
+OfPair look change near = (near.look ≡ look) × (near.change ≡ change)
+
+-- the look, with the changes before it from a place on
+abbrev pub OfLook : ℕ → ℕ → Near → Type 0
+OfLook look from near = (near.look ≡ look) × (near.change < look) × (from ≤ near.change)
+
+-- the change, with the looks of the node before it
+abbrev pub OfChange : List EventAccess → ℕ → ℕ → Near → Type 0
+OfChange acts change n near =
+    (near.change ≡ change) × (near.look < change) × (is_look_of (action_at (actions_in acts) near.look) n ≡ true)
+
+-- with those of the neighbour on a side of a node, if it is one of some
+abbrev pub OverSide : List EventAccess → ℕ → ℕ → Side → Bool → Near → Type 0
+OverSide acts change m side has near = (n : ℕ) × OfChange acts change n near × ((has && is_number (neighbour_of m side) n) ≡ true)
+
+-- with those of the neighbours on its sides
+abbrev pub OverSides : List EventAccess → ℕ → ℕ → Sides → Near → Type 0
+OverSides acts change m sides near = (n : ℕ) × OfChange acts change n near × (side_leads_to sides m n ≡ true)
+
+-- those of which the later stands at the place
+abbrev pub AtPlace : ℕ → Near → Type 0
+AtPlace place near = ((near.look ≡ place) × (near.change < place)) ⊎ ((near.change ≡ place) × (near.look < place))
+
+-- those of which both stand before the place
+abbrev pub BelowPlace : ℕ → Near → Type 0
+BelowPlace place near = (near.look < place) × (near.change < place)
+
+-- each node that looks before the place is marked
+abbrev pub LooksAreMarked : List EventAccess → ℕ → (ℕ → Bool) → Type 0
+LooksAreMarked acts place marks = (q n : ℕ) → q < place → is_look_of (action_at (actions_in acts) q) n ≡ true → marks n ≡ true
+
+-- ---- on which sides of a node what it shows there changes
+
+-- what stands on a side, by number: 0 nothing that shows, 1 that a node waits to read there, 2 that it waits to write
+abbrev pub shown_as : Beside → ℕ
+shown_as Nobody = 0
+shown_as Idle = 0
+shown_as Reading = 1
+shown_as Writing = 2
+
+-- a node that waited so, and then so, shows something else on the side
+abbrev pub is_changed : Wait → Wait → Side → Bool
+is_changed before behind side = not (shown_as (shows before side) == shown_as (shows behind side))
+
+abbrev pub changed_sides : Wait → Wait → Sides
+changed_sides before behind = record {
+  right = is_changed before behind Right;
+  down = is_changed before behind Down;
+  left = is_changed before behind Left;
+  up = is_changed before behind Up;
+}
+
+-- the act has of each node of the event the sides on which it shows something else on the second chip
+abbrev pub HasChangedSides : List NodeRecord → List NodeRecord → EventAccess → Event → Type 0
+HasChangedSides c d act (Own m) = act.first ≡ changed_sides (record_at c m.number).wait (record_at d m.number).wait
+HasChangedSides c d act (Pass w r side) =
+    (act.first ≡ changed_sides (record_at c w.number).wait (record_at d w.number).wait)
+    × (act.second ≡ changed_sides (record_at c r.number).wait (record_at d r.number).wait)
+
+-- two lists have the same causes, which change what is shown to the same nodes of the chip
+pub record AreAlike (xs ys : List Action) : Type 0 where
+  pub size : length xs ≡ length ys
+  pub cause : (i : ℕ) → i < length xs → (action_at xs i).cause ≡ (action_at ys i).cause
+  pub changes : (i n : ℕ) → i < length xs → n < 144 → (action_at xs i).changes n ≡ (action_at ys i).changes n
+
+-- ---- what private contracts, invariants and bridges cite
+
+-- the neighbour of this number, where there is one, may let a node go on that waits so for it: it isn't marked, or it can take a word
+-- from the node now
+abbrev pub frees : List NodeRecord → (ℕ → Bool) → Wait → Side → Option ℕ → Bool
+frees chip marks wait side None = false
+frees chip marks wait side (Some m) = not (marks m) || (writes_to wait side && reads_from (record_at chip m).wait side)
+
+-- a node awaits such a neighbour on a side, and on any
+abbrev pub is_freed_on : List NodeRecord → (ℕ → Bool) → ℕ → Side → Bool
+is_freed_on chip marks n side =
+    awaits (record_at chip n).wait side && frees chip marks (record_at chip n).wait side (neighbour_of n side)
+
+unfoldable pub is_freed : List NodeRecord → (ℕ → Bool) → ℕ → Bool
+is_freed chip marks n =
+    is_freed_on chip marks n Right || (is_freed_on chip marks n Down || (is_freed_on chip marks n Left || is_freed_on chip marks n Up))
+
+-- each node of the chip is marked just where it waits or is stopped
+abbrev pub MarksHalted : List NodeRecord → (ℕ → Bool) → Type 0
+MarksHalted chip marks = (n : ℕ) → n < 144 → marks n ≡ is_some (refusal (record_at chip n))
+
+-- no marked node is freed
+abbrev pub IsSettled : List NodeRecord → (ℕ → Bool) → Type 0
+IsSettled chip marks = (n : ℕ) → marks n ≡ true → is_freed chip marks n ≡ false
+
+-- ---- sides of a node on which a marked neighbour stands
+
+-- the neighbour on one of the sides of a node is marked
+abbrev pub shows_marked : (ℕ → Bool) → Sides → ℕ → Bool
+shows_marked marks sides m =
+    (sides.right && any_of marks (neighbour_of m Right)) || ((sides.down && any_of marks (neighbour_of m Down))
+    || ((sides.left && any_of marks (neighbour_of m Left)) || (sides.up && any_of marks (neighbour_of m Up))))
+
+-- ---- what one pass over a list finds of what happens after one of its actions
+
+-- the action touches the node; it looks in it
+abbrev pub has_touched : Action → ℕ → Bool
+has_touched action n = touches action.cause.event n
+
+abbrev pub has_shown : Action → ℕ → Bool
+has_shown action n = action.changes n
+
+abbrev pub has_looked : Action → ℕ → Bool
+has_looked action n = action.cause.look && touches action.cause.event n
+
+-- an event with such sides shows something else to a marked node
+abbrev pub is_shown_to : (ℕ → Bool) → Event → Sides → Sides → Bool
+is_shown_to marks (Own m) first second = shows_marked marks first m.number
+is_shown_to marks (Pass w r side) first second = shows_marked marks first w.number || shows_marked marks second r.number
+
+-- an action is bound to one of some that touch these nodes, change what is shown to those, and look in these
+abbrev pub is_met : (ℕ → Bool) → (ℕ → Bool) → (ℕ → Bool) → EventAccess → Bool
+is_met touched shown looked act =
+    list_any touched (cause_nodes act.cause)
+    || ((act.cause.look && list_any shown (cause_nodes act.cause)) || is_shown_to looked act.cause.event act.first act.second)
+
+-- the action at the place is the first, or that happens before it
+abbrev pub IsOnward : List Action → ℕ → ℕ → Type 0
+IsOnward actions first place = (first ≡ place) ⊎ HappensBefore actions first place
+
+-- the marked nodes are those that the reached actions before a place have
+pub record AreMarked (actions : List Action) (first place : ℕ) (has : Action → ℕ → Bool) (marks : ℕ → Bool) : Type 0 where
+  pub some : (n : ℕ) → marks n ≡ true → (m : ℕ) × (m < place) × IsOnward actions first m × (has (action_at actions m) n ≡ true)
+  pub all : (m n : ℕ) → m < place → IsOnward actions first m → has (action_at actions m) n ≡ true → marks n ≡ true
+
+-- so of the three, and none of those before the place that the first happens before is bound to the later one
+pub record AreReached (actions : List Action) (first later place : ℕ) (one two three : ℕ → Bool) : Type 0 where
+  pub touched : AreMarked actions first place has_touched one
+  pub shown : AreMarked actions first place has_shown two
+  pub looked : AreMarked actions first place has_looked three
+  pub none : (m : ℕ) → m < place → HappensBefore actions first m → are_bound (action_at actions m) (action_at actions later) ≡ false
+
+-- ---- the parts in which two nodes are compared
+
+-- they hold the same outside of stacks and memories, but for what they wait for
+pub record HasSameWords (one other : NodeRecord) : Type 0 where
+  pub a : one.a ≡ other.a
+  pub b : one.b ≡ other.b
+  pub p : one.p ≡ other.p
+  pub i : one.i ≡ other.i
+  pub io : one.io ≡ other.io
+  pub carry : one.carry ≡ other.carry
+  pub slot : one.slot ≡ other.slot
+  pub stop : one.stop ≡ other.stop

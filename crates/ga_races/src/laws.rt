@@ -9,20 +9,17 @@ ghost use Rattle.ga_event.specs.declared.event.Event.TheVariants.{Pass};
 ghost use Rattle.ga_event.specs.Touches.{touches};
 ghost use Rattle.ga_event.specs.declared.event.Cause.{Cause};
 ghost use Rattle.ga_event.specs.Apply.{Told, after, replay, run, apply};
-ghost use Rattle.ga_event.specs.Told.{steps_of};
+ghost use Rattle.ga_event.specs.Told.{steps_of, events_in};
 ghost use Rattle.ga_causal.specs.Dependence.{rewound_list, NoneLooks};
-ghost use Rattle.ga_event.specs.Told.{events_in};
 ghost use Rattle.ga_causal.specs.Equivalence.{AreEquivalent};
 ghost use Rattle.ga_causal.specs.Words.{account_read};
-ghost use Rattle.ga_races.specs.Exploring.{IsExplored};
-ghost use Rattle.ga_races.specs.HappensBefore.{Action, action_at, IsBound, IsClock, clock_after, action_of, actions, causes_in, are_bound, HappensBefore, IsStepOf, StandsBefore, made_at, IsNear, IsContended};
+ghost use Rattle.ga_races.specs.Orders.{IsExplored, CanBe, IsAtEnd, AreOrders, AreFree, IsRace, HasNoRace, AreRivals};
+ghost use Rattle.ga_races.specs.HappensBefore.{Action, action_at, IsBound, IsClock, clock_after, action_of, actions, causes_in, are_bound, HappensBefore, IsStepOf, StandsBefore, made_at, IsNear, IsContended, IsMarkedOrBeside};
 ghost use Rattle.ga_races.specs.Kahn.{HasOneWriter};
 ghost use Rattle.ga_races.specs.Rounds.{events_without, IsRound, HasNoRound};
-ghost use Rattle.ga_races.specs.Orders.{CanBe, IsAtEnd, AreOrders, AreFree, IsRace, HasNoRace, AreRivals};
 ghost use Rattle.ga_grid.specs.Chip.{record_at};
 ghost use Rattle.ga_event.specs.Next.{next};
-ghost use Rattle.ga_races.specs.Near.{IsMarkedOrBeside};
-ghost use Rattle.ga_races.specs.Stuck.{AreStuck};
+ghost use Rattle.ga_races.specs.Acts.{AreStuck};
 
 /// Of two different events that can be made on a chip, either both can be made one after the other, in both orders with the same
 /// chip, where they are free of one another. Where they touch a common node they are passes to one reader from two writers, over two
@@ -94,7 +91,7 @@ pub fn one_writer()
 
 /// Lists that differ by swaps of neighbours that are apart are orders of one another: where neither sees what the other touches, both
 /// have the same words. The first list must be one that can be made. Orders have the same chip.
-#[tactic(auto, using(crate::proofs::Swaps::order_of, crate::proofs::Orders::order_replay, crate::proofs::Orders::order_read))]
+#[tactic(auto, using(crate::proofs::Exact::order_of, crate::proofs::Orders::order_replay, crate::proofs::Orders::order_read))]
 pub fn orders()
     ensures swaps { (chip : List NodeRecord) (events others : List Event) → AreEquivalent chip events others → IsSome (replay chip events) →
         AreOrders chip events others }

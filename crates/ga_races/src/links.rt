@@ -1,7 +1,7 @@
 //! Which nodes have a link.
 
 ghost use Rattle.std.specs.Prelude.{◌≡◌};
-ghost use Rattle.ga_races.specs.Near.{are_linked};
+ghost use Rattle.ga_races.specs.HappensBefore.{are_linked};
 
 use crate::act::Sides;
 use ga_grid::NodeId;

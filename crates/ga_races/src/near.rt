@@ -4,14 +4,12 @@ ghost use Rattle.std.specs.Prelude.{◌≡◌, ◌≢◌, ◌<◌, ◌^◌, ◌�
 ghost use Rattle.ga_grid.specs.Grid.{neighbour_of};
 ghost use Rattle.std.specs.List.{list_any};
 ghost use Rattle.ga_causal.specs.Dependence.{cause_touches, cause_nodes, is_marked};
-ghost use Rattle.ga_causal.specs.kept.Firsts.{any_of};
+ghost use Rattle.ga_causal.specs.kept.{any_of};
 ghost use Rattle.ga_event.specs.Apply.{is_number};
 ghost use Rattle.ga_races.specs.declared.near.Near.{Near};
 ghost use Rattle.ga_races.specs.HappensBefore.{action_at, HappensBefore, AreNear};
 ghost use Rattle.ga_races.specs.Acts.{side_leads_to, action_in, actions_in, is_own_of, is_look_of, IsNearLook};
-ghost use Rattle.ga_races.specs.kept.Marked.{shows_marked};
-ghost use Rattle.ga_races.specs.kept.Reached.{has_touched, has_shown, has_looked, is_shown_to, is_met};
-ghost use Rattle.ga_races.specs.kept.Asked.{IsMore, OfPair, OfLook, OfChange, OverSide, OverSides, AtPlace, LooksAreMarked};
+ghost use Rattle.ga_races.specs.kept.{shows_marked, has_touched, has_shown, has_looked, is_shown_to, is_met, IsMore, OfPair, OfLook, OfChange, OverSide, OverSides, AtPlace, LooksAreMarked};
 
 use crate::act::{EventAccess, Sides};
 use ga_causal::Nodes;

@@ -2,8 +2,7 @@
 use Rattle.std.specs.Prelude.{◌≡◌, ◌<◌, ◌==◌, ◌+◌, ◌-◌, nat_lt, if◌then◌else◌, ℕ, zero, suc, List, [], ◌++◌, length, slice_index_or, codes, decimal, bytes_eq, Option, Some, None}
 use Rattle.serde_json.specs.Data.{Data}
 use Rattle.ga_text.specs.Lines.{Text}
-use Rattle.ga_text.specs.Names.{name_of_node}
-use Rattle.ga_text.specs.Digits.{decimal3_of}
+use Rattle.ga_text.specs.Digits.{name_of_node, decimal3_of}
 use Rattle.ga_event.specs.Told.{steps_of}
 use Rattle.ga_grid.specs.Grid.{yxx_of}
 use Rattle.ga_lab.specs.Machine.{State}
@@ -17,7 +16,7 @@ use Rattle.ga_breakpoints.specs.Reversing.{reversed_to}
 use Rattle.ga_breakpoints.specs.declared.stepping.Grain.{Grain}
 use Rattle.ga_breakpoints.specs.declared.stepping.Grain.TheVariants.{Instruction, Line}
 use Rattle.ga_responses.specs.declared.debuggee.Debuggee.{Debuggee}
-use Rattle.ga_responses.specs.Programs.{program_notes}
+use Rattle.ga_responses.specs.Disassembling.{program_notes}
 
 -- how far one step goes: by lines where there is source and the client doesn't ask for an instruction
 abbrev pub grain_named : Option Text → Grain

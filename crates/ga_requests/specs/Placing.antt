@@ -19,8 +19,7 @@ use Rattle.ga_breakpoints.specs.Saying.{condition_said, hits_said}
 use Rattle.ga_breakpoints.specs.Breakpoints.{breakpoint_of_line, breakpoint_of_address}
 use Rattle.ga_protocol.specs.Messages.{member_text, member_number}
 use Rattle.ga_responses.specs.declared.debuggee.Debuggee.{Debuggee}
-use Rattle.ga_responses.specs.Disassembling.{RefersTo, offset_given, cells_on}
-use Rattle.ga_responses.specs.Programs.{program_notes}
+use Rattle.ga_responses.specs.Disassembling.{RefersTo, offset_given, cells_on, program_notes}
 use Rattle.ga_requests.specs.declared.configuration.Family.{Family}
 use Rattle.ga_requests.specs.declared.configuration.Family.TheVariants as family
 use Rattle.ga_requests.specs.declared.configuration.SetBy.{SetBy}

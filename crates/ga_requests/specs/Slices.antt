@@ -2,7 +2,7 @@
 -- order, at most so many, and why the run ends behind them, where it does. So a run in slices is one run, however it is cut.
 use Rattle.std.specs.Prelude.{◌≡◌, ◌≤◌, ◌<◌, ◌⊎◌, ℕ, Bool, true, false, ◌&&◌, not, ◌==◌, List, Option, Some, None}
 use Rattle.std.specs.List.{slice_get}
-use Rattle.ga_races.specs.Freed.{IsSubset}
+use Rattle.ga_races.specs.Acts.{IsSubset, AreStuck}
 use Rattle.ga_node.specs.Record.{NodeRecord}
 use Rattle.ga_grid.specs.Chip.{record_at}
 use Rattle.ga_grid.specs.declared.node_id.NodeId.{NodeId}
@@ -11,7 +11,6 @@ use Rattle.ga_event.specs.declared.made.Made.TheVariants.{Own, Pass}
 use Rattle.ga_lab.specs.Machine.{State, chip_of}
 use Rattle.ga_search.specs.Running.{running, after_events}
 use Rattle.ga_search.specs.Watched.{after_first}
-use Rattle.ga_races.specs.Stuck.{AreStuck}
 use Rattle.ga_breakpoints.specs.declared.back.Watched.{Watched}
 use Rattle.ga_breakpoints.specs.declared.back.Watched.TheVariants as watched
 use Rattle.ga_adapter.specs.Threads.{has_thread}
@@ -32,7 +31,7 @@ use Rattle.ga_requests.specs.declared.execution.StopReason.TheVariants as stop
 use Rattle.ga_responses.specs.declared.debuggee.Debuggee.{Debuggee}
 use Rattle.ga_requests.specs.declared.configuration.Configuration.{Configuration}
 use Rattle.ga_requests.specs.declared.configuration.SetBy.{SetBy}
-use Rattle.ga_responses.specs.Programs.{program_notes}
+use Rattle.ga_responses.specs.Disassembling.{program_notes}
 
 -- at most so many events are made before a request is looked for again
 abbrev pub slice_limit : ℕ

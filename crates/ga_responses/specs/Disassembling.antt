@@ -1,5 +1,8 @@
 -- `disassemble`, and references to memory (Debug Adapter Protocol, "DisassembleRequest", "DisassembleArguments"). The machine stays.
-use Rattle.std.specs.Prelude.{◌≡◌, ◌<◌, ℕ, ◌+◌, ◌%◌, ℤ, pos, unsigned_abs, min, ◌++◌, codes, Option, Some, None, option_and_then, unwrap_or}
+use Rattle.std.specs.Prelude.{◌≡◌, string_bytes, Option, Some, None, ◌<◌, ℕ, ◌+◌, ◌%◌, ℤ, pos, unsigned_abs, min, ◌++◌, codes, option_and_then, unwrap_or}
+use Rattle.ga_notes.specs.declared.notes.Notes.{Notes}
+use Rattle.ga_adapter.specs.declared.frames.SourceFile.{SourceFile}
+use Rattle.ga_responses.specs.declared.debuggee.Debuggee.{Debuggee}
 use Rattle.std.specs.Int.{int_rem_euclid}
 use Rattle.std.specs.Str.Parse.{IsNumeral, digits_value, without_leading_plus}
 use Rattle.serde_json.specs.Data.{Data}
@@ -7,14 +10,25 @@ use Rattle.serde_json.specs.Find.{get, as_number, as_i64}
 use Rattle.serde_json.specs.View.{view}
 use Rattle.ga_text.specs.Lines.{Text}
 use Rattle.ga_grid.specs.declared.node_id.NodeId.{NodeId}
-use Rattle.ga_adapter.specs.declared.frames.SourceFile.{SourceFile}
 use Rattle.ga_adapter.specs.Numbers.{chip_address}
 use Rattle.ga_adapter.specs.Disassembly.{disassembled}
 use Rattle.ga_protocol.specs.Messages.{member_text, member_number}
 use Rattle.ga_protocol.specs.declared.request.ClientRequest.{ClientRequest}
-use Rattle.ga_responses.specs.declared.debuggee.Debuggee.{Debuggee}
-use Rattle.ga_responses.specs.Programs.{program_notes, IsFileOf}
 use Rattle.ga_responses.specs.Sending.{Message, answered, refused_response}
+
+-- ---- A program that was launched
+
+-- what its source says of the cells
+abbrev pub notes_or : Option Notes → Notes → Notes
+notes_or None unsaid = unsaid
+notes_or (Some notes) unsaid = notes
+
+abbrev pub program_notes : Debuggee → Notes
+program_notes p = notes_or p.source p.unsaid
+
+-- the file that it is
+abbrev pub IsFileOf : Debuggee → SourceFile → Type 0
+IsFileOf p file = (file.name.now ≡ string_bytes p.name) × (file.path.now ≡ string_bytes p.path)
 
 -- a text that is a number in hexadecimal digits, behind 0x
 abbrev pub SpellsHexadecimal : Text → ℕ → Type 0

@@ -1,13 +1,11 @@
 pub mod Sending
 pub mod Arguments
 pub mod Commands
-pub mod Programs
 pub mod Launching
 pub mod Events
 pub mod Capabilities
 pub mod Readings
 pub mod Evaluating
-pub mod Exceptions
 pub mod Disassembling
 pub mod Watching
 pub mod kept

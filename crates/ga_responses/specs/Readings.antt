@@ -1,23 +1,39 @@
 -- The requests that read (Debug Adapter Protocol, "ThreadsRequest", "StackTraceRequest", "ScopesRequest", "VariablesRequest", "ExceptionInfoRequest"):
 -- what each is answered. The machine stays.
-use Rattle.std.specs.Prelude.{◌≡◌, ℕ, Bool, List, codes, Option, Some, None}
+use Rattle.std.specs.Prelude.{ℕ, ◌==◌, Bool, if◌then◌else◌, ◌++◌, codes, ◌≡◌, List, Option, Some, None}
+use Rattle.serde_json.specs.Data.{Data, string, object, no_members, member}
+use Rattle.ga_grid.specs.Chip.{record_at}
+use Rattle.ga_text.specs.Lines.{Text}
+use Rattle.ga_lab.specs.Machine.{State, chip_of}
+use Rattle.ga_adapter.specs.Doing.{named_activity}
 use Rattle.serde_json.specs.View.{view}
-use Rattle.ga_races.specs.Freed.{IsSubset}
+use Rattle.ga_races.specs.Acts.{IsSubset, AreStuck}
 use Rattle.ga_node.specs.Record.{NodeRecord}
 use Rattle.ga_grid.specs.declared.node_id.NodeId.{NodeId}
-use Rattle.ga_lab.specs.Machine.{chip_of}
-use Rattle.ga_races.specs.Stuck.{AreStuck}
 use Rattle.ga_adapter.specs.declared.frames.SourceFile.{SourceFile}
 use Rattle.ga_adapter.specs.declared.scope.Scope.{Scope}
 use Rattle.ga_adapter.specs.Threads.{threads_in}
 use Rattle.ga_adapter.specs.Frames.{stack_trace}
 use Rattle.ga_adapter.specs.Variables.{scopes_of, variables_in}
-use Rattle.ga_responses.specs.Exceptions.{exception_of}
 use Rattle.ga_protocol.specs.declared.request.ClientRequest.{ClientRequest}
 use Rattle.ga_responses.specs.declared.debuggee.Debuggee.{Debuggee}
 use Rattle.ga_responses.specs.Arguments.{AsksOfThread, AsksOfFrame, AsksForVariables, number_given_or}
-use Rattle.ga_responses.specs.Programs.{program_notes, IsFileOf}
+use Rattle.ga_responses.specs.Disassembling.{program_notes, IsFileOf}
 use Rattle.ga_responses.specs.Sending.{Message, answered, refused_response}
+
+-- ---- the response to `exceptionInfo` (Debug Adapter Protocol, "ExceptionInfoRequest"): why the node of a thread can't go on
+
+-- the filter by which the node is told: it stopped, or it can never go on; and else neither
+abbrev pub exception_filter : ℕ → Bool → Text
+exception_filter stop stuck = if stop == 0 then (if stuck then codes "stuck" else codes "none") else codes "stop"
+
+unfoldable pub exception_object : Text → Text → Data
+exception_object id description =
+    object (member (codes "breakMode") (string (codes "always")) (member (codes "description") (string description) (member (codes "exceptionId") (string id) no_members)))
+
+abbrev pub exception_of : State → Bool → ℕ → Data
+exception_of s stuck n =
+    exception_object (exception_filter (record_at (chip_of s) n).stop stuck) (codes "node " ++ named_activity (chip_of s) n)
 
 -- whether a node can never go on: it is in the greatest set of such nodes
 abbrev pub TellsStuck : List NodeRecord → ℕ → Bool → Type 0

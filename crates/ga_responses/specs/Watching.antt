@@ -3,8 +3,7 @@ use Rattle.std.specs.Prelude.{◌≡◌, ℕ, nat_lt, true, if◌then◌else◌,
 use Rattle.serde_json.specs.Data.{Data, string, boolean, null, object, array, no_members, member, item, no_items}
 use Rattle.serde_json.specs.View.{view}
 use Rattle.ga_text.specs.Lines.{Text}
-use Rattle.ga_text.specs.Names.{name_of_node}
-use Rattle.ga_text.specs.Digits.{hex2_of}
+use Rattle.ga_text.specs.Digits.{name_of_node, hex2_of}
 use Rattle.ga_grid.specs.declared.node_id.NodeId.{NodeId}
 use Rattle.ga_responses.specs.Evaluating.{cell_in_brackets}
 use Rattle.ga_adapter.specs.Numbers.{chip_address}

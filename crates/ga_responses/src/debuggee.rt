@@ -1,7 +1,7 @@
 //! A program that was launched.
 
 ghost use Rattle.std.specs.Prelude.{◌≡◌, string_bytes};
-ghost use Rattle.ga_responses.specs.Programs.{program_notes};
+ghost use Rattle.ga_responses.specs.Disassembling.{program_notes};
 
 use ga_adapter::SourceFile;
 use ga_grid::NodeId;
@@ -27,7 +27,7 @@ pub struct Debuggee {
 
 impl Debuggee {
     ghost use Rattle.std.specs.Prelude.{◌≡◌, string_bytes};
-    ghost use Rattle.ga_responses.specs.Programs.{program_notes};
+    ghost use Rattle.ga_responses.specs.Disassembling.{program_notes};
 
     /// What the source says of the cells.
     pub fn notes(&self) -> &Notes

@@ -2,7 +2,7 @@
 
 ghost use Rattle.std.specs.Prelude.{◌≡◌, IfOk};
 ghost use Rattle.serde_json.specs.View.{view};
-ghost use Rattle.ga_responses.specs.Exceptions.{exception_filter, exception_object, exception_of};
+ghost use Rattle.ga_responses.specs.Readings.{exception_filter, exception_object, exception_of};
 
 use ga_adapter::named_doing;
 use ga_grid::NodeId;
@@ -22,7 +22,7 @@ fn filter_of(stop: u8, stuck: bool) -> &'static str
     }
 }
 
-#[tactic(auto, unfolding(crate::specs::Exceptions::exception_object))]
+#[tactic(auto, unfolding(crate::specs::Readings::exception_object))]
 fn described(alloc: Global, id: &str, description: &str) -> Result<Value, AllocError>
     ensures { IfOk result (λ v. view v ≡ exception_object id.now description.now) }
 {

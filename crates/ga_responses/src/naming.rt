@@ -1,7 +1,7 @@
 //! Names of nodes as texts.
 
 ghost use Rattle.std.specs.Prelude.{◌≡◌, ◌<◌, ◌+◌, ◌++◌, ◌∷◌, [], decimal, string_bytes, OnOk};
-ghost use Rattle.ga_text.specs.Names.{name_of_node};
+ghost use Rattle.ga_text.specs.Digits.{name_of_node};
 
 use ga_grid::NodeId;
 use std::alloc::AllocError;
@@ -14,7 +14,7 @@ fn add_numbers(text: &mut String, row: u32, tens: u32, ones: u32) -> Result<(), 
 }
 
 /// Adds three decimal digits.
-#[tactic(auto, using(crate::proofs::Sent::ok_then, crate::proofs::Digits::three_digits))]
+#[tactic(auto, using(crate::proofs::Sent::ok_then, crate::proofs::Sent::three_digits))]
 fn add_digits(text: &mut String, row: u32, tens: u32, ones: u32) -> Result<(), AllocError>
     requires row { row < 10 }
     requires tens { tens < 10 }

@@ -76,7 +76,7 @@ pub fn shown_nodes(lab: &Lab, programs: &[NodeId]) -> [bool; 144]
 }
 
 /// Tells of the nodes that have something to show and had not, and the other way round.
-#[tactic(auto, using(crate::proofs::Marked::none_changed, crate::proofs::Marked::next_changed))]
+#[tactic(auto, using(crate::proofs::Sent::none_changed, crate::proofs::Sent::next_changed))]
 pub fn tell_changed(
     alloc: Global,
     before: &[bool; 144],

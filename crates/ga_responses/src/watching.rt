@@ -44,7 +44,7 @@ fn six_digits(alloc: Global, high: u8, middle: u8, low: u8) -> Result<String, Al
 }
 
 /// The six hexadecimal digits of an address of the chip.
-#[tactic(auto, using(crate::proofs::Digits::six_digits))]
+#[tactic(auto, using(crate::proofs::Sent::six_digits))]
 fn address_digits(alloc: Global, address: u32) -> Result<String, AllocError>
     requires { address < 2 ^ 24 }
     ensures { IfOk result (λ text. string_bytes text ≡ hex6_of address) }

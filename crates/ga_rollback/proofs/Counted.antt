@@ -1,20 +1,36 @@
 -- How many events are counted by entries: each event of a log once.
-use Rattle.std.proofs.Common.{◌≡◌, ℕ, zero, suc, ◌+◌, ◌-◌, ◌<◌, ◌≤◌, Bool, true, false, cond, List, [], ◌∷◌, ◌++◌, length, take, set, refl, ap, arith, length-set}
-use Rattle.std.specs.Prelude.{option_map, slice_get}
-use Rattle.std.proofs.lemmas.List.Sums.{sum_by-cons, sum_by-append, sum_by-set}
-use Rattle.ga_event.specs.declared.event.Event.{Event}
 use Rattle.ga_event.specs.declared.event.Event.TheVariants as event
-use Rattle.ga_event.specs.declared.event.Effect.{Effect}
 use Rattle.ga_event.specs.declared.event.Effect.TheVariants as effect
+use Rattle.std.proofs.Common.{◌≡◌, ℕ, suc, ◌+◌, ◌<◌, ◌≤◌, List, [], ◌∷◌, length, get_or, refl, ◌∙◌, ap, arith, zero, ◌-◌, Bool, true, false, cond, ◌++◌, take, set, length-set}
+use Rattle.std.specs.List.{sum_by}
+use Rattle.std.proofs.lemmas.List.Sums.{sum_by-cons, sum_by-append, sum_by-set}
+use Rattle.std.specs.Prelude.{option_map, slice_get}
+use Rattle.ga_event.specs.declared.event.Event.{Event}
+use Rattle.ga_event.specs.declared.event.Effect.{Effect}
 use Rattle.ga_event.specs.Undo.{IsOfKind}
 use Rattle.ga_journal.specs.declared.entry.Act.TheVariants.{Own, Sent, Took}
 use Rattle.ga_journal.specs.Histories.{Past, past, deed, history, no_histories, with_entry, appended}
 use Rattle.ga_journal.specs.Logs.{Stamped, built, IsLog}
 use Rattle.ga_journal.specs.Marks.{is_counted}
 use Rattle.ga_journal.proofs.Logs.{history-no_histories, length-built}
-use Rattle.ga_rollback.specs.kept.Marked.{staying}
-use Rattle.ga_rollback.specs.kept.Raised.{counted_in, counted_of, one_counted}
-use Rattle.ga_rollback.proofs.Sums.{sum_none}
+use Rattle.ga_rollback.specs.kept.{staying, counted_in, counted_of, one_counted}
+
+-- ---- sums over all nodes
+
+pub sum_under : {X : Type 0} (f : X → ℕ) (xs : List ℕ) (ys : List X) (d : X) → length xs ≡ length ys → ((i : ℕ) → i < length ys → get_or xs i 0 ≤ f (get_or ys i d)) → sum_by (λ (x : ℕ). x) xs ≤ sum_by f ys
+sum_under f [] [] d q h = omega arith
+sum_under f [] (y ∷ ys) d q h = absurd (omega arith)
+sum_under f (x ∷ xs) [] d q h = absurd (omega arith)
+sum_under f (x ∷ xs) (y ∷ ys) d q h =
+    let k : sum_by (λ (z : ℕ). z) xs ≤ sum_by f ys = sum_under f xs ys d (omega arith) (λ i l. h (suc i) (omega arith)) in
+    let a : sum_by (λ (z : ℕ). z) (x ∷ xs) ≡ x + sum_by (λ (z : ℕ). z) xs = sum_by-cons (λ (z : ℕ). z) x xs in
+    let b : sum_by f (y ∷ ys) ≡ f y + sum_by f ys = sum_by-cons f y ys in
+    let here : x ≤ f y = h 0 (omega arith) in
+    omega arith
+
+pub sum_none : {X : Type 0} (f : X → ℕ) (d : X) (xs : List X) → ((i : ℕ) → f (get_or xs i d) ≡ 0) → sum_by f xs ≡ 0
+sum_none f d [] h = refl
+sum_none f d (x ∷ xs) h = sum_by-cons f x xs ∙ ap (λ z. z + sum_by f xs) (h 0) ∙ ap (λ z. 0 + z) (sum_none f d xs (λ i. h (suc i)))
 
 abbrev one_if : Bool → ℕ
 one_if b = cond b 1 0

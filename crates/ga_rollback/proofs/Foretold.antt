@@ -4,29 +4,24 @@ use Rattle.std.specs.List.{sum_by}
 use Rattle.std.proofs.lemmas.Bool.{cases_eq, cases_lt}
 use Rattle.std.proofs.lemmas.List.{length-take-le, set_past}
 use Rattle.std.proofs.lemmas.List.Sums.{sum_by-set}
-use Rattle.ga_journal.specs.Work.{one_more}
-use Rattle.ga_journal.specs.Histories.{Past, Book, history}
+use Rattle.ga_journal.specs.Histories.{one_more, Past, Book, history}
 use Rattle.ga_journal.specs.Events.{kept_of, causes_in_book, events_of}
-use Rattle.ga_event.specs.Told.{steps_of}
+use Rattle.ga_event.specs.Told.{steps_of, events_in}
 use Rattle.ga_journal.specs.Logs.{Stamped, built, IsLog, IsWhole}
-use Rattle.ga_journal.specs.kept.Cuts.{older_causes}
+use Rattle.ga_journal.specs.kept.Histories.{older_causes}
 use Rattle.ga_journal.specs.Marks.{AreMarks, mark_of, going_of, waits, counted_at, raised, IsAtRest}
 use Rattle.ga_journal.specs.kept.Marks.{to_go}
 use Rattle.ga_journal.proofs.Logs.{steps_log, length-built}
 use Rattle.ga_causal.specs.Dependence.{rewound_list}
-use Rattle.ga_event.specs.Told.{events_in}
 use Rattle.ga_causal.proofs.Places.{touching_in}
 use Rattle.ga_rollback.specs.Rolled.{left}
 use Rattle.ga_rollback.specs.Rewound.{WouldGo}
-use Rattle.ga_rollback.specs.kept.Marked.{staying, IsMarked, IsUnseen}
-use Rattle.ga_rollback.specs.kept.Raised.{counted_in, counted_of, counted_staying, one_counted, IsRaising}
-use Rattle.ga_rollback.specs.kept.Rewound.{AreCounted}
-use Rattle.ga_rollback.proofs.Sums.{sum_none}
+use Rattle.ga_rollback.specs.kept.{staying, IsMarked, IsUnseen, counted_in, counted_of, counted_staying, one_counted, IsRaising, AreCounted}
+use Rattle.ga_rollback.proofs.Counted.{sum_none, counted_next, counted_fewer, counted_log}
 use Rattle.ga_rollback.proofs.Looks.{staying_lost, length-staying, staying_at, staying_set, staying_none}
 use Rattle.ga_rollback.proofs.Lowering.{node_within}
 use Rattle.ga_rollback.proofs.Link.{gone, left_cut, left_log}
 use Rattle.ga_rollback.proofs.Causes.{length_older, steps_older}
-use Rattle.ga_rollback.proofs.Counted.{counted_next, counted_fewer, counted_log}
 use Rattle.ga_rollback.proofs.Rewinding.{IsCut, is_cut, causes_log, number_log, same_length}
 
 -- nothing is raised yet

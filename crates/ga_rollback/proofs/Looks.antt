@@ -4,13 +4,12 @@ use Rattle.std.specs.Prelude.{slice_get}
 use Rattle.std.specs.List.{sum_by}
 use Rattle.std.proofs.lemmas.List.{take_all}
 use Rattle.std.proofs.lemmas.List.Sums.{sum_by-cons}
-use Rattle.std.proofs.lemmas.Option.{same_Some}
+use Rattle.std.proofs.lemmas.Option.{same_Some, none-some}
 use Rattle.ga_journal.specs.Histories.{Past, history}
 use Rattle.ga_journal.specs.Events.{has_looked_in}
 use Rattle.ga_journal.specs.Looks.{HasLook}
-use Rattle.ga_rollback.specs.Marked.{looks_in, looks_of}
-use Rattle.ga_rollback.specs.kept.Marked.{staying}
-use Rattle.std.proofs.lemmas.Option.{none-some}
+use Rattle.ga_rollback.specs.Rewound.{looks_in, looks_of}
+use Rattle.ga_rollback.specs.kept.{staying}
 
 abbrev pub one_if : Bool → ℕ
 one_if b = cond b 1 0

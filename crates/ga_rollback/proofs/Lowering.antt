@@ -3,21 +3,19 @@ use Rattle.std.proofs.Common.{◌≡◌, ◌≢◌, ℕ, ◌+◌, ◌-◌, ◌<�
 use Rattle.std.specs.List.{sum_by, count_by}
 use Rattle.std.specs.Prelude.{slice_get}
 use Rattle.std.proofs.lemmas.Bool.{cases_eq, cases_lt, cases_order, both_ways}
-use Rattle.std.proofs.lemmas.Option.{some_pair_parts}
+use Rattle.std.proofs.lemmas.Option.{some_pair_parts, none-some}
 use Rattle.std.proofs.lemmas.List.{get_or_past}
 use Rattle.std.proofs.lemmas.List.Sums.{sum_by-set}
 use Rattle.ga_journal.specs.declared.entry.Act.{Act}
 use Rattle.ga_journal.specs.declared.entry.Act.TheVariants.{Own, Sent, Took}
-use Rattle.ga_journal.specs.Work.{Work}
-use Rattle.ga_journal.specs.Histories.{Past, Book, history}
+use Rattle.ga_journal.specs.Histories.{Work, Past, Book, history}
 use Rattle.ga_journal.specs.Marks.{partner_of, entry_at, mark_of, going_of, waits, lowered, AreMarks}
 use Rattle.ga_journal.specs.kept.Marks.{to_go, in_line}
 use Rattle.ga_journal.specs.Events.{has_looked_in}
 use Rattle.ga_journal.specs.Looks.{SawNoneToGo}
-use Rattle.ga_rollback.specs.kept.Marked.{stamp_at, IsDue, Start, Later, Other, Saw, IsMarked, staying, IsUnseen}
-use Rattle.ga_rollback.specs.Marked.{looks_in, looks_of}
+use Rattle.ga_rollback.specs.kept.{stamp_at, IsDue, Start, Later, Other, Saw, IsMarked, staying, IsUnseen}
+use Rattle.ga_rollback.specs.Rewound.{looks_in, looks_of}
 use Rattle.ga_rollback.proofs.Looks.{one_most, looks_less, looks_one, staying_set}
-use Rattle.std.proofs.lemmas.Option.{none-some}
 
 pub node_within : (hs : List (List Past)) (n k : ℕ) → k < length (history hs n) → n < length hs
 node_within hs n k l = ⊎_elim (λ q. q) (λ q. absurd (let j : length (history hs n) ≡ 0 = ap length (get_or_past hs n [] q) in omega arith)) (cases_lt n (length hs))

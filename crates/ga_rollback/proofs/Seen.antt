@@ -13,8 +13,8 @@ use Rattle.ga_event.specs.declared.event.Effect.TheVariants as effect
 use Rattle.ga_event.specs.Touches.{nodes_of, touches, neighbours, seen_by, meets}
 use Rattle.ga_event.specs.Undo.{IsOfKind, has_looked, cause_with}
 use Rattle.ga_event.proofs.Locality.{meets-touched}
-use Rattle.ga_causal.specs.kept.Firsts.{any_of}
-use Rattle.ga_causal.proofs.Looks.{any_neighbours, meets_parts}
+use Rattle.ga_causal.specs.kept.{any_of}
+use Rattle.ga_causal.proofs.Oldest.{any_neighbours, meets_parts}
 use Rattle.ga_journal.specs.Histories.{Past}
 use Rattle.ga_journal.specs.Events.{has_looked_in}
 use Rattle.ga_journal.proofs.Logs.{touches_here}

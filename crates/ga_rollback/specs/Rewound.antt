@@ -1,18 +1,42 @@
 -- What a rollback leaves. A step is taken back with all that it caused and nothing else, whatever else came later: an action may
 -- be undone once all its consequences are (Danos and Krivine, "Reversible Communicating Systems", 2004).
-use Rattle.std.specs.Prelude.{◌≡◌, ℕ, ◌+◌, ◌*◌, ◌<◌, ◌≤◌, List, length, Some, slice_index}
+use Rattle.std.specs.Prelude.{ℕ, List, ◌≡◌, [], ◌∷◌, length, ◌+◌, ◌*◌, ◌<◌, ◌≤◌, Some, slice_index}
+use Rattle.std.specs.List.{sum_by, count_by}
+use Rattle.ga_journal.specs.Histories.{Past, Book}
+use Rattle.ga_journal.specs.Events.{has_looked_in, causes_in_book, events_of}
 use Rattle.ga_node.specs.Record.{NodeState}
+use Rattle.ga_event.specs.Undo.{unapplied, IsApplied}
+use Rattle.ga_journal.specs.Logs.{Stamped, Records}
 use Rattle.ga_grid.specs.Chip.{records_of}
 use Rattle.ga_event.specs.Apply.{replay}
 use Rattle.ga_causal.specs.Dependence.{rewound_list}
-use Rattle.ga_event.specs.Told.{events_in}
-use Rattle.ga_journal.specs.Histories.{Book}
-use Rattle.ga_journal.specs.Events.{causes_in_book, events_of}
-use Rattle.ga_event.specs.Told.{steps_of}
+use Rattle.ga_event.specs.Told.{events_in, steps_of}
 use Rattle.ga_journal.specs.Walked.{walked_chip}
 use Rattle.ga_journal.specs.Marks.{entries, IsAtRest}
-use Rattle.ga_rollback.specs.Marked.{looks_of}
-use Rattle.ga_rollback.specs.Tied.{IsTied}
+
+-- ---- which entries the marks of a rollback take, while they are being lowered
+
+-- how many looks there are
+abbrev pub looks_in : List Past → ℕ
+looks_in entries = count_by (λ (e : Past). has_looked_in e.act) entries
+
+abbrev pub looks_of : List (List Past) → ℕ
+looks_of hs = sum_by looks_in hs
+
+-- ---- the chip and the journal belong together
+
+-- Each event of the log, taken back one after another from the chip on, led from the chip without it to the chip with it.
+abbrev pub LeadsBack : List NodeState → List Stamped → Type 0
+LeadsBack chip [] = Unit {0}
+LeadsBack chip (x ∷ older) =
+    IsApplied (unapplied chip x.event x.effect) x.event x.effect chip × LeadsBack (unapplied chip x.event x.effect) older
+
+-- The histories are those of events that led to the chip.
+pub record IsTied (chip : List NodeState) (book : Book) : Type 0 where
+  pub size : length chip ≡ 144
+  pub log : List Stamped
+  pub records : Records log book.histories book.made
+  pub leads : LeadsBack chip log
 
 -- Node n was rolled back to its step k, which removed so many events. The events that are left are those that do not depend on
 -- the step, in their order, and those of them that looked still do; replaying them from the load, which stays, leads to the

@@ -1,6 +1,191 @@
-pub mod Ends
-pub mod Links
-pub mod Marked
-pub mod Raised
-pub mod Rewound
-pub mod Window
+-- What only private contracts and proofs name.
+use Rattle.std.specs.Prelude.{◌≡◌, ℕ, ◌+◌, List, ◌∷◌, ◌++◌, length, drop, ◌==◌, nat_lt, Bool, false, ◌&&◌, Option, Some, None, ◌-◌, ◌*◌, ◌<◌, ◌≤◌, true, [], take, slice_index, if◌then◌else◌}
+use Rattle.ga_node.specs.Record.{NodeState}
+use Rattle.ga_grid.specs.Chip.{node_at}
+use Rattle.ga_event.specs.Undo.{CanRestore}
+use Rattle.ga_journal.specs.Histories.{Past, Book, history}
+use Rattle.ga_journal.specs.Walked.{walked}
+use Rattle.ga_journal.specs.Marks.{mark_of, entries, partner_of, partner_at, entry_at, going_of, waits, ticked, ticked_in_vain, lowered, AreMarks, is_counted}
+use Rattle.ga_journal.specs.kept.Marks.{to_go, in_line}
+use Rattle.ga_ports.specs.declared.side.Side.{Side}
+use Rattle.ga_ports.specs.declared.side.Side.TheVariants.{Right, Down, Left, Up}
+use Rattle.ga_grid.specs.Grid.{neighbour_of}
+use Rattle.std.specs.List.{sum_by, count_by}
+use Rattle.ga_journal.specs.Events.{has_looked_in}
+use Rattle.ga_journal.specs.Looks.{HasLook, IsLookToGo, SawNoneToGo}
+use Rattle.ga_rollback.specs.Rewound.{looks_of}
+
+-- ---- the ends of histories, taken back
+
+-- what a history lost of its end
+abbrev pub end_of : List (List Past) → List (List Past) → ℕ → List Past
+end_of hs gs n = drop (length (history gs n)) (history hs n)
+
+-- each node can be walked back over each end of its history
+abbrev pub CanGoBack : List NodeState → List (List Past) → Type 0
+CanGoBack chip hs =
+    (n : ℕ) (front end : List Past) (e : Past) → history hs n ≡ front ++ e ∷ end
+    → CanRestore (walked (node_at chip n) end) e.saved
+
+-- some of the entries that are to go are gone, and the nodes restored by them; each of them was a tick
+pub record IsRestoring (chip : List NodeState) (first : Book) (now : List NodeState) (book : Book) : Type 0 where
+  pub nodes : length now ≡ length chip
+  pub size : length book.histories ≡ length first.histories
+  pub ends : (m : ℕ) → history first.histories m ≡ history book.histories m ++ end_of first.histories book.histories m
+  pub restored : (m : ℕ) → node_at now m ≡ walked (node_at chip m) (end_of first.histories book.histories m)
+  pub marks : (m : ℕ) → mark_of book m ≡ mark_of first m
+  pub sized : length book.going ≡ 144
+  pub others : book ≡ record first { histories = book.histories; ready = book.ready; going = book.going; ticks = book.ticks }
+  pub count : book.ticks.count + to_go book ≡ first.ticks.count + to_go first
+  pub vain : book.ticks.vain ≡ first.ticks.vain
+  pub falls : entries book + to_go first ≡ entries first + to_go book
+
+-- ---- A table of links
+
+-- where the node on this side stands among the four of a node
+abbrev pub place_of : Side → ℕ
+place_of Right = 0
+place_of Down = 1
+place_of Left = 2
+place_of Up = 3
+
+abbrev pub is_number : ℕ → Option ℕ → Bool
+is_number n None = false
+is_number n (Some k) = k == n
+
+-- a number of the table is that of the node on this side, whose node on this side is the first one; where there is none it is 144
+abbrev pub is_link : ℕ → Side → ℕ → Option ℕ → Bool
+is_link n side number None = number == 144
+is_link n side number (Some k) = (number == k) && (nat_lt number 144 && is_number n (neighbour_of number side))
+
+-- ---- why an entry is to go, and the marks while they are lowered
+
+-- from where on a node's entries were visited
+abbrev pub visited_to : Book → List ℕ → ℕ → ℕ
+visited_to book visited m = length (history book.histories m) - slice_index visited m
+
+abbrev pub stamp_of : Option Past → ℕ
+stamp_of None = 0
+stamp_of (Some e) = e.stamp
+
+-- the stamp of a node's entry at a position
+abbrev pub stamp_at : Book → ℕ → ℕ → ℕ
+stamp_at book n p = stamp_of (entry_at book.histories n p)
+
+-- why an entry is to go: it is of the event with stamp s, or an earlier entry is to go, of one of its event's nodes or of a
+-- neighbour at which it looked
+pub data IsDue (book : Book) (s m p : ℕ) (e : Past) : Type 0 where
+  Start : e.stamp ≡ s → IsDue book s m p e
+  Later : mark_of book m < p → IsDue book s m p e
+  Other : (j q : ℕ) → partner_of e.act ≡ Some (j, q) → mark_of book j < q → IsDue book s m p e
+  Saw : (j q : ℕ) (side : Side) (f : Past) → has_looked_in e.act ≡ true → neighbour_of m side ≡ Some j
+      → entry_at book.histories j q ≡ Some f → mark_of book j ≤ q → f.stamp < e.stamp → IsDue book s m p e
+
+-- the marks of a rollback of node n from its entry at k on: each entry to go has a cause, and what an entry that was visited
+-- names is to go with it
+pub record IsMarked (book : Book) (visited : List ℕ) (n k : ℕ) : Type 0 where
+  pub sound : AreMarks book
+  pub start : mark_of book n ≤ k
+  pub caused : (m p : ℕ) (e : Past) → entry_at book.histories m p ≡ Some e → mark_of book m ≤ p
+      → IsDue book (stamp_at book n k) m p e
+  pub whole : (m p j q : ℕ) → visited_to book visited m ≤ p → partner_at book.histories m p ≡ Some (j, q) → mark_of book j ≤ q
+
+-- an entry visited: the mark of the node that it names is low enough, or is lowered
+pub data IsFollowed (old : Book) (m p : ℕ) (new : Book) : Type 0 where
+  Passed : ((j q : ℕ) → partner_at old.histories m p ≡ Some (j, q) → mark_of old j ≤ q)
+      → new ≡ ticked old → IsFollowed old m p new
+  Lowered : (j q : ℕ) → partner_at old.histories m p ≡ Some (j, q) → q < mark_of old j
+      → new ≡ lowered (ticked old) j q → IsFollowed old m p new
+
+-- no look of a neighbour that is to stay came after an entry of node j that is to go
+abbrev pub IsUnseen : Book → ℕ → Type 0
+IsUnseen book j = (m : ℕ) (side : Side) → neighbour_of j side ≡ Some m → SawNoneToGo book j m
+
+-- marks of a node's neighbours lowered one after another, each to a look that came after an entry of the node that is to go, in
+-- two ticks; and so many searches that found none, each of a node that has a look, in one tick
+pub data AreLowered (old : Book) (node : ℕ) : ℕ → Book → Type 0 where
+  Same : {vain : ℕ} {new : Book} → vain ≡ 0 → new ≡ old → AreLowered old node vain new
+  Further : {vain : ℕ} {new : Book} (book : Book) (m p : ℕ) (side : Side) → AreLowered old node vain book
+      → neighbour_of m side ≡ Some node → IsLookToGo book node m p → new ≡ lowered (ticked book) m p
+      → AreLowered old node vain new
+  Vain : {vain : ℕ} {new : Book} (book : Book) (before m : ℕ) → AreLowered old node before book
+      → HasLook (history book.histories m) → vain ≡ before + 1 → new ≡ ticked_in_vain book → AreLowered old node vain new
+
+-- the same, with at most so many such searches
+pub record AreLoweredBy (most : ℕ) (old : Book) (node : ℕ) (new : Book) : Type 0 where
+  pub vain : ℕ
+  pub few : vain ≤ most
+  pub chain : AreLowered old node vain new
+
+-- the entries that are to stay, where so many at the end of each history are to go
+abbrev pub staying : List (List Past) → List ℕ → List (List Past)
+staying [] going = []
+staying (h ∷ hs) [] = h ∷ staying hs []
+staying (h ∷ hs) (k ∷ going) = take (length h - k) h ∷ staying hs going
+
+-- the marks while they are lowered: no entry that stays was visited, and each tick was a node taken up, an entry visited, a
+-- search for a look that is to go or a mark lowered; for each node that waits, four searches in vain may come, and so many more
+pub record IsMarking (first : Book) (n k : ℕ) (book : Book) (visited : List ℕ) (more : ℕ) : Type 0 where
+  pub marked : IsMarked book visited n k
+  pub others : book ≡ record first { going = book.going; waiting = book.waiting; ticks = book.ticks }
+  pub size : length visited ≡ 144
+  pub fits : (m : ℕ) → slice_index visited m ≤ going_of book m
+  pub found : ℕ
+  pub vain : ℕ
+  pub apart : book.ticks.vain ≡ first.ticks.vain + vain
+  pub looks : looks_of (staying book.histories book.going) + found ≤ looks_of book.histories
+  pub searches : vain + 4 * in_line book + more ≤ 4 * to_go book
+  pub blind : looks_of book.histories ≡ 0 → vain ≡ 0
+  pub least : first.ticks.count + 2 + sum_by (λ (x : ℕ). x) visited + vain ≤ book.ticks.count + in_line book
+  pub bound : book.ticks.count + in_line book ≤ first.ticks.count + 2 * to_go book + sum_by (λ (x : ℕ). x) visited + found + vain
+
+-- of a node that does not wait all entries to go were visited, and no look that is to stay saw one of them
+abbrev pub IsDone : Book → List ℕ → ℕ → Type 0
+IsDone book visited m = waits book m ≡ false → (going_of book m ≤ slice_index visited m) × IsUnseen book m
+
+-- ---- marks raised again, entry by entry, and how many events the entries are of
+
+-- how many events are counted by these entries
+abbrev pub counted_in : List Past → ℕ
+counted_in entries = count_by (λ (e : Past). is_counted e.act) entries
+
+abbrev pub counted_of : List (List Past) → ℕ
+counted_of hs = sum_by counted_in hs
+
+-- by those that are to stay
+abbrev pub counted_staying : Book → ℕ
+counted_staying book = counted_of (staying book.histories book.going)
+
+-- by one entry
+abbrev pub one_counted : Option Bool → ℕ
+one_counted None = 0
+one_counted (Some b) = if b then 1 else 0
+
+-- some marks were raised, an entry in a tick, and so many events are counted by these entries
+pub record IsRaising (first book : Book) (events : ℕ) : Type 0 where
+  pub others : book ≡ record first { going = book.going; ticks = book.ticks }
+  pub sized : length book.going ≡ 144
+  pub ticked : book.ticks.count + to_go book ≡ first.ticks.count + to_go first
+  pub number : events + counted_staying first ≡ counted_staying book
+
+-- ---- the ticks of lowering the marks, counted
+
+-- How much lowering the marks did, where the entries that are to go are known.
+pub record AreCounted (old new : Book) : Type 0 where
+  pub found : ℕ
+  pub vain : ℕ
+  pub apart : new.ticks.vain ≡ old.ticks.vain + vain
+  pub looks : looks_of (staying new.histories new.going) + found ≤ looks_of new.histories
+  pub searches : vain ≤ 4 * to_go new
+  pub blind : looks_of new.histories ≡ 0 → vain ≡ 0
+  pub least : old.ticks.count + to_go new + 2 + vain ≤ new.ticks.count
+  pub most : new.ticks.count ≤ old.ticks.count + 3 * to_go new + found + vain
+
+-- ---- where the nodes stand of which entries were visited
+
+-- each count that is not 0 stands from the first place on and below the end
+pub record IsWindow (counts : List ℕ) (first past : ℕ) : Type 0 where
+  pub size : length counts ≡ 144
+  pub fits : past ≤ 144
+  pub from_first : (n : ℕ) → 0 < slice_index counts n → first ≤ n
+  pub below_past : (n : ℕ) → 0 < slice_index counts n → n < past

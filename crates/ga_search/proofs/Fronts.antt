@@ -16,7 +16,7 @@ use Rattle.ga_lab.specs.Machine.{State, earlier, told_by, told_of_kept, history_
 use Rattle.ga_lab.proofs.Called.{Runs, runs_of, told_is}
 use Rattle.ga_search.specs.Conditions.{is_step_of}
 use Rattle.ga_search.specs.Words.{one_over, words_after, word_count}
-use Rattle.ga_search.specs.kept.Counted.{counted, counted_by}
+use Rattle.ga_search.specs.kept.Backward.{counted, counted_by}
 use Rattle.ga_search.specs.declared.condition.Condition.{Condition}
 use Rattle.ga_search.proofs.Newest.{of_made}
 use Rattle.ga_search.proofs.WordCounts.{behind, history_behind, other_writer, counted_on}

@@ -9,7 +9,6 @@ pub mod Telling
 pub mod Ends
 pub mod WordCounts
 pub mod Newest
-pub mod Held
 pub mod Needing
 mod Alike
 pub mod Earlier

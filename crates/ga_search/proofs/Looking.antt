@@ -13,14 +13,13 @@ use Rattle.ga_grid.specs.Chip.{record_at}
 use Rattle.ga_event.specs.declared.event.Event.{Event}
 use Rattle.ga_event.specs.declared.event.Event.TheVariants as event
 use Rattle.ga_event.specs.Touches.{touches}
-use Rattle.ga_event.specs.Agree.{Agree}
+use Rattle.ga_event.specs.Apply.{Agree}
 use Rattle.ga_event.specs.Next.{next}
 use Rattle.ga_event.specs.declared.made.Made.{Made}
 use Rattle.ga_event.specs.declared.made.Made.TheVariants as made
 use Rattle.ga_search.specs.declared.numbers.Numbers.{Numbers}
-use Rattle.ga_search.specs.kept.Numbers.{has}
-use Rattle.ga_races.specs.Ready.{can_go}
-use Rattle.ga_search.specs.kept.Ready.{IsRight, HoldsReady, StaysRight, IsRightAround, IsRefreshed}
+use Rattle.ga_search.specs.kept.Backward.{has, IsRight, HoldsReady, StaysRight, IsRightAround, IsRefreshed}
+use Rattle.ga_races.specs.Orders.{can_go}
 use Rattle.ga_races.proofs.Nexts.{near_or_same, runs_on}
 use Rattle.ga_journal.proofs.Parts.{two_touched as pass_touched}
 

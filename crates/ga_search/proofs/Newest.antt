@@ -15,9 +15,9 @@ use Rattle.ga_event.specs.Told.{steps_of, made_after, made_in, causes_told, even
 use Rattle.ga_event.specs.declared.made.Made.{Made}
 use Rattle.ga_event.specs.declared.made.Made.TheVariants as made
 use Rattle.ga_lab.specs.Machine.{State, step_answer, stepped, told_of_kept}
-use Rattle.ga_lab.proofs.Answering.{told_later}
+use Rattle.ga_lab.proofs.Stepping.{told_later}
 use Rattle.ga_search.specs.Conditions.{is_step_of}
-use Rattle.ga_search.specs.kept.Counted.{newest_told}
+use Rattle.ga_search.specs.kept.Backward.{newest_told}
 use Rattle.ga_search.proofs.WordCounts.{kept_told}
 use Rattle.ga_search.proofs.Stepping.{StepIs, step_is, stepped_is}
 

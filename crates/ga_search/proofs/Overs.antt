@@ -8,7 +8,7 @@ use Rattle.ga_search.specs.declared.running.End.{End}
 use Rattle.ga_search.specs.declared.running.End.TheVariants as the_end
 use Rattle.ga_search.specs.declared.schedule.Schedule.{Schedule}
 use Rattle.ga_search.specs.Running.{Running, running, told, after_events, AreMade, NeverHolds, HasEnded}
-use Rattle.ga_search.specs.kept.Over.{IsOver, events_at}
+use Rattle.ga_search.specs.kept.Needs.{IsOver, events_at}
 use Rattle.ga_search.proofs.Events.{gone_on, made_more, ended_reached, ended_halted}
 
 -- where nothing was made, it is the same run

@@ -3,7 +3,7 @@ use Rattle.std.proofs.Common.{◌≡◌, ◌≢◌, ℕ, ◌+◌, ◌*◌, ◌/�
 use Rattle.std.specs.Int.{bit_at}
 use Rattle.std.proofs.lemmas.Bool.{cases_eq, cases_lt, cases_Bool}
 use Rattle.ga_search.specs.declared.numbers.Numbers.{Numbers}
-use Rattle.ga_search.specs.kept.Numbers.{has}
+use Rattle.ga_search.specs.kept.Backward.{has}
 
 one_is : (a : ℕ) → a ≡ 1 → (a == 1) ≡ true
 one_is a e = eq-eqb a 1 e

@@ -9,21 +9,19 @@ use Rattle.ga_event.specs.declared.event.Event.{Event}
 use Rattle.ga_event.specs.declared.event.Event.TheVariants as event
 use Rattle.ga_event.specs.declared.event.Cause.{Cause}
 use Rattle.ga_event.specs.Touches.{touches}
-use Rattle.ga_event.specs.Agree.{Agree}
-use Rattle.ga_event.specs.Apply.{Told, apply, after, unless, refusal_of, replay}
+use Rattle.ga_event.specs.Apply.{Agree, Told, apply, after, unless, refusal_of, replay}
 use Rattle.ga_event.specs.Next.{next}
 use Rattle.ga_event.proofs.Locality.{apply_keeps}
 use Rattle.ga_event.proofs.Nexts.{next_can}
-use Rattle.ga_rollback.proofs.Replays.{run_snoc}
+use Rattle.ga_rollback.proofs.Rewinding.{run_snoc}
 use Rattle.ga_event.specs.declared.made.Made.{Made}
 use Rattle.ga_lab.specs.declared.fault.LabFault.{LabFault}
 use Rattle.ga_lab.specs.declared.fault.LabFault.TheVariants.{Full, Memory, Spent}
 use Rattle.ga_lab.specs.Machine.{State, chip_of, told_next, answer_to, step_answer, with_event, unless_refused, stepped}
 use Rattle.ga_lab.proofs.Called.{Runs, runs_of, chip_is}
 use Rattle.ga_search.specs.declared.numbers.Numbers.{Numbers}
-use Rattle.ga_search.specs.kept.Numbers.{has}
-use Rattle.ga_races.specs.Ready.{can_go, first_in}
-use Rattle.ga_search.specs.kept.Ready.{HoldsReady, StaysRight, IsRefreshed}
+use Rattle.ga_search.specs.kept.Backward.{has, HoldsReady, StaysRight, IsRefreshed}
+use Rattle.ga_races.specs.Orders.{can_go, first_in}
 use Rattle.ga_search.specs.Running.{IsQuiet, IsRefusedFor}
 use Rattle.ga_search.proofs.Looking.{IsOf, refreshed, none_past}
 use Rattle.ga_races.proofs.Ready.{first_same, none_of}

@@ -10,7 +10,7 @@ use Rattle.ga_search.specs.declared.watched.WatchedEnd.{WatchedEnd}
 use Rattle.ga_search.specs.declared.watched.WatchedEnd.TheVariants as the_end
 use Rattle.ga_search.specs.declared.schedule.Schedule.{Schedule}
 use Rattle.ga_search.specs.Schedules.{passed_on}
-use Rattle.ga_races.specs.Ready.{can_go}
+use Rattle.ga_races.specs.Orders.{can_go}
 use Rattle.ga_search.specs.Running.{Running, running, chosen, told_by_step, moved_by, run_moved, after_events}
 use Rattle.ga_search.specs.Watched.{chosen_first, told_first, first_moved, after_first, AreMadeFirst, Watching, seen_told, ends_told, watch_after, ends_behind, NeverEnds, IsHaltedFirst, HasEndedWatched}
 

@@ -12,18 +12,18 @@ use Rattle.ga_event.specs.Apply.{Told, apply, after, unless, cause_of, refusal_o
 use Rattle.ga_event.specs.Told.{made_after, mades_after, mades_of, events_told}
 use Rattle.ga_event.proofs.Nexts.{next_can}
 use Rattle.ga_causal.proofs.Consistent.{made_of}
-use Rattle.ga_rollback.proofs.Replays.{run_snoc}
+use Rattle.ga_rollback.proofs.Rewinding.{run_snoc}
 use Rattle.ga_event.specs.declared.made.Made.{Made}
 use Rattle.ga_event.specs.declared.made.Made.TheVariants as made
 use Rattle.ga_lab.specs.Machine.{State, chip_of, told_next, step_answer, with_event, stepped, told_by, told_of_kept, history_of}
 use Rattle.ga_lab.proofs.Called.{Runs, runs_of, chip_is, told_is}
 use Rattle.ga_search.specs.declared.words.Sent.{Sent}
 use Rattle.ga_search.specs.Words.{is_over, carried_as, one_over, words_after, word_count}
-use Rattle.ga_search.specs.kept.Counted.{counted_link, count_over, counted, more_over, counted_by, AreCounted, WereCounted}
+use Rattle.ga_search.specs.kept.Backward.{counted_link, count_over, counted, more_over, counted_by, AreCounted, WereCounted}
 use Rattle.ga_search.specs.declared.condition.Condition.{Condition}
 use Rattle.ga_search.proofs.Telling.{read_on}
 use Rattle.ga_search.proofs.Stepping.{StepIs, step_is, stepped_is}
-use Rattle.ga_lab.proofs.Answering.{told_after as told_last}
+use Rattle.ga_lab.proofs.Stepping.{told_after as told_last}
 
 -- one event more in front
 carried_one : (b : Bool) (sent : Sent) → length (if b then sent ∷ [] else []) ≡ (if b then 1 else 0)

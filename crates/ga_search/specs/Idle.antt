@@ -3,7 +3,7 @@
 use Rattle.std.specs.Prelude.{◌≡◌, ℕ, ◌<◌, ◌↔◌, Bool, true, false, List, [], ◌∷◌}
 use Rattle.ga_node.specs.Record.{fresh_record}
 use Rattle.ga_grid.specs.Chip.{record_at}
-use Rattle.ga_grid.specs.Load.{load_p_of}
+use Rattle.ga_grid.specs.Grid.{load_p_of}
 use Rattle.ga_event.specs.declared.made.Made.{Made}
 use Rattle.ga_lab.specs.Machine.{State, history_of}
 use Rattle.ga_search.specs.Conditions.{is_own, is_wait}

@@ -15,7 +15,7 @@ use Rattle.ga_search.specs.declared.running.End.{End}
 use Rattle.ga_search.specs.declared.running.End.TheVariants as the_end
 use Rattle.ga_search.specs.Schedules.{passed_on}
 use Rattle.ga_search.specs.Conditions.{first_held}
-use Rattle.ga_races.specs.Ready.{can_go, first_in}
+use Rattle.ga_races.specs.Orders.{can_go, first_in}
 
 -- a machine with the schedule by which its events are made
 pub record Running : Type 0 where

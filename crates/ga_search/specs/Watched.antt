@@ -8,7 +8,7 @@ use Rattle.ga_event.specs.declared.made.Made.{Made}
 use Rattle.ga_lab.specs.Machine.{State, chip_of, told_of_kept, step_answer}
 use Rattle.ga_search.specs.declared.watched.WatchedEnd.{WatchedEnd}
 use Rattle.ga_search.specs.declared.watched.WatchedEnd.TheVariants as the_end
-use Rattle.ga_races.specs.Ready.{can_go}
+use Rattle.ga_races.specs.Orders.{can_go}
 use Rattle.ga_search.specs.Running.{Running, chosen, told_by_step, moved_by, IsQuiet, IsRefusedFor}
 
 -- this is told of the newest event that is kept

@@ -41,7 +41,7 @@ fn with_bit(word: u64, place: u32, is_one: bool) -> u64
 
 impl Numbers {
     ghost use Rattle.std.specs.Prelude.{◌≡◌, ◌≢◌, ◌<◌, ◌≤◌, ℕ, true, false, IfSome, IfNone};
-    ghost use Rattle.ga_search.specs.kept.Numbers.{has};
+    ghost use Rattle.ga_search.specs.kept.Backward.{has};
 
     /// The set of nothing.
     pub fn none() -> Self
@@ -62,7 +62,7 @@ impl Numbers {
     }
 
     /// Whether a number is in the set.
-    #[tactic(auto, unfolding(crate::specs::kept::Numbers::has))]
+    #[tactic(auto, unfolding(crate::specs::kept::Backward::has))]
     pub fn has(&self, number: u8) -> bool
         requires { number < 192 }
         ensures { result ≡ has self.now number }

@@ -3,9 +3,8 @@
 ghost use Rattle.std.specs.Prelude.{◌≡◌, ◌<◌, ◌≤◌, ℕ, true, false, Some, IfSome, IfNone};
 ghost use Rattle.ga_grid.specs.Chip.{records_of};
 ghost use Rattle.ga_grid.specs.Grid.{neighbour_of};
-ghost use Rattle.ga_search.specs.kept.Numbers.{has};
-ghost use Rattle.ga_races.specs.Ready.{first_in};
-ghost use Rattle.ga_search.specs.kept.Ready.{IsRight, HoldsReady, StaysRight, IsRightAround, IsRefreshed, IsAlone};
+ghost use Rattle.ga_search.specs.kept.Backward.{has, IsRight, HoldsReady, StaysRight, IsRightAround, IsRefreshed, IsAlone};
+ghost use Rattle.ga_races.specs.Orders.{first_in};
 
 use crate::numbers::Numbers;
 use ga_event::next_event;

@@ -4,11 +4,9 @@ ghost use Rattle.std.specs.Prelude.{◌≡◌, ◌≤◌, ◌+◌, ℕ, length, 
 ghost use Rattle.ga_event.specs.Apply.{replay};
 ghost use Rattle.ga_lab.specs.Machine.{chip_of, step_answer, stepped};
 ghost use Rattle.ga_search.specs.Words.{one_over, word_count};
-ghost use Rattle.ga_search.specs.kept.Ready.{HoldsReady, IsAlone};
-ghost use Rattle.ga_search.specs.kept.Counted.{AreCounted, newest_told};
-ghost use Rattle.ga_search.specs.kept.Needs.{IsNeeded};
+ghost use Rattle.ga_search.specs.kept.Backward.{HoldsReady, IsAlone, AreCounted, newest_told};
+ghost use Rattle.ga_search.specs.kept.Needs.{IsNeeded, IsOver, events_at};
 ghost use Rattle.ga_search.specs.Schedules.{passed_on};
-ghost use Rattle.ga_search.specs.kept.Over.{IsOver, events_at};
 ghost use Rattle.ga_search.specs.Running.{running, told, run_moved, held_next, after_events, AreMade, IsRefusedFor, HasEnded};
 
 use crate::condition::Condition;

@@ -2,7 +2,7 @@
 
 ghost use Rattle.std.specs.Prelude.{◌≡◌, ◌≤◌, length, Some};
 ghost use Rattle.ga_search.specs.Conditions.{first_held, conditions_asked};
-ghost use Rattle.ga_search.specs.kept.Counted.{AreCounted, WereCounted, newest_told};
+ghost use Rattle.ga_search.specs.kept.Backward.{AreCounted, WereCounted, newest_told};
 ghost use Rattle.ga_search.specs.kept.Needs.{IsNeeded};
 
 use crate::condition::Condition;
@@ -16,7 +16,7 @@ pub const MOST_CONDITIONS: usize = 8;
 pub(crate) type LinkCounts = [u32; MOST_CONDITIONS];
 
 /// The conditions before the first one that holds never.
-#[tactic(auto, using(std::proofs::lemmas::Option::slice_get_read, crate::proofs::Held::asked_before, crate::proofs::Held::none_more, crate::proofs::Held::all_asked))]
+#[tactic(auto, using(std::proofs::lemmas::Option::slice_get_read, crate::proofs::Needing::asked_before, crate::proofs::Needing::none_more, crate::proofs::Needing::all_asked))]
 pub fn conditions_asked(until: &[Condition]) -> &[Condition]
     ensures asked { result.now ≡ conditions_asked until.now }
     ensures most { length result.now ≤ length until.now }

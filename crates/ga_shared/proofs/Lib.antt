@@ -1,5 +1,4 @@
 pub mod Machine
-pub mod Histories
 pub mod Receipts
 pub mod Seats
 pub mod Places

@@ -1,17 +1,20 @@
 -- What a call leaves of the machine: its load, its limit, and how many events were made.
-use Rattle.std.proofs.Common.{◌≡◌, ◌+◌, ℕ, cond, refl, arith}
+use Rattle.ga_shared.specs.declared.call.Answer.TheVariants as answer
+use Rattle.std.proofs.Common.{◌≡◌, ◌+◌, ℕ, cond, refl, arith, ◌≢◌, List, [], ◌∷◌, ◌++◌, length, length-append, sym, ap, ◌∙◌, subst, zero-add}
 use Rattle.std.specs.Prelude.{Result, Ok, Err}
 use Rattle.ga_node.specs.declared.kind.NotReady.{NotReady}
 use Rattle.ga_event.specs.declared.event.Event.{Event}
 use Rattle.ga_event.specs.Next.{next}
 use Rattle.ga_event.specs.declared.made.Made.{Made}
 use Rattle.ga_lab.specs.declared.fault.LabFault.{LabFault}
-use Rattle.ga_lab.specs.Machine.{State, chip_of, step_answer, with_event, unless_refused, answer_to as lab_answer_to, rewind_answer}
+use Rattle.ga_lab.specs.Machine.{State, chip_of, step_answer, with_event, unless_refused, answer_to as lab_answer_to, rewind_answer, first}
 use Rattle.ga_shared.specs.declared.call.Call.{Call}
 use Rattle.ga_shared.specs.declared.call.Call.TheVariants.{Step, Rewind}
 use Rattle.ga_shared.specs.declared.call.Answer.{Answer}
 use Rattle.ga_shared.specs.Calls.{call_answer, answer_of_step, answer_of_rewind, state_after}
-use Rattle.ga_shared.specs.Log.{is_made}
+use Rattle.ga_shared.specs.Log.{is_made, IsLegal, Desk, IsHistory, made_by}
+use Rattle.std.proofs.lemmas.List.Sums.{sum_by-append}
+use Rattle.ga_shared.specs.declared.call.Entry.{Entry}
 
 -- how many events an answer tells of: one where the call made one
 abbrev pub added_by : Answer → ℕ
@@ -53,3 +56,26 @@ added_by-rewind (Err fault) = refl
 pub state_after-made : (s : State) (call : Call) → (state_after s call).made ≡ s.made + added_by (call_answer s call)
 state_after-made s (Step node) = made_by_step s (next (chip_of s) node) (step_answer s node) refl
 state_after-made s (Rewind node step) = omega (arith, added_by-rewind (rewind_answer s node.number step))
+
+-- ---- A history with one call more
+
+pub IsLegal-push : (s t : State) (es : List Entry) (e : Entry) → IsLegal s es t → e.answer ≡ call_answer t e.call → e.answer ≢ answer.Refused 4 → IsLegal s (es ++ e ∷ []) (state_after t e.call)
+IsLegal-push s t [] e is answers given = (answers ∙ ap (λ u. call_answer u e.call) (sym is), given, ap (λ u. state_after u e.call) is)
+IsLegal-push s t (x ∷ es) e legal answers given = (legal.0, legal.1, IsLegal-push (state_after s x.call) t es e legal.2 answers given)
+
+made_by-push : (es : List Entry) (e : Entry) → made_by (es ++ e ∷ []) ≡ made_by es + added_by e.answer
+made_by-push es e = sum_by-append (λ (x : Entry). added_by x.answer) es (e ∷ []) ∙ ap (λ n. made_by es + n) (zero-add (added_by e.answer))
+
+-- a call more, answered as the machine does
+pub IsHistory-push : (d : Desk) (lab : State) (log : List Entry) (calls : ℕ) (e : Entry) → IsHistory d → e.answer ≡ call_answer d.lab e.call → e.answer ≢ answer.Refused 4 → lab ≡ state_after d.lab e.call → log ≡ d.log ++ e ∷ [] → calls ≡ d.calls + 1 → IsHistory (record { load = d.load; lab = lab; log = log; calls = calls })
+IsHistory-push d lab log calls e history answers given is grew counted =
+    let same = state_after-load d.lab e.call in
+    let limit : lab.limit ≡ d.lab.limit = ap (λ s. s.limit) is ∙ state_after-limit d.lab e.call in
+    let legal = IsLegal-push (first d.load d.lab.limit) d.lab d.log e history.legal answers given in
+    let P : ℕ → List Entry → State → Type 0 = λ n l t. IsLegal (first d.load n) l t in
+    record {
+      load = history.load ∙ sym same ∙ ap (λ s. s.load) (sym is);
+      legal = subst (λ n. P n log lab) (sym limit) (subst (λ l. P d.lab.limit l lab) (sym grew) (subst (P d.lab.limit (d.log ++ e ∷ [])) (sym is) legal));
+      calls = omega (arith, history.calls, ap length grew, length-append d.log (e ∷ []), counted);
+      made = ap (λ s. s.made) is ∙ state_after-made d.lab e.call ∙ ap (λ a. d.lab.made + added_by a) (sym answers) ∙ ap (λ n. n + added_by e.answer) history.made ∙ sym (made_by-push d.log e) ∙ ap made_by (sym grew);
+    }

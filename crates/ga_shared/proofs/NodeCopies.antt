@@ -7,7 +7,7 @@ use Rattle.ga_stacks.specs.Ring.{Ring, listed}
 use Rattle.ga_node.specs.Record.{NodeState, NodeRecord, record_of}
 use Rattle.ga_grid.specs.Chip.{nowhere, node_at, records_of, record_at}
 use Rattle.ga_grid.proofs.Chips.{record_at-records_of}
-use Rattle.ga_shared.specs.kept.Copies.{with_registers, registers_of}
+use Rattle.ga_shared.specs.kept.{with_registers, registers_of}
 
 -- a list of ten by its elements
 pub ten : (xs : List ℕ) (a b c d e f g h i j : ℕ) → length xs ≡ 10

@@ -9,11 +9,10 @@ use Rattle.ga_shared.specs.declared.call.Entry.{Entry}
 use Rattle.ga_shared.specs.declared.call.Receipt.{Receipt}
 use Rattle.ga_shared.specs.declared.closing.Closed.{Closed}
 use Rattle.ga_node.specs.Record.{NodeRecord}
-use Rattle.ga_shared.specs.Log.{Worker, IsLegal, fresh_worker}
+use Rattle.ga_shared.specs.Log.{Worker, IsLegal, fresh_worker, Raced, calls_of}
 use Rattle.ga_shared.specs.Opening.{receipts_of, WorkerAgrees}
 use Rattle.ga_shared.specs.Close.{IsSoundLog, IsOpenedOn}
-use Rattle.ga_shared.specs.kept.Race.{IsDone}
-use Rattle.ga_shared.specs.Race.{Raced, calls_of}
+use Rattle.ga_shared.specs.kept.{IsDone}
 
 branch : (b : Bool) (r : Receipt) (rs : List Receipt) (cs : List Call) → map (λ (r : Receipt). r.call) rs ≡ cs → map (λ (r : Receipt). r.call) (if b then r ∷ rs else rs) ≡ (if b then r.call ∷ cs else cs)
 branch true r rs cs same = ap (λ l. r.call ∷ l) same

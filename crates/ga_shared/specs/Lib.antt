@@ -2,5 +2,4 @@ pub mod Calls
 pub mod Log
 pub mod Opening
 pub mod Close
-pub mod Race
 pub mod kept

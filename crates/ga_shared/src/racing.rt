@@ -2,9 +2,8 @@
 
 ghost use Rattle.std.specs.Prelude.{◌≡◌, ◌<◌, ◌≤◌, ◌^◌, ℕ, All, map, IfOk, OnOk, vec_len, slice_get, Some};
 ghost use Rattle.ga_grid.specs.Chip.{records_of};
-ghost use Rattle.ga_shared.specs.kept.Race.{IsDone, AreDone};
-ghost use Rattle.ga_shared.specs.Race.{Raced};
-ghost use Rattle.ga_shared.specs.Log.{fresh_worker};
+ghost use Rattle.ga_shared.specs.kept.{IsDone, AreDone};
+ghost use Rattle.ga_shared.specs.Log.{Raced, fresh_worker};
 
 use crate::call::{Call, SharedFault};
 use crate::closing::Closed;
@@ -48,7 +47,7 @@ struct WorksThrough {
 
 impl<L: Ledger> Promise<Worked<L>> for WorksThrough {
     ghost use Rattle.std.specs.Prelude.{◌≡◌, OnOk, map};
-    ghost use Rattle.ga_shared.specs.kept.Race.{IsDone};
+    ghost use Rattle.ga_shared.specs.kept.{IsDone};
 
     ghost kept_by = { λ p r. (r.0.number ≡ p.worker) × OnOk r.1 (IsDone (map (λ l. l.items) p.lists.value.items) r.0) };
 }

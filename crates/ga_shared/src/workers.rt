@@ -1,8 +1,7 @@
 //! The calls of one worker.
 
 ghost use Rattle.std.specs.Prelude.{◌≡◌, ◌<◌, ◌^◌, ℕ, length, take, IfOk, OnOk, OnErr};
-ghost use Rattle.ga_shared.specs.Race.{Works};
-ghost use Rattle.ga_shared.specs.Log.{CountsCall};
+ghost use Rattle.ga_shared.specs.Log.{Works, CountsCall};
 
 use crate::call::{Call, Receipt, SharedFault};
 use crate::gate::Gate;

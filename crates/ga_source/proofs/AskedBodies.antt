@@ -5,8 +5,8 @@ use Rattle.ga_parser.specs.declared.scan.Token.{Token}
 use Rattle.ga_parser.specs.Saying.{Said, all_said}
 use Rattle.ga_parser.specs.Plain.{is_node, yxx_in}
 use Rattle.ga_source.specs.Asks.{said_body, said_bodies, AsksFor, IsAsked, AreAskedBy}
-use Rattle.ga_parser.specs.kept.Hearing.{texts_of}
-use Rattle.ga_source.specs.kept.Programs.{AreAskedFirst}
+use Rattle.ga_parser.specs.kept.Drafting.{texts_of}
+use Rattle.ga_source.specs.kept.Packing.{AreAskedFirst}
 use Rattle.ga_source.proofs.Bodies.{name_is_other, drop_twice}
 
 -- ---- up to the next `node`

@@ -3,16 +3,16 @@ use Rattle.std.proofs.Common.{◌≡◌, ◌∙◌, ℕ, zero, suc, inl, inr, �
 use Rattle.std.proofs.lemmas.List.{get_or-map, take-map, drop-map, drop_all}
 use Rattle.ga_source.specs.declared.program.Program.{Program}
 use Rattle.ga_parser.specs.declared.scan.Token.{Token}
-use Rattle.ga_parser.specs.kept.Hearing.{texts_of}
+use Rattle.ga_parser.specs.kept.Drafting.{texts_of}
 use Rattle.std.specs.Prelude.{codes, map}
 use Rattle.std.proofs.lemmas.Bool.{cases_Bool}
-use Rattle.ga_grid.specs.Names.{node_number}
+use Rattle.ga_grid.specs.Grid.{node_number}
 use Rattle.ga_parser.specs.Plain.{Plain, is_node, body_in, bodies_in, yxx_in, plain_of, asked_by, texts_in, words_in}
 use Rattle.ga_source.specs.Asks.{IsOf, AreOf}
 use Rattle.ga_parser.specs.Saying.{said_in, all_said}
 use Rattle.ga_parser.proofs.Hearing.{same_text}
 use Rattle.ga_parser.proofs.PlainAsked.{map_map}
-use Rattle.ga_source.specs.kept.Programs.{AreOfFirst}
+use Rattle.ga_source.specs.kept.Packing.{AreOfFirst}
 
 -- ---- up to the next `node`
 

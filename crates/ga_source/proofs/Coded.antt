@@ -1,5 +1,5 @@
 -- The words of groups.
-use Rattle.std.specs.Prelude.{◌==◌, ◌&&◌, not, nat_lt}
+use Rattle.std.specs.Prelude.{◌==◌, ◌&&◌, not, nat_lt, IfSome}
 use Rattle.std.proofs.Common.{◌≡◌, ◌∙◌, ℕ, ◌+◌, ◌-◌, ◌%◌, ◌<◌, ◌≤◌, inl, inr, refl, sym, ap, subst, true, false, List, Option, Some, None, length, slice_index_or, arith}
 use Rattle.std.proofs.lemmas.Bool.{and_parts, or_cases, true≢false, cases_eq, eqb-true, eq-eqb, ltb-true}
 use Rattle.std.proofs.lemmas.List.{take_more}
@@ -7,15 +7,12 @@ use Rattle.ga_slots.specs.Codes.{code_of}
 use Rattle.ga_slots.specs.Slots.{opcode, target}
 use Rattle.ga_slots.specs.declared.op.Op.{Op}
 use Rattle.ga_slots.specs.declared.op.Op.TheVariants.{Nop}
-use Rattle.std.specs.Prelude.{IfSome}
 use Rattle.ga_parser.specs.declared.item.Item.{Item}
 use Rattle.ga_parser.specs.declared.item.Item.TheVariants.{Opcode, Literal, Back, Ahead, Cell}
 use Rattle.ga_parser.specs.declared.item.Operand.TheVariants.{Label}
 use Rattle.ga_source.specs.declared.spot.Spot.{Spot}
 use Rattle.ga_source.specs.Reading.{begin_at, behind, resolved, are_both, reaches, fits, ends_cell}
-use Rattle.ga_source.specs.kept.Words.{op_in, nothing}
-use Rattle.ga_source.specs.kept.Layout.{behind_all, spot_in, IsFit}
-use Rattle.ga_source.specs.kept.Loading.{Leads, HasItem, MayEnd, IsWordOf}
+use Rattle.ga_source.specs.kept.Layout.{op_in, nothing, behind_all, spot_in, IsFit, Leads, HasItem, MayEnd, IsWordOf}
 use Rattle.ga_source.proofs.Laying.{behind_all-push, behind-opened}
 
 may_end : (labels : List (Option ℕ)) (spot : Spot) (item : Item) → fits labels spot item ≡ true → MayEnd spot.slot item

@@ -6,7 +6,7 @@ use Rattle.std.proofs.lemmas.List.{get_or-replicate, get_or_past, length-replica
 use Rattle.std.proofs.lemmas.List.Elements.{All-nil, All-cons, All-head, All-tail}
 use Rattle.ga_node.specs.Record.{NodeState, fresh_node}
 use Rattle.ga_grid.specs.Chip.{nowhere, node_at}
-use Rattle.ga_grid.specs.Load.{default_chip, load_p_of}
+use Rattle.ga_grid.specs.Grid.{default_chip, load_p_of}
 use Rattle.ga_grid.proofs.Chips.{node_at-default_chip, length-default_chip}
 use Rattle.ga_source.specs.declared.program.Program.{Program}
 use Rattle.ga_source.specs.Cells.{IsUnasked, IsEmptyElsewhere}

@@ -7,7 +7,6 @@ pub mod Grouped
 pub mod Targets
 pub mod Written
 pub mod Loaded
-pub mod Steady
 pub mod Empty
 pub mod AskedBodies
 pub mod Bodies
@@ -15,5 +14,4 @@ pub mod CellGroups
 pub mod Refusing
 pub mod Making
 pub mod PlainNodes
-pub mod Assembling
 pub mod Numbering

@@ -5,11 +5,11 @@ use Rattle.std.proofs.lemmas.List.{get_or-set_same, get_or-set_other}
 use Rattle.std.proofs.lemmas.List.Elements.{All-push, All-pop, All-weaker}
 use Rattle.ga_node.specs.Record.{NodeState}
 use Rattle.ga_grid.specs.Chip.{nowhere, node_at, with_node}
-use Rattle.ga_grid.specs.Load.{default_chip}
+use Rattle.ga_grid.specs.Grid.{default_chip}
 use Rattle.ga_source.specs.declared.program.Program.{Program}
 use Rattle.std.proofs.lemmas.Bool.{cases_eq}
 use Rattle.ga_source.specs.Programs.{given_of, value_or, has_cells, at_load, KeepsState, HasProgram, IsLoaded, IsUnnamed}
-use Rattle.ga_source.specs.kept.Programs.{HasBegun, AreLoaded}
+use Rattle.ga_source.specs.kept.Packing.{HasBegun, AreLoaded}
 use Rattle.ga_grid.proofs.Chips.{node_at-with_node_other as stays}
 
 -- a program marked as begun stands in another node than one that isn't

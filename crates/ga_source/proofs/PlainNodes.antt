@@ -1,16 +1,19 @@
 -- The nodes that plain words make, from the programs of a source.
-use Rattle.std.specs.Prelude.{is_none, ◌||◌, codes, bytes_eq, if◌then◌else◌}
+use Rattle.std.proofs.Common.{ℕ, List, subst, sym, ◌≡◌, ◌≢◌, ◌∙◌, ◌<◌, inl, inr, refl, ap, Bool, true, false, ltb, [], ◌∷◌, Option, Some, None, length, drop, slice_index, slice_index_or, arith}
+use Rattle.ga_node.specs.Record.{NodeState, fresh_node, record_of, HasSizes, FitsWait, IsSteady}
+use Rattle.ga_grid.specs.Chip.{node_at, records_of, AreSteady}
+use Rattle.ga_grid.specs.Grid.{default_chip, load_p_of}
+use Rattle.ga_grid.proofs.Chips.{record_at-records_of, node_at-default_chip}
+use Rattle.ga_source.specs.declared.program.Program.{Program}
+use Rattle.ga_source.specs.Programs.{KeepsState, IsAssembled, given_of, value_or, is_item, has_cells, or_start, at_load, HasProgram, IsLoaded, IsUnnamed}
+use Rattle.std.specs.Prelude.{is_none, ◌||◌, codes, bytes_eq, if◌then◌else◌, Result, Ok, Err, IfOk, IfErr}
 use Rattle.std.specs.List.{All, list_any}
-use Rattle.std.proofs.Common.{◌≡◌, ◌≢◌, ◌∙◌, ℕ, ◌<◌, inl, inr, refl, sym, ap, subst, Bool, true, false, ltb, List, [], ◌∷◌, Option, Some, None, length, drop, slice_index, slice_index_or, arith}
 use Rattle.std.proofs.lemmas.Bool.{cases_Bool, and_parts, ltb-true}
 use Rattle.std.proofs.lemmas.List.{length-replicate, ext_get_or}
 use Rattle.std.proofs.lemmas.List.Elements.{All-nil, All-cons, All-head, All-tail}
 use Rattle.ga_ports.specs.declared.address.Target.{Target}
 use Rattle.ga_ports.specs.declared.address.Target.TheVariants.{Ram, Rom, Io, Ports, Bad}
 use Rattle.ga_ports.specs.Address.{classified}
-use Rattle.ga_node.specs.Record.{NodeState, HasSizes, fresh_node, record_of}
-use Rattle.ga_grid.specs.Chip.{node_at}
-use Rattle.ga_grid.specs.Load.{default_chip}
 use Rattle.ga_parser.specs.declared.item.Operand.{Operand}
 use Rattle.ga_parser.specs.declared.item.Operand.TheVariants.{Number, Label}
 use Rattle.ga_parser.specs.declared.item.Given.{Given}
@@ -19,22 +22,45 @@ use Rattle.ga_parser.specs.declared.item.Request.{Request}
 use Rattle.ga_parser.specs.declared.item.Request.TheVariants.{Put, Go}
 use Rattle.ga_parser.specs.declared.item.Registers.{Registers}
 use Rattle.ga_parser.specs.declared.item.Asked.{Asked}
-use Rattle.ga_source.specs.declared.program.Program.{Program}
 use Rattle.ga_parser.specs.declared.labels.Label.{Label as Name}
 use Rattle.ga_ports.specs.Steps.{◌>>=◌}
 use Rattle.ga_parser.specs.Numbers.{number_by_word}
-use Rattle.ga_source.specs.Programs.{given_of, value_or, is_item, has_cells, or_start, at_load, HasProgram, IsLoaded, IsUnnamed, IsAssembled}
-use Rattle.ga_source.specs.Cells.{is_asked}
+use Rattle.ga_source.specs.Cells.{is_asked, IsEmptyElsewhere}
 use Rattle.ga_source.specs.Reading.{begin_at, resolved}
-use Rattle.ga_parser.specs.Plain.{Plain, no_request, by_number, only_if, is_cell, may_be, with_two_words, plain_from, plain_of, value_in, asked_by, words_in, bodies_in, yxx_in}
-use Rattle.ga_source.specs.Asks.{IsOf, AreOf, AreRead}
+use Rattle.ga_parser.specs.Plain.{Plain, no_request, by_number, only_if, is_cell, may_be, with_two_words, plain_from, plain_of, value_in, asked_by, words_in, bodies_in, yxx_in, texts_in}
+use Rattle.ga_source.specs.Asks.{IsOf, AreOf, AreRead, said_bodies, AreAskedBy, AreAsked}
 use Rattle.ga_source.specs.Made.{with_cell, with_asked, address_behind, with_requests, number_or, plain_node, IsNode, HasPlain, IsChipOfSource}
 use Rattle.ga_source.specs.kept.Packing.{requests_of, ArePlain, IsNumber, AreNumbers}
-use Rattle.ga_source.specs.kept.Places.{KeepsRest}
-use Rattle.ga_source.proofs.Empty.{of_each_at_load}
+use Rattle.ga_source.specs.kept.Layout.{KeepsRest}
+use Rattle.ga_source.proofs.Empty.{of_each_at_load, assembled_empty}
 use Rattle.ga_parser.proofs.Hearing.{some_same, no_some, allowed}
 use Rattle.ga_parser.proofs.Ranges.{number_asks}
 use Rattle.ga_source.proofs.Making.{Stays, with_cell_ram, with_cell_rom, one_plain_more, requests_made}
+use Rattle.ga_parser.specs.declared.fault.Fault.{Fault}
+use Rattle.ga_parser.specs.declared.fault.SourceCause.TheVariants.{Memory}
+use Rattle.ga_source.specs.declared.program.Assembled.{Assembled}
+use Rattle.ga_parser.specs.declared.scan.Token.{Token}
+use Rattle.ga_parser.specs.Saying.{Said, said_in, all_said}
+use Rattle.ga_source.specs.Sound.{IsSoundSource}
+
+-- ---- A chip with programs is steady: none of its nodes waits
+
+fresh_steady : (p : ℕ) → FitsWait (fresh_node p).wait (fresh_node p).slot (fresh_node p).stop
+unfolding fresh_node
+fresh_steady p = tt
+
+record_steady : (node : NodeState) → FitsWait node.wait node.slot node.stop → IsSteady (record_of node)
+unfolding record_of
+record_steady node fit = fit
+
+kept_steady : (before after : NodeState) → KeepsState before after → FitsWait before.wait before.slot before.stop → FitsWait after.wait after.slot after.stop
+kept_steady before after kept fit = subst (λ (node : NodeState). FitsWait node.wait node.slot node.stop) (sym kept) fit
+
+pub assembled_steady : (chip : List NodeState) (programs : List Program) → IsAssembled chip programs → AreSteady (records_of chip)
+assembled_steady chip programs all = λ n small.
+    let fresh = subst (λ (node : NodeState). FitsWait node.wait node.slot node.stop) (sym (node_at-default_chip n small)) (fresh_steady (load_p_of n)) in
+    subst IsSteady (sym (record_at-records_of chip n))
+    (record_steady (node_at chip n) (kept_steady (node_at default_chip n) (node_at chip n) (all.state n) fresh))
 
 -- ---- plain words ask for plain requests and numbers
 
@@ -293,3 +319,33 @@ whole_node chip words n plain has name is sizes =
     let rom : node.rom ≡ made.rom = same_memory node.rom made.rom (sizes_rom node sizes)
     (rom_size load 0 plain.requests ∙ of_each_at_load (λ (at_load : NodeState). length at_load.rom ≡ 64) fresh_rom_size n) found.rom in
     found.rest ∙ (ap (λ (list : List ℕ). record made { ram = list; rom = node.rom }) ram ∙ ap (λ (list : List ℕ). record made { ram = made.ram; rom = list }) rom)
+
+-- ---- what is assembled of a source is what is assembled of its words
+
+pub asked_of_words : (source : List ℕ) (words : List Token) (result : Result Assembled Fault) → said_in source ≡ all_said words
+    → IfOk result (λ all. AreAskedBy (said_bodies (all_said words)) all.programs.items) → IfOk result (λ all. AreAsked source all.programs.items)
+asked_of_words source words result e asked = subst (λ (said : List Said). IfOk result (λ all. AreAskedBy (said_bodies said) all.programs.items)) (sym e) asked
+
+pub read_of_words : (source : List ℕ) (words : List Token) (result : Result Assembled Fault) → said_in source ≡ all_said words
+    → IfOk result (λ all. AreOf (bodies_in (texts_in (all_said words))) all.programs.items) → IfOk result (λ all. AreRead source all.programs.items)
+read_of_words source words result e read = subst (λ (said : List Said). IfOk result (λ all. AreOf (bodies_in (texts_in said)) all.programs.items)) (sym e) read
+
+pub refused_of_words : (source : List ℕ) (words : List Token) (result : Result Assembled Fault) → said_in source ≡ all_said words
+    → IfErr result (λ fault. (other : List ℕ) → said_in other ≡ all_said words → IsSoundSource other → fault.cause ≡ Memory) → IfErr result (λ fault. IsSoundSource source → fault.cause ≡ Memory)
+refused_of_words source words (Ok all) e refused = refused
+refused_of_words source words (Err fault) e refused = refused source e
+
+pub made_of_source : (source : List ℕ) (result : Result Assembled Fault) → IfOk result (λ all. AreRead source all.programs.items)
+    → IfOk result (λ all. IsAssembled all.chip all.programs.items) → IfOk result (λ all. IsChipOfSource source all.chip)
+made_of_source source (Ok all) read assembled = source_made source all.chip all.programs.items read assembled
+made_of_source source (Err fault) read assembled = read
+
+pub empty_of_source : (result : Result Assembled Fault) → IfOk result (λ all. IsAssembled all.chip all.programs.items)
+    → IfOk result (λ all. IsEmptyElsewhere all.chip all.programs.items)
+empty_of_source (Ok all) assembled = assembled_empty all.chip all.programs.items assembled
+empty_of_source (Err fault) assembled = assembled
+
+pub steady_of_source : (result : Result Assembled Fault) → IfOk result (λ all. IsAssembled all.chip all.programs.items)
+    → IfOk result (λ all. AreSteady (records_of all.chip))
+steady_of_source (Ok all) assembled = assembled_steady all.chip all.programs.items assembled
+steady_of_source (Err fault) assembled = assembled

@@ -8,11 +8,11 @@ use Rattle.ga_parser.specs.declared.scan.TokenKind.{TokenKind}
 use Rattle.ga_parser.specs.declared.scan.TokenKind.TheVariants.{Word, LongLine, OpenComment}
 use Rattle.ga_parser.specs.declared.scan.Token.{Token}
 use Rattle.ga_parser.specs.Saying.{is_word, is_word_kind, said_in, all_said}
-use Rattle.ga_grid.specs.Names.{node_number}
+use Rattle.ga_grid.specs.Grid.{node_number}
 use Rattle.ga_parser.specs.Plain.{Plain, is_node, body_in, bodies_in, yxx_in, words_in, plain_of}
 use Rattle.ga_source.specs.Sound.{cells_from, AreDistinctCells, IsSoundBody, IsSoundSource}
-use Rattle.ga_parser.specs.kept.Hearing.{texts_of}
-use Rattle.ga_source.specs.kept.Refusing.{AreSound, IsSoundFrom}
+use Rattle.ga_parser.specs.kept.Drafting.{texts_of}
+use Rattle.ga_source.specs.kept.Packing.{AreSound, IsSoundFrom}
 use Rattle.ga_source.proofs.Bodies.{no_number, drop_twice, words_told}
 
 -- ---- the node that comes first

@@ -8,7 +8,7 @@ use Rattle.ga_slots.specs.Slots.{opcode, opcode_mask, field_size, target}
 use Rattle.ga_slots.specs.declared.op.Op.{Op}
 use Rattle.ga_slots.specs.declared.op.Op.TheVariants.{Return}
 use Rattle.ga_parser.specs.declared.item.Item.{Item}
-use Rattle.ga_source.specs.kept.Words.{op_in, nothing}
+use Rattle.ga_source.specs.kept.Layout.{op_in, nothing}
 use Rattle.ga_source.specs.Reading.{reaches}
 use Rattle.std.proofs.lemmas.List.{get_or-set_same, get_or-set_other}
 

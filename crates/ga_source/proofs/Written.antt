@@ -10,8 +10,7 @@ use Rattle.ga_node.specs.declared.place.Place.{Place}
 use Rattle.ga_node.specs.declared.place.Place.TheVariants.{Ram, Rom}
 use Rattle.ga_source.specs.Reading.{word_of_target, word_in}
 use Rattle.ga_source.specs.Cells.{KeepsElsewhere, is_at}
-use Rattle.ga_source.specs.kept.Places.{IsCell, KeepsRest}
-use Rattle.ga_source.specs.kept.Loading.{Holds, Keeps}
+use Rattle.ga_source.specs.kept.Layout.{IsCell, KeepsRest, Holds, Keeps}
 use Rattle.ga_source.proofs.Laying.{None≢Some}
 
 -- the cells of both memories by their addresses

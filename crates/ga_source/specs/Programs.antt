@@ -4,7 +4,7 @@ use Rattle.std.specs.List.{All, list_any}
 use Rattle.std.specs.Option.{option_map_or}
 use Rattle.ga_node.specs.Record.{NodeState}
 use Rattle.ga_grid.specs.Chip.{node_at}
-use Rattle.ga_grid.specs.Load.{default_chip}
+use Rattle.ga_grid.specs.Grid.{default_chip}
 use Rattle.ga_parser.specs.declared.item.Given.{Given}
 use Rattle.ga_parser.specs.declared.item.Registers.{Registers}
 use Rattle.ga_source.specs.declared.program.Program.{Program}

@@ -1,7 +1,7 @@
 //! The items of a cell.
 
 ghost use Rattle.std.specs.Prelude.{◌≡◌, slice_index};
-ghost use Rattle.ga_source.specs.kept.Words.{is_data as is_data_of};
+ghost use Rattle.ga_source.specs.kept.Layout.{is_data as is_data_of};
 
 use arrayvec::ArrayVec;
 use ga_parser::Item;

@@ -3,7 +3,7 @@
 ghost use Rattle.std.specs.Prelude.{◌≡◌, ℕ, List, [], Some, drop, slice_index_or};
 ghost use Rattle.ga_node.specs.Record.{NodeState, HasSizes, record_of};
 ghost use Rattle.ga_grid.specs.Chip.{node_at};
-ghost use Rattle.ga_grid.specs.Load.{default_chip};
+ghost use Rattle.ga_grid.specs.Grid.{default_chip};
 ghost use Rattle.ga_parser.specs.Plain.{Plain, yxx_in, plain_of};
 ghost use Rattle.ga_source.specs.Made.{HasPlain, plain_node};
 

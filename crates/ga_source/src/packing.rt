@@ -2,16 +2,14 @@
 
 ghost use Rattle.std.specs.Prelude.{◌≡◌, ℕ, [], ◌∷◌, ◌++◌, List, IsTrue, true, IfOk, IfErr, OnOk, map, slice_index_or};
 ghost use Rattle.ga_parser.specs.declared.item.Asked.{Asked};
-ghost use Rattle.ga_source.specs.Reading.{after_request};
+ghost use Rattle.ga_source.specs.Reading.{after_request, fits as fits_of, begin_at as begin_of};
 ghost use Rattle.ga_parser.specs.declared.fault.SourceCause.TheVariants.{Memory};
 ghost use Rattle.ga_parser.specs.declared.item.Operand.TheVariants.{Number};
 ghost use Rattle.ga_parser.specs.declared.item.Request.{Request as RequestOf};
-ghost use Rattle.ga_source.specs.Reading.{fits as fits_of, begin_at as begin_of};
 ghost use Rattle.ga_source.specs.Sound.{cells_from};
 ghost use Rattle.ga_source.specs.Groups.{laid_by, groups_of};
-ghost use Rattle.ga_source.specs.kept.Grouping.{IsGathered, IsGrouped, IsPutting};
+ghost use Rattle.ga_source.specs.kept.Layout.{IsGathered, IsGrouped, IsPutting, IsClosed, IsFilling, IsInCell, IsKnown, IsLaidOut, IsPending, IsWalked};
 ghost use Rattle.ga_source.specs.kept.Packing.{requests_of, IsPlainRequest, ArePlain, AreCellGroups, IsPackedPlain};
-ghost use Rattle.ga_source.specs.kept.Layout.{IsClosed, IsFilling, IsInCell, IsKnown, IsLaidOut, IsPending, IsWalked};
 
 use super::group::Group;
 use super::reading::{begin_at, behind, fits, next_cell};

@@ -1,7 +1,7 @@
 -- Numbers in decimal digits, some digits at a time.
 use Rattle.std.proofs.Common.{◌≡◌, ℕ, ◌+◌, ◌<◌, ◌≤◌, ◌^◌, ◌/◌, ◌%◌, [], ◌∷◌, ◌++◌, decimal, length, length-append, ap, ◌∙◌, arith, List, refl}
 use Rattle.std.proofs.lemmas.Fmt.{decimal_step, decimal_digit}
-use Rattle.ga_text.specs.kept.Digits.{four_digits}
+use Rattle.ga_text.specs.kept.{four_digits}
 
 pub one_digit : (n : ℕ) → n < 10 → decimal n ≡ (48 + n % 10) ∷ []
 one_digit n small = let same : n % 10 ≡ n = omega arith in rw same (decimal_digit n small)

@@ -1,14 +1,8 @@
-pub mod Feeds
 pub mod Cells
 pub mod Numbers
 pub mod DigitLemmas
 pub mod TableLemmas
 pub mod TextLemmas
-pub mod PartLemmas
-pub mod KnownBytes
 pub mod SaidLemmas
-pub mod ListedLemmas
-pub mod LineLemmas
 pub mod ImageLemmas
-pub mod Cuts
 pub mod Taking

@@ -1,11 +1,29 @@
 -- What was said stays said, whatever of it is written.
-use Rattle.std.proofs.Common.{◌≡◌, ℕ, List, [], ◌++◌, Option, Some, Result, Ok, Err, sym, ap, ◌∙◌, subst, append_assoc, rules}
-use Rattle.std.specs.Result.{IsErr}
-use Rattle.std.proofs.lemmas.List.{append-nil}
+use Rattle.std.proofs.Common.{◌≡◌, ℕ, List, ◌++◌, Option, Some, None, ap, ◌∙◌, [], Result, Ok, Err, sym, subst, append_assoc, rules, ◌+◌, ◌<◌, ◌≤◌, length, get_or, take, drop, take-append-drop, suc, zero, true, false, ◌∷◌, refl, arith, length-take}
+use Rattle.std.proofs.lemmas.Option.{none-some}
 use Rattle.std.specs.Io.KnownBytes.{Appends, Keeps}
+use Rattle.std.specs.Result.{IsErr}
+use Rattle.std.proofs.lemmas.List.{append-nil, take_all, take_more, flat_map_more}
 use Rattle.ga_text.specs.Output.{IsSaid, IsCut, IsSaidOrCut}
 use Rattle.ga_text.specs.declared.output.WriteFailed.{WriteFailed}
-use Rattle.ga_text.proofs.KnownBytes.{appends_known, keeps_known}
+use Rattle.std.specs.Prelude.{flat_map, ◌==◌}
+use Rattle.std.proofs.lemmas.Grind.{flat_map-append}
+use Rattle.std.proofs.lemmas.Bool.Decides.{nat_tests}
+use Rattle.std.proofs.lemmas.List.Elements.{All-append, All-nil}
+use Rattle.ga_text.specs.Lines.{HasNoFeed, ends_line}
+use Rattle.ga_text.specs.ReadLine.{IsLine}
+
+-- ---- what known bytes become
+
+pub appends_known : (old new : Option (List ℕ)) (xs bs : List ℕ) → old ≡ Some xs → Appends old new bs → new ≡ Some (xs ++ bs)
+appends_known None new xs bs e h = absurd (none-some xs e)
+appends_known (Some ys) None xs bs e h = absurd h
+appends_known (Some ys) (Some zs) xs bs e h = let same : ys ≡ xs = cc in ap Some (h ∙ ap (λ (l : List ℕ). l ++ bs) same)
+
+pub keeps_known : (old new : Option (List ℕ)) (xs : List ℕ) → old ≡ Some xs → Keeps old new → new ≡ Some xs
+keeps_known None new xs e h = absurd (none-some xs e)
+keeps_known (Some ys) None xs e h = absurd h
+keeps_known (Some ys) (Some zs) xs e h = ap Some h ∙ e
 
 pub said_cut : (contents : Option (List ℕ)) (before said pending : List ℕ) → IsSaid contents before said pending → IsCut contents before said
 said_cut contents before said pending h = record { sent = h.sent; held = h.held; front = (pending, h.splits) }
@@ -85,3 +103,67 @@ cut_within contents before said text more whole e h = record {
         ∙ append_assoc h.sent h.front.0 more,
   );
 }
+
+-- ---- A text of a head and a line for each element, said line by line
+
+module _ {A : Type 0} (line : A → List ℕ) (head : List ℕ) (xs : List A) where
+  pub listed_none : head ≡ head ++ flat_map line (take 0 xs)
+  listed_none = sym (append-nil head)
+
+  pub listed_more : (i : ℕ) (default : A) (text : List ℕ) → i < length xs → text ≡ line (get_or xs i default)
+      → (head ++ flat_map line (take i xs)) ++ text ≡ head ++ flat_map line (take (i + 1) xs)
+  listed_more i default text within e =
+      ap (λ (t : List ℕ). (head ++ flat_map line (take i xs)) ++ t) e
+      ∙ flat_map_more line head (take i xs) (get_or xs i default)
+      ∙ ap (λ (ys : List A). head ++ flat_map line ys) (sym (take_more xs i default within))
+
+  pub listed_front : (i : ℕ) → (head ++ flat_map line (take i xs)) ++ flat_map line (drop i xs) ≡ head ++ flat_map line xs
+  listed_front i =
+      append_assoc head (flat_map line (take i xs)) (flat_map line (drop i xs))
+      ∙ ap (λ (t : List ℕ). head ++ t) (sym (flat_map-append line (take i xs) (drop i xs)) ∙ ap (flat_map line) (take-append-drop i xs))
+
+  pub listed_all : (i : ℕ) → length xs ≤ i → head ++ flat_map line (take i xs) ≡ head ++ flat_map line xs
+  listed_all i past = ap (λ (ys : List A). head ++ flat_map line ys) (take_all i xs past)
+
+-- ---- A line as it is read, part by part
+
+take-take-append : (n : ℕ) (xs ys : List ℕ) → take n (take n xs ++ ys) ≡ take n (xs ++ ys)
+take-take-append zero xs ys = refl
+take-take-append (suc n) [] ys = refl
+take-take-append (suc n) (x ∷ xs) ys = ap (λ (t : List ℕ). x ∷ t) (take-take-append n xs ys)
+
+pub line_none : (whole line : List ℕ) → line ≡ [] → IsLine whole line [] whole
+line_none whole line e = record { splits = refl; no_feed = All-nil (λ b. ends_line b ≡ false); kept = e }
+
+-- the same bytes, split the same
+pub line_same : (whole line part more other : List ℕ) → more ≡ other → IsLine whole line part more → IsLine whole line part other
+line_same whole line part more other e l = let P : List ℕ → Type 0 = λ xs. IsLine whole line part xs in subst P e l
+
+-- a piece more
+pub line_piece : (whole line longer part piece old new rest : List ℕ) → IsLine whole line part (old ++ rest)
+    → HasNoFeed piece → old ≡ piece ++ new → longer ≡ take 201 (line ++ piece) → IsLine whole longer (part ++ piece) (new ++ rest)
+line_piece whole line longer part piece old new rest l none e kept = record {
+  splits = l.splits ∙ ap (λ (t : List ℕ). part ++ t) (ap (λ (t : List ℕ). t ++ rest) e ∙ append_assoc piece new rest) ∙ sym (append_assoc part piece (new ++ rest));
+  no_feed = All-append (λ b. ends_line b ≡ false) part piece l.no_feed none;
+  kept = kept ∙ ap (λ (t : List ℕ). take 201 (t ++ piece)) l.kept ∙ take-take-append 201 part piece;
+}
+
+-- all that was read
+pub line_all : (whole line longer part piece old rest : List ℕ) → IsLine whole line part (old ++ rest)
+    → HasNoFeed piece → old ≡ piece → longer ≡ take 201 (line ++ piece) → IsLine whole longer (part ++ piece) rest
+line_all whole line longer part piece old rest l none e kept =
+    line_piece whole line longer part piece old [] rest l none (e ∙ sym (append-nil piece)) kept
+
+pub empty_part : (line part : List ℕ) → line ≡ take 201 part → true ≡ length line == 0 → part ≡ []
+empty_part line part kept test = go part (omega (arith, none, length-take 201 part, ap length kept)) where
+  none : length line ≡ 0
+  none = grind (arith, nat_tests)
+
+  go : (p : List ℕ) → length p ≡ 0 → p ≡ []
+  go [] e = refl
+  go (x ∷ xs) e = absurd (omega arith)
+
+pub some_part : (line part : List ℕ) → line ≡ take 201 part → false ≡ length line == 0 → 0 < length part
+some_part line part kept test = omega (arith, some, length-take 201 part, ap length kept) where
+  some : 0 < length line
+  some = grind (arith, nat_tests)

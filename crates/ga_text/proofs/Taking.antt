@@ -1,23 +1,70 @@
 -- Arguments mean what they spell, and spell what they mean.
-use Rattle.std.specs.Prelude.{nat_le, nat_lt, ◌==◌, option_map}
+use Rattle.std.specs.Prelude.{◌==◌, nat_le, nat_lt, option_map, slice_range}
+use Rattle.std.proofs.Common.{◌≡◌, ◌≢◌, ℕ, zero, suc, Bool, true, false, cond, ◌+◌, ◌<◌, List, [], ◌∷◌, ◌++◌, length, take, drop, get_or, Option, Some, None, arith, ap, refl, ◌∙◌, add-one, ◌-◌, ◌*◌, ◌/◌, ◌%◌, ◌^◌, ◌≤◌, ◌&&◌, decimal, sym, append_assoc, min, length-take, take-append-drop, drop-cons, Result, Ok, Err, rules}
+use Rattle.std.proofs.lemmas.Bool.{ne_eqb, eqb-true}
+use Rattle.std.specs.List.{AllByRecursion}
+use Rattle.ga_text.specs.Parsing.{cut, in_front, IsNumber, SpellsAddress, node_in, fitting, with_digit, with_digits, number_in}
 use Rattle.std.specs.Str.{str_to_ascii_lowercase}
 use Rattle.std.specs.Char.{to_ascii_lowercase}
-use Rattle.std.proofs.Common.{◌≡◌, ◌≢◌, ℕ, ◌+◌, ◌-◌, ◌*◌, ◌/◌, ◌%◌, ◌^◌, ◌<◌, ◌≤◌, Bool, true, false, cond, ◌&&◌, List, [], ◌∷◌, ◌++◌, decimal, Option, Some, None, refl, sym, ◌∙◌, ap, arith, append_assoc}
 use Rattle.std.proofs.lemmas.Bool.Decides.{nat_tests}
-use Rattle.std.proofs.lemmas.Bool.{ne_eqb}
-use Rattle.std.proofs.lemmas.List.{append-nil}
+use Rattle.std.proofs.lemmas.List.{append-nil, take_all, drop-take, drop-drop}
 use Rattle.std.proofs.lemmas.Fmt.{decimal_step, decimal_digit, decimal_by_steps}
 use Rattle.ga_word.specs.Word.{hex_digit}
-use Rattle.ga_grid.specs.Grid.{yxx_of, node_of, node_id}
+use Rattle.ga_grid.specs.Grid.{yxx_of, node_of, node_id, decimal_digit as digit_in, node_number}
 use Rattle.ga_grid.specs.declared.node_id.NodeId.{NodeId}
 use Rattle.ga_grid.proofs.NodeIds.{node_id-number}
-use Rattle.ga_grid.specs.Names.{decimal_digit as digit_in, node_number}
-use Rattle.ga_text.specs.Digits.{byte_in, decimal3_of, hex2_of}
+use Rattle.ga_text.specs.Digits.{byte_in, decimal3_of, hex2_of, name_of_node}
 use Rattle.ga_ports.specs.Steps.{◌>>=◌}
 use Rattle.ga_text.proofs.Numbers.{cell_spelled, cell_read, node_spelled, node_read}
-use Rattle.ga_text.specs.Names.{name_of_node}
-use Rattle.ga_text.specs.Parsing.{IsNumber, SpellsAddress, node_in, fitting, with_digit, with_digits, number_in}
-use Rattle.ga_text.proofs.Cuts.{IsWord}
+use Rattle.std.proofs.Math.Seq.{take-append-add, take-suc}
+use Rattle.std.proofs.lemmas.List.Elements.{All-from_get_or}
+use Rattle.std.specs.Result.{IsOk, OnOk, OnErr}
+use Rattle.ga_text.specs.Lines.{ends_line, HasNoFeed, ended}
+
+-- ---- A text is cut at its first space
+
+-- another byte belongs to the first part
+past_byte : (b : ℕ) (text : List ℕ) → b ≢ 32 → cut (b ∷ text) ≡ in_front b (cut text)
+past_byte b text other = rw (ne_eqb b 32 other) refl
+
+pub at_space : (text : List ℕ) (i : ℕ) → i < length text → ((k : ℕ) → k < i → get_or text k 0 ≢ 32) → get_or text i 0 ≡ 32 → cut text ≡ Some (take i text, drop (i + 1) text)
+at_space [] i within none space = absurd (omega arith)
+at_space (b ∷ text) zero within none space = rw space refl
+at_space (b ∷ text) (suc i) within none space =
+    let again : cut text ≡ Some (take i text, drop (i + 1) text) = at_space text i (omega arith) (λ k below. none (suc k) (omega arith)) space in
+    past_byte b text (none 0 (omega arith)) ∙ ap (in_front b) again ∙ rw (add-one, add-one) refl
+
+pub no_space : (text : List ℕ) → ((k : ℕ) → k < length text → get_or text k 0 ≢ 32) → cut text ≡ None
+no_space [] none = refl
+no_space (b ∷ text) none = past_byte b text (none 0 (omega arith)) ∙ ap (in_front b) (no_space text (λ k below. none (suc k) (omega arith)))
+
+-- a word has no space
+abbrev pub IsWord : List ℕ → Type 0
+IsWord word = AllByRecursion (λ b. b ≢ 32) word
+
+-- a word and a space are cut there
+pub word_cut : (word rest : List ℕ) → IsWord word → cut (word ++ 32 ∷ rest) ≡ Some (word, rest)
+word_cut [] rest is = refl
+word_cut (b ∷ word) rest is = past_byte b (word ++ 32 ∷ rest) is.0 ∙ ap (in_front b) (word_cut word rest is.1)
+
+joined : (b : ℕ) (text : List ℕ) (found : Option (List ℕ × List ℕ)) (parts : List ℕ × List ℕ)
+    → ((some : List ℕ × List ℕ) → found ≡ Some some → text ≡ some.0 ++ 32 ∷ some.1) → in_front b found ≡ Some parts → b ∷ text ≡ parts.0 ++ 32 ∷ parts.1
+joined b text None parts is e = cc
+joined b text (Some some) parts is e =
+    let same : (b ∷ some.0, some.1) ≡ parts = cc in
+    ap (λ (t : List ℕ). b ∷ t) (is some refl) ∙ ap (λ (p : List ℕ × List ℕ). p.0 ++ 32 ∷ p.1) same
+
+at_test : (t : Bool) (b : ℕ) (text : List ℕ) (parts : List ℕ × List ℕ) → (t ≡ true → b ≡ 32)
+    → ((some : List ℕ × List ℕ) → cut text ≡ Some some → text ≡ some.0 ++ 32 ∷ some.1) → cond t (Some ([], text)) (in_front b (cut text)) ≡ Some parts → b ∷ text ≡ parts.0 ++ 32 ∷ parts.1
+at_test true b text parts space again e =
+    let same : ([], text) ≡ parts = cc in
+    ap (λ (c : ℕ). c ∷ text) (space refl) ∙ ap (λ (p : List ℕ × List ℕ). p.0 ++ 32 ∷ p.1) same
+at_test false b text parts space again e = joined b text (cut text) parts again e
+
+-- what was cut is the whole with the space
+pub cut_joined : (text : List ℕ) (parts : List ℕ × List ℕ) → cut text ≡ Some parts → text ≡ parts.0 ++ 32 ∷ parts.1
+cut_joined [] parts e = cc
+cut_joined (b ∷ text) parts e = at_test (b == 32) b text parts (eqb-true b 32) (λ some f. cut_joined text some f) e
 
 -- the first step gave something
 pub first_step : {A B : Type 0} (o : Option A) (f : A → Option B) (y : B) → (o >>= f) ≡ Some y → (x : A) × (o ≡ Some x) × (f x ≡ Some y)
@@ -199,3 +246,66 @@ address_byte (a ∷ b ∷ []) address is =
     cell_read a b address is.in_range high low
 address_byte (a ∷ b ∷ c ∷ word) address is =
     let e : (to_ascii_lowercase a ∷ to_ascii_lowercase b ∷ to_ascii_lowercase c ∷ str_to_ascii_lowercase word) ≡ hex2_of address = is.digits in cc
+
+-- ---- parts of the input
+
+pub not_feed : (b : ℕ) → (b ≡ 10 → ⊥) → ends_line b ≡ false
+not_feed b h = grind (arith, nat_tests)
+
+-- bytes none of which is a line feed
+pub no_feed : (bytes : List ℕ) → ((k : ℕ) → k < length bytes → get_or bytes k 0 ≢ 10) → HasNoFeed bytes
+no_feed bytes h = All-from_get_or (λ b. ends_line b ≡ false) bytes 0 (λ k below. not_feed (get_or bytes k 0) (h k below))
+
+-- as much of the bytes as there is room for behind a line
+pub kept_bytes : (line bytes : List ℕ) (room : ℕ) → room + length line ≡ 201 → line ++ take (min room (length bytes)) bytes ≡ take 201 (line ++ bytes)
+kept_bytes line bytes room e =
+    let whole : length line + room ≡ 201 = omega arith in
+    ap (λ (t : List ℕ). line ++ t) (take_min room bytes)
+    ∙ sym (take-append-add line bytes room) ∙ ap (λ (n : ℕ). take n (line ++ bytes)) whole
+  where
+    take_min : (n : ℕ) (xs : List ℕ) → take (min n (length xs)) xs ≡ take n xs
+    take_min n xs = grind (arith, take_all {A = ℕ})
+
+pub no_bytes : (bytes : List ℕ) → true ≡ length bytes == 0 → bytes ≡ []
+no_bytes [] e = refl
+no_bytes (b ∷ bytes) e = absurd (let some : length (b ∷ bytes) ≡ 0 = grind (arith, nat_tests) in omega arith)
+
+-- what holds where a call succeeds, where it does
+pub where_ok : {T E : Type 0} (r : Result T E) (P : Type 0) → IsOk r → OnOk r P → P
+where_ok (Ok x) P ok h = h
+where_ok (Err e) P ok h = absurd (search rules)
+
+-- What stands from start to end, with a line feed behind its first bytes, is these bytes and what stands behind the line feed.
+pub range_at_feed : (block : List ℕ) (start stop count : ℕ) → stop ≤ length block → count < length (slice_range block start stop)
+    → get_or (slice_range block start stop) count 0 ≡ 10
+    → slice_range block start stop ≡ take count (slice_range block start stop) ++ 10 ∷ slice_range block (start + (count + 1)) stop
+range_at_feed block start stop count within below feed =
+    let whole : List ℕ = slice_range block start stop in
+    let more : ℕ = stop - (start + (count + 1)) in
+    let size : stop - start ≡ suc count + more = omega (arith, length-take (stop - start) (drop start block)) in
+    let next : start + suc count ≡ start + (count + 1) = omega arith in
+    let behind : drop (suc count) whole ≡ slice_range block (start + (count + 1)) stop =
+    ap (λ (n : ℕ). drop (suc count) (take n (drop start block))) size ∙ drop-take (suc count) more (drop start block)
+    ∙ ap (take more) (drop-drop (suc count) start block ∙ ap (λ (n : ℕ). drop n block) next) in
+    sym (take-append-drop count whole)
+    ∙ ap (λ (t : List ℕ). take count whole ++ t) (drop-cons whole count 0 below ∙ ap (λ (b : ℕ). b ∷ drop (suc count) whole) feed ∙ ap (λ (t : List ℕ). 10 ∷ t) behind)
+
+-- what stands up to a line feed and with it
+pub take_feed : (bytes : List ℕ) (count : ℕ) → count < length bytes → get_or bytes count 0 ≡ 10 → take (count + 1) bytes ≡ ended (take count bytes)
+take_feed bytes count below feed =
+    let next : count + 1 ≡ suc count = omega arith in
+    ap (λ (n : ℕ). take n bytes) next ∙ take-suc bytes count 0 below ∙ ap (λ (b : ℕ). take count bytes ++ b ∷ []) feed
+
+-- what holds anyway holds where a call fails
+pub where_err : {T E : Type 0} (r : Result T E) (P : Type 0) → P → OnErr r P
+where_err (Ok x) P h = tt
+where_err (Err e) P h = h
+
+-- what stands behind the first bytes of what stands from start to end, and one more
+pub range_behind : (block : List ℕ) (start stop count : ℕ) → count + 1 ≤ stop - start
+    → slice_range block (start + (count + 1)) stop ≡ drop (count + 1) (slice_range block start stop)
+range_behind block start stop count within =
+    let more : ℕ = stop - (start + (count + 1)) in
+    let size : stop - start ≡ (count + 1) + more = omega arith in
+    sym (ap (λ (n : ℕ). drop (count + 1) (take n (drop start block))) size ∙ drop-take (count + 1) more (drop start block)
+    ∙ ap (take more) (drop-drop (count + 1) start block ∙ ap (λ (n : ℕ). drop n block) (omega arith)))

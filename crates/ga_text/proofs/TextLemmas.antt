@@ -6,8 +6,8 @@ use Rattle.std.proofs.lemmas.List.Elements.{recursion_from_All}
 use Rattle.ga_text.specs.Lines.{lines_of, with_byte, ends_line, HasNoFeed, ended, text_of, onto_first, ended_lines}
 use Rattle.ga_grid.specs.Grid.{yxx_of}
 use Rattle.ga_grid.specs.declared.node_id.NodeId.{NodeId}
-use Rattle.ga_text.specs.Names.{name_of_node}
-use Rattle.ga_text.specs.kept.Digits.{two_digits}
+use Rattle.ga_text.specs.Digits.{name_of_node}
+use Rattle.ga_text.specs.kept.{two_digits}
 
 -- no line feed, byte by byte
 NoFeed : List ℕ → Type 0

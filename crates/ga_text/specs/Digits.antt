@@ -1,9 +1,11 @@
 -- Digits: decimal ones and hexadecimal ones (docs/REFERENCE.md, "Images").
-use Rattle.std.specs.Prelude.{ℕ, ◌+◌, ◌*◌, ◌/◌, ◌%◌, List, [], ◌∷◌, Option, Some, None, flat_map}
+use Rattle.std.specs.Prelude.{ℕ, ◌+◌, ◌*◌, ◌/◌, ◌%◌, List, [], ◌∷◌, Option, Some, None, flat_map, ◌++◌, codes, decimal}
 use Rattle.ga_text.specs.Lines.{Text}
 use Rattle.hex.specs.Hex.{hex_digit_value}
 use Rattle.ga_word.specs.Word.{hex_digit, hex6_of}
 use Rattle.ga_ports.specs.Steps.{◌>>=◌}
+use Rattle.ga_grid.specs.Grid.{yxx_of}
+use Rattle.ga_grid.specs.declared.node_id.NodeId.{NodeId}
 
 -- ---- written
 
@@ -28,3 +30,13 @@ byte_in (x ∷ y ∷ []) = do
   low ← hex_digit_value y
   Some (high * 16 + low)
 byte_in _ = None
+
+-- ---- the names of nodes and of their steps (docs/REFERENCE.md, "Sessions"; this project's own)
+
+-- a node's name: three decimal digits, of its row and its column
+abbrev pub name_of_node : NodeId → Text
+name_of_node node = decimal3_of (yxx_of node.number)
+
+-- a step of a node
+abbrev pub step_text : NodeId → ℕ → Text
+step_text node step = name_of_node node ++ codes " " ++ decimal step

@@ -1,11 +1,9 @@
 pub mod Lines
 pub mod Digits
-pub mod Names
 pub mod Parsing
 pub mod Input
 pub mod Output
 pub mod Lending
 pub mod Image
 pub mod ReadLine
-pub mod Whole
 pub mod kept

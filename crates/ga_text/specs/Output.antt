@@ -1,7 +1,33 @@
 -- What a session says first, and a text that was written in part.
-use Rattle.std.specs.Prelude.{◌≡◌, ◌++◌, Option, Some, Result, Ok, Err, codes}
+use Rattle.std.specs.Prelude.{◌≡◌, ◌<◌, ◌⊎◌, [], ◌++◌, length, Option, Some, Result, Ok, Err, codes}
 use Rattle.ga_text.specs.Lines.{Bytes, Text}
+use Rattle.ga_text.specs.Input.{input_limit, block_size}
+use Rattle.ga_text.specs.Image.{EndsAtEnd, HasNoEnd}
+use Rattle.ga_text.specs.declared.whole.WholeRead.{WholeRead}
+use Rattle.ga_text.specs.declared.whole.WholeRead.TheVariants.{Whole, TooLong, ReadFailed, NoMemory}
 use Rattle.ga_text.specs.declared.output.WriteFailed.{WriteFailed}
+
+-- ---- what reading a whole input does (docs/REFERENCE.md, "Source"; this project's own)
+
+-- The source goes up to its line `end`, and behind that only what the same read brought was read; or it is all of an input in
+-- which no line is `end`.
+abbrev pub IsReadWhole : Text → Bytes → Bytes → Type 0
+IsReadWhole source ahead rest = (EndsAtEnd source × (length ahead < block_size)) ⊎ ((ahead ≡ []) × (rest ≡ []) × HasNoEnd source)
+
+-- the text is all that is within the bound, and the byte that goes past it was read behind it
+abbrev pub IsTooLong : Text → Bytes → Type 0
+IsTooLong text ahead = (length text ≡ input_limit) × (length ahead ≡ 1) × HasNoEnd text
+
+-- the text was read whole, where read was read of the input and rest is left of it
+abbrev pub IsWholeText : Bytes → Bytes → Text → Type 0
+IsWholeText read rest text = (ahead : Bytes) × (read ≡ text ++ ahead) × IsReadWhole text ahead rest
+
+-- What a call that reads a whole input may do: read was read of it, and rest is left.
+abbrev pub ReadsWhole : Bytes → Bytes → WholeRead → Type 0
+ReadsWhole read rest (Whole text) = IsWholeText read rest text.items
+ReadsWhole read rest (TooLong text) = (ahead : Bytes) × (read ≡ text.items ++ ahead) × IsTooLong text.items ahead
+ReadsWhole read rest ReadFailed = HasNoEnd read
+ReadsWhole read rest NoMemory = Unit {0}
 
 -- the first that is said after an accepted image
 abbrev pub ready : Text

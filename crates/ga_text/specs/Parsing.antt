@@ -4,9 +4,8 @@ use Rattle.std.specs.Prelude.{◌≡◌, ℕ, ◌+◌, ◌*◌, ◌^◌, ◌<◌
 use Rattle.std.specs.Str.{str_to_ascii_lowercase}
 use Rattle.ga_text.specs.Lines.{Text}
 use Rattle.ga_text.specs.Digits.{hex2_of}
-use Rattle.ga_grid.specs.Grid.{node_of, node_id}
+use Rattle.ga_grid.specs.Grid.{node_of, node_id, decimal_digit, node_number}
 use Rattle.ga_grid.specs.declared.node_id.NodeId.{NodeId}
-use Rattle.ga_grid.specs.Names.{decimal_digit, node_number}
 use Rattle.ga_ports.specs.Steps.{◌>>=◌}
 
 -- a byte more in front of the first part

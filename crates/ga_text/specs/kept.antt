@@ -1,4 +1,65 @@
-pub mod Digits
-pub mod Image
-pub mod Input
-pub mod Output
+-- What only private contracts and proofs name.
+use Rattle.std.specs.Prelude.{ℕ, ◌+◌, ◌/◌, ◌%◌, [], ◌∷◌, Bool, true, false, ◌≡◌, ◌<◌, length, ◌++◌, Option, Result}
+use Rattle.ga_text.specs.Lines.{Text, Line, ended, Bytes, HasNoFeed}
+use Rattle.ga_text.specs.declared.input.Fill.{Fill}
+use Rattle.ga_text.specs.declared.input.Fill.TheVariants.{More, End, Past, Failed}
+use Rattle.ga_text.specs.Input.{Unread, input_limit}
+use Rattle.ga_text.specs.declared.output.WriteFailed.{WriteFailed}
+use Rattle.ga_text.specs.Output.{IsSaid, IsSaidOrCut}
+
+-- ---- numbers in two and in four digits
+
+-- the two digits of a number below 100
+abbrev pub two_digits : ℕ → Text
+two_digits n = (48 + n / 10) ∷ (48 + n % 10) ∷ []
+
+-- the last four digits of a number
+abbrev pub four_digits : ℕ → Text
+four_digits n = (48 + n / 1000 % 10) ∷ (48 + n / 100 % 10) ∷ (48 + n / 10 % 10) ∷ (48 + n % 10) ∷ []
+
+-- ---- what reading the image part does
+
+-- a part with its line feed, if it has one
+abbrev pub with_feed : Line → Bool → Text
+with_feed part true = ended part
+with_feed part false = part
+
+-- ---- what was read of an input and is not taken yet, and how more is read
+
+-- What one read of more does: input is what the reader has left before it, rest what it has left afterwards, bytes what was read.
+abbrev pub Fills : ℕ → Bytes → Bytes → Bytes → Fill → Type 0
+Fills taken input bytes rest More = input ≡ bytes ++ rest
+Fills taken input bytes rest End = (input ≡ []) × (rest ≡ [])
+Fills taken input bytes rest Past = (taken ≡ input_limit) × ((b : ℕ) × (input ≡ b ∷ rest))
+Fills taken input bytes rest Failed = rest ≡ input
+
+-- there are bytes now, or none
+abbrev pub HasFilled : Bytes → Fill → Type 0
+HasFilled bytes More = 0 < length bytes
+HasFilled bytes End = bytes ≡ []
+HasFilled bytes Past = bytes ≡ []
+HasFilled bytes Failed = bytes ≡ []
+
+-- A part was taken: up to a line feed, which is taken too, or all that was read.
+abbrev pub TakesPart : Unread → Bytes → Unread → Bool → Type 0
+TakesPart old part new true = HasNoFeed part × (old.bytes ≡ part ++ 10 ∷ new.bytes) × (new.taken ≡ old.taken + length part + 1)
+TakesPart old part new false = HasNoFeed part × (old.bytes ≡ part) × (new.bytes ≡ []) × (new.taken ≡ old.taken + length part)
+
+-- ---- what was said to an output, which gathers it before it writes
+
+-- Such a text is said, or cut short by a failed write: contents and pending are what the writer holds and what waits before
+-- the call, held and left the same after it.
+abbrev pub Says : {T : Type 0}
+    → Result T WriteFailed
+    → (Text → Type 0)
+    → Option Bytes
+    → Text
+    → Option Bytes
+    → Text
+    → Type 0
+Says result IsText contents pending held left =
+    (before said : Text)
+    → IsSaid contents before said pending
+    → (text : Text)
+    × IsText text
+    × IsSaidOrCut result held before (said ++ text) left

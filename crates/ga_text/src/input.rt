@@ -2,8 +2,7 @@
 ghost use Rattle.std.specs.Prelude.{◌≡◌, ◌+◌, ◌≤◌, ◌<◌, ◌++◌, ◌∷◌, true, [], length, take, drop, slice_index, Some, IfSome, IfNone, IfOk, OnErr};
 ghost use Rattle.ga_text.specs.Lines.{Bytes, HasNoFeed};
 ghost use Rattle.ga_text.specs.Input.{Unread, IsWithin, block_size};
-ghost use Rattle.ga_text.specs.kept.Input.{Fills, HasFilled, TakesPart};
-ghost use Rattle.ga_text.specs.kept.Image.{with_feed};
+ghost use Rattle.ga_text.specs.kept.{Fills, HasFilled, TakesPart, with_feed};
 
 use super::lines::{LineBuffer, keep};
 use std::alloc::AllocError;
@@ -165,7 +164,7 @@ impl Input {
 }
 
 /// Where the first line feed stands.
-#[tactic(auto, using(crate::proofs::PartLemmas::no_feed))]
+#[tactic(auto, using(crate::proofs::Taking::no_feed))]
 pub fn feed_at(bytes: &[u8]) -> Option<usize>
     ensures found { IfSome result (λ count. (count < length bytes.now)
         × HasNoFeed (take count bytes.now) × (slice_index bytes.now count ≡ 10)) }

@@ -70,7 +70,7 @@ pub fn keep(line: &mut LineBuffer, bytes: &[u8])
 }
 
 /// The first line, without its line feed, and the text after it.
-#[tactic(auto, using(crate::proofs::Feeds::at_feed, crate::proofs::Feeds::no_feed))]
+#[tactic(auto, using(crate::proofs::Numbers::at_feed, crate::proofs::Numbers::no_feed))]
 pub fn first_line(text: &[u8]) -> (&[u8], &[u8])
     requires { 0 < length text.now }
     ensures splits { lines_of text.now ≡ result.0.now ∷ lines_of result.1.now }

@@ -1,7 +1,7 @@
 //! An input that is read whole before anything is made of it: source, or an image without commands.
 ghost use Rattle.std.specs.Prelude.{◌≡◌, ◌++◌, Some};
 ghost use Rattle.ga_text.specs.Lines.{Bytes};
-ghost use Rattle.ga_text.specs.Whole.{ReadsWhole};
+ghost use Rattle.ga_text.specs.Output.{ReadsWhole};
 
 use super::image::{ImageEnd, read_image};
 use super::input::Input;

@@ -1,14 +1,13 @@
 //! The words of a line: where one ends, and the node or the number that it names.
 
 ghost use Rattle.std.specs.Prelude.{◌≡◌, ◌+◌, ◌*◌, ◌<◌, [], ◌∷◌, option_map};
-ghost use Rattle.ga_grid.specs.Grid.{node_of as node_numbered, node_id};
-ghost use Rattle.ga_grid.specs.Names.{decimal_digit};
+ghost use Rattle.ga_grid.specs.Grid.{node_of as node_numbered, node_id, decimal_digit};
 ghost use Rattle.ga_text.specs.Parsing.{cut, node_in, number_in, with_digit};
 
 use ga_grid::{NodeId, decimal_digit};
 
 /// The text before the first space, and the text behind it.
-#[tactic(auto, using(crate::proofs::Cuts::at_space, crate::proofs::Cuts::no_space))]
+#[tactic(auto, using(crate::proofs::Taking::at_space, crate::proofs::Taking::no_space))]
 pub fn cut(text: &[u8]) -> Option<(&[u8], &[u8])>
     ensures { option_map (λ parts. (parts.0.now, parts.1.now)) result ≡ cut text.now }
 {
@@ -21,7 +20,7 @@ pub fn cut(text: &[u8]) -> Option<(&[u8], &[u8])>
 }
 
 /// The node that is named by three decimal digits: its row, and two of its column.
-#[tactic(auto, unfolding(crate::specs::Parsing::node_in, ga_grid::specs::Names::node_number))]
+#[tactic(auto, unfolding(crate::specs::Parsing::node_in, ga_grid::specs::Grid::node_number))]
 pub fn node_in(word: &[u8]) -> Option<NodeId>
     ensures { result ≡ node_in word.now }
 {
@@ -32,7 +31,7 @@ pub fn node_in(word: &[u8]) -> Option<NodeId>
 }
 
 /// The node of three such digits.
-#[tactic(auto, unfolding(crate::specs::Parsing::node_in, ga_grid::specs::Names::node_number))]
+#[tactic(auto, unfolding(crate::specs::Parsing::node_in, ga_grid::specs::Grid::node_number))]
 #[inline(always)]
 pub fn node_named(row: u8, tens: u8, ones: u8) -> Option<NodeId>
     ensures { result ≡ node_in (row ∷ tens ∷ ones ∷ []) }

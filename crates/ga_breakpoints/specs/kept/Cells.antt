@@ -1,12 +1,13 @@
 -- The cells from which the nodes' words came, as far as they were looked back for (F18A Technology Reference DB001, instruction fetch): each is kept until its
 -- node may have taken another word. What is hit by them.
+use Rattle.ga_event.specs.declared.made.Made.TheVariants as made
+use Rattle.ga_search.specs.declared.watched.WatchedEnd.TheVariants as the_end
 use Rattle.std.specs.Prelude.{ℕ, ◌+◌, ◌-◌, ◌==◌, Bool, ◌&&◌, ◌||◌, not, if◌then◌else◌, is_some, List, [], ◌∷◌, slice_set, slice_index_or, Option, Some, None}
 use Rattle.std.specs.List.{slice_get}
 use Rattle.ga_node.specs.Record.{NodeRecord}
 use Rattle.ga_grid.specs.declared.node_id.NodeId.{NodeId}
 use Rattle.ga_grid.specs.Chip.{record_at}
 use Rattle.ga_event.specs.declared.made.Made.{Made}
-use Rattle.ga_event.specs.declared.made.Made.TheVariants as made
 use Rattle.ga_event.specs.Told.{steps_of}
 use Rattle.ga_lab.specs.Machine.{State, chip_of, history_of}
 use Rattle.ga_origin.specs.Fetched.{fetched_cell}
@@ -21,6 +22,10 @@ use Rattle.ga_breakpoints.specs.Back.{arrives, is_at_spot}
 use Rattle.ga_breakpoints.specs.Breakpoints.{has_done, hit_counted, is_stopping}
 use Rattle.ga_breakpoints.specs.Conditions.{meets_test}
 use Rattle.ga_breakpoints.specs.kept.Words.{keeps_kind}
+use Rattle.ga_search.specs.declared.watched.WatchedEnd.{WatchedEnd}
+use Rattle.ga_breakpoints.specs.declared.halts.Halting.{Halting}
+use Rattle.ga_breakpoints.specs.declared.going.Halt.{Halt}
+use Rattle.ga_breakpoints.specs.declared.going.Halt.TheVariants.{Hit, Stopped, Moved, Cut, Quiet, Refused}
 
 -- by the numbers of the nodes: known or not, and of a memory or not
 abbrev pub Cells : Type 0
@@ -90,3 +95,29 @@ cells_behind breakpoints told s cells = cells_from told s breakpoints (cells_lef
 
 abbrev pub ends_by : List Breakpoint → Cells → HitTally → Bool → Option NodeId → Made → State → Bool
 ends_by breakpoints cells tally stops node told s = is_some (tally_by breakpoints told s cells tally).hit || is_stopping stops node told
+
+-- ---- why a move ended, by how its run did
+
+-- by this event
+abbrev pub halt_hit : Bool → Made → Option ℕ → Halt
+halt_hit stopping told (Some which) = Hit told which
+halt_hit stopping told None = if stopping then Stopped told else Moved told
+
+abbrev pub halt_by : Option ℕ → Bool → Option NodeId → Made → Halt
+halt_by hit stops node told = halt_hit (is_stopping stops node told) told hit
+
+-- by this end, where the newest event hit this one
+abbrev pub halt_of : Option ℕ → Bool → Option NodeId → WatchedEnd → Halt
+halt_of hit stops first (the_end.Seen told) = halt_by hit stops first told
+halt_of hit stops first the_end.Made = Cut
+halt_of hit stops first the_end.Quiet = Quiet
+halt_of hit stops first (the_end.Refused why) = Refused why
+
+-- ---- what watches, behind an event
+
+abbrev pub with_hits : Halting → Made → State → Halting
+with_hits w told s =
+    record w {
+      halts = record w.halts { tally = tally_by w.halts.breakpoints.now told s w.cells w.halts.tally };
+      cells = cells_behind w.halts.breakpoints.now told s w.cells;
+    }

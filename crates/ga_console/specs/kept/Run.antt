@@ -1,16 +1,90 @@
 -- What is written once the image was read.
-use Rattle.std.specs.Prelude.{◌≡◌, ℕ, ◌-◌, ◌⊎◌, ◌++◌, Result}
-use Rattle.ga_text.specs.Lines.{Bytes, Text}
+use Rattle.std.specs.Prelude.{◌≡◌, ◌≢◌, ◌≤◌, ◌<◌, ℕ, ◌∷◌, ◌++◌, length, take, slice_index, decimal, ◌+◌, [], Result, Ok, Err, ◌⊎◌, ◌-◌}
+use Rattle.ga_text.specs.Lines.{Bytes, Line, longest, HasNoFeed, Text}
+use Rattle.ga_text.specs.Parsing.{IsNumber}
+use Rattle.ga_console.specs.Commands.{SpellsCommand}
+use Rattle.ga_console.specs.Session.{quit_line, Answering, Serves, Written}
+use Rattle.ga_console.specs.declared.command.Command.{Command}
+use Rattle.ga_console.specs.declared.ahead.Ahead.{Ahead}
+use Rattle.ga_console.specs.declared.ahead.Ahead.TheVariants.{Spelled, Other, Nothing}
+use Rattle.ga_text.specs.declared.output.WriteFailed.{WriteFailed}
+use Rattle.ga_console.specs.declared.responder.Turn.{Turn}
+use Rattle.ga_console.specs.declared.responder.Turn.TheVariants.{Answered, Quit}
+use Rattle.ga_text.specs.Output.{Begins, ready}
+use Rattle.ga_console.specs.declared.run.Status.{Status}
+use Rattle.ga_console.specs.declared.run.Status.TheVariants.{Done, ImageRefused, StreamFault, NotFinished}
+use Rattle.ga_console.specs.Race.{IsReport, IsRefusal, IsCutShort}
 use Rattle.ga_image.specs.declared.fault.ImageFault.{ImageFault}
 use Rattle.ga_text.specs.Input.{input_limit}
-use Rattle.ga_text.specs.Output.{ready}
 use Rattle.ga_lab.specs.Machine.{State}
-use Rattle.ga_console.specs.Turns.{Answering}
-use Rattle.ga_console.specs.Session.{Serves, Written}
 use Rattle.ga_console.specs.declared.commands.Ending.{Ending}
-use Rattle.ga_text.specs.declared.output.WriteFailed.{WriteFailed}
-use Rattle.ga_console.specs.declared.run.Status.{Status}
 use Rattle.ga_console.specs.Run.{status_of, Refuses, Opens, IsFault}
+
+-- ---- A line that was read whole and is not taken yet
+
+-- the bytes begin with a line of so many bytes that spells the command, which isn't quit
+pub record IsAhead (bytes : Bytes) (asked : Command) (count : ℕ) : Type 0 where
+  pub line : Line
+  pub more : Bytes
+  pub splits : bytes ≡ line ++ 10 ∷ more
+  pub no_feed : HasNoFeed line
+  pub counts : length line ≡ count
+  pub short : count ≤ longest
+  pub spelled : SpellsCommand asked line
+  pub not_quit : line ≢ quit_line
+
+-- a line of so many bytes stands in front of the bytes, with its line feed
+pub record IsLineAhead (bytes : Bytes) (count : ℕ) : Type 0 where
+  pub below : count < length bytes
+  pub no_feed : HasNoFeed (take count bytes)
+  pub feed : slice_index bytes count ≡ 10
+  pub short : count ≤ longest
+
+-- a number of so many digits stands in front of the bytes, with a line feed behind it
+pub record IsNumberAhead (bytes : Bytes) (number digits : ℕ) : Type 0 where
+  pub line : IsLineAhead bytes digits
+  pub few : digits ≤ 20
+  pub fits : IsNumber number
+  pub spelled : take digits bytes ≡ decimal number
+
+-- what stands in front of the bytes
+abbrev pub StandsAhead : Bytes → Ahead → Type 0
+StandsAhead bytes (Spelled asked count) = IsAhead bytes asked count
+StandsAhead bytes (Other count) = IsLineAhead bytes count
+StandsAhead bytes Nothing = Unit {0}
+
+-- ---- what private contracts, invariants and bridges cite
+
+-- a line, of which the first `longest + 1` bytes are here, is answered and isn't quit
+abbrev pub AnswersLine : {M : Type 0} → Answering M → M → Line → Text → M → Type 0
+AnswersLine A m line answer new = (part : Line) → line ≡ take (longest + 1) part → A m part answer new × (part ≢ quit_line)
+
+-- it is answered, as far as the answer can be written, or ends the session
+abbrev pub Turns : {M : Type 0} → Answering M → M → Line → M → Result Turn WriteFailed → Text → Type 0
+Turns A m line new (Ok Answered) answer = AnswersLine A m line answer new
+Turns A m line new (Ok Quit) answer = (line ≡ quit_line) × (new ≡ m) × (answer ≡ [])
+Turns A m line new (Err failed) answer = AnswersLine A m line answer new
+
+-- a line that spells this command of the debugger is answered
+abbrev pub AnswersCommand : {M : Type 0} → Answering M → M → Command → M → Text → Type 0
+AnswersCommand A m asked new answer = (line : Line) → length line ≤ longest → SpellsCommand asked line → A m line answer new
+
+-- ---- what a race writes once the image was read
+
+-- a text was written whole, or that failed
+abbrev pub Writes : Bytes → Text → Status → Type 0
+Writes whole text Done = text ≡ whole
+Writes whole text StreamFault = Begins whole text
+Writes whole text ImageRefused = ⊥
+Writes whole text NotFinished = ⊥
+
+-- What may be written once the image was read.
+abbrev pub Races : ℕ → ℕ → ℕ → Bytes → Text → Status → Type 0
+Races limit workers calls image text Done = IsReport limit workers calls image text
+Races limit workers calls image text ImageRefused = IsRefusal image text
+Races limit workers calls image text StreamFault =
+    IsCutShort (IsReport limit workers calls image) text ⊎ IsCutShort (IsRefusal image) text
+Races limit workers calls image text NotFinished = text ≡ []
 
 -- What may be written after the image was read, of which so many bytes were taken: ahead is what was read with it. Where it is
 -- refused, no more is read.

@@ -1,13 +1,39 @@
 -- A line and a memory's field, as the code has them.
-use Rattle.std.specs.Prelude.{ℕ}
-use Rattle.ga_image.specs.declared.field.Field.{Field}
-use Rattle.ga_image.specs.declared.field.Field.TheVariants.{Ram, Rom}
-use Rattle.ga_image.specs.declared.line.Line.{Line}
 use Rattle.ga_image.specs.declared.line.Line.TheVariants as line
-use Rattle.ga_image.specs.declared.field.Bank.{Bank}
 use Rattle.ga_image.specs.declared.field.Bank.TheVariants as bank
+use Rattle.ga_image.specs.declared.parser.Stage.TheVariants as expects
+use Rattle.std.specs.Prelude.{◌<◌, ℕ, List}
+use Rattle.ga_image.specs.declared.field.Field.{Field}
+use Rattle.ga_image.specs.declared.field.Field.TheVariants.{Data, Return, Ram, Rom, Wait}
+use Rattle.std.specs.List.{AllByRecursion}
+use Rattle.ga_node.specs.State.{IsWaitCode}
+use Rattle.ga_image.specs.declared.line.Line.{Line}
+use Rattle.ga_image.specs.declared.field.Bank.{Bank}
 use Rattle.ga_image.specs.Spelling.{Form, Node, Words, End}
 use Rattle.ga_image.specs.Forms.{words_in_row}
+use Rattle.ga_image.specs.declared.parser.Parser.{Parser}
+use Rattle.ga_image.specs.declared.parser.Stage.{Stage as Expects}
+use Rattle.ga_image.specs.Reading.{Stage, Progress, Header, Open, Block, Ended}
+
+-- ---- fields with a cell that there is
+
+-- a register, a word that a stack has, or a cell that a memory has
+abbrev pub HasCell : Field → Type 0
+HasCell (Data k) = k < 10
+HasCell (Return k) = k < 9
+HasCell (Ram cell) = cell < 64
+HasCell (Rom cell) = cell < 64
+HasCell register = Unit {0}
+
+-- ---- words that may stand for a field
+
+-- a word for a field, which for a wait is the number of one
+abbrev pub HoldsCode : Field → ℕ → Type 0
+HoldsCode Wait word = IsWaitCode word
+HoldsCode _ word = Unit {0}
+
+abbrev pub AreCodes : Field → List ℕ → Type 0
+AreCodes field words = AllByRecursion (HoldsCode field) words
 
 -- a line, as contracts see it
 abbrev pub form_of : Line → Form
@@ -19,3 +45,29 @@ form_of line.End = End
 abbrev pub field_in : Bank → ℕ → Field
 field_in bank.Ram cell = Ram cell
 field_in bank.Rom cell = Rom cell
+
+-- ---- A parser, as contracts see it
+
+-- a stage, as contracts see it
+abbrev pub stage_of : Expects → Stage
+stage_of expects.Header = Header
+stage_of expects.Open = Open
+stage_of (expects.Block node) = Block node.number
+stage_of expects.Ended = Ended
+
+-- a parser, as contracts see it
+abbrev pub progress_of : Parser → Progress
+progress_of parser = record {
+  format = parser.format;
+  stage = stage_of parser.stage;
+  blocks = parser.blocks;
+  given = parser.given;
+  held = parser.held;
+  chip = parser.chip;
+}
+
+-- the header was read, and no end
+abbrev pub IsBehindHeader : Stage → Type 0
+IsBehindHeader Open = Unit {0}
+IsBehindHeader (Block node) = Unit {0}
+IsBehindHeader _ = ⊥

@@ -1,16 +1,21 @@
 -- The end of one history: the entry that an own event adds, and the one that is taken back.
-use Rattle.std.specs.Prelude.{◌≡◌, ℕ, List, [], ◌∷◌, ◌++◌, Some, slice_get}
+use Rattle.ga_event.specs.declared.event.Event.TheVariants as event
+use Rattle.ga_journal.specs.declared.entry.Act.TheVariants as act
+use Rattle.ga_event.specs.declared.made.Made.TheVariants as made
+use Rattle.std.specs.Prelude.{◌≡◌, ℕ, List, [], ◌∷◌, ◌++◌, Some, slice_get, ◌+◌, length, Option, None}
 use Rattle.ga_node.specs.Record.{NodeState}
 use Rattle.ga_node.specs.declared.place.Place.{Place}
 use Rattle.ga_grid.specs.Chip.{node_at}
 use Rattle.ga_grid.specs.declared.node_id.NodeId.{NodeId}
 use Rattle.ga_event.specs.declared.event.Deed.{Deed}
-use Rattle.ga_event.specs.declared.event.Event.TheVariants as event
-use Rattle.ga_event.specs.Undo.{own_effect, IsApplied, CanRestore, restored_at}
+use Rattle.ga_event.specs.Undo.{own_effect, IsApplied, CanRestore, restored_at, told_of}
 use Rattle.ga_journal.specs.declared.entry.Act.{Act}
-use Rattle.ga_journal.specs.declared.entry.Act.TheVariants as act
 use Rattle.ga_journal.specs.declared.entry.Head.{Head}
-use Rattle.ga_journal.specs.Histories.{Past, past}
+use Rattle.ga_journal.specs.Histories.{Past, past, history, appended}
+use Rattle.ga_event.specs.declared.event.Event.{Event}
+use Rattle.ga_event.specs.declared.event.Effect.{Effect}
+use Rattle.ga_event.specs.Apply.{Told, Did, Carried}
+use Rattle.ga_event.specs.declared.made.Made.{Made}
 
 -- the entry at a position has this stamp and this part
 pub record TellsOf (history : List Past) (at : ℕ) (head : Head) : Type 0 where
@@ -40,3 +45,22 @@ pub record IsGoneBack
   pub last : old ≡ new ++ entry ∷ []
   pub part : entry.act ≡ act
   pub node : now ≡ restored_at chip n entry.saved
+
+-- ---- what is told of a new event, by the histories alone
+
+-- what is told of an event by the lengths of the histories
+abbrev pub made_over : List (List Past) → Event → Told → Option Made
+made_over hs (event.Own node) (Did kind) = Some (made.Own node (length (history hs node.number) + 1) kind)
+made_over hs (event.Pass w r side) (Carried word) =
+    Some (made.Pass w (length (history hs w.number) + 1) r (length (history hs r.number) + 1) word)
+made_over hs (event.Own node) (Carried word) = None
+made_over hs (event.Pass w r side) (Did kind) = None
+
+-- the same of the histories alone
+pub record IsAdded
+    (hs : List (List Past)) (chip : List NodeState) (stamp : ℕ) (e : Event) (told : Made) (gs : List (List Past)) (now : List NodeState)
+    : Type 0 where
+  pub effect : Effect
+  pub applied : IsApplied chip e effect now
+  pub histories : gs ≡ appended hs stamp e effect
+  pub told_is : made_over hs e (told_of effect) ≡ Some told

@@ -1,7 +1,119 @@
 -- Histories as they are stored, with room to grow, and how their stamps rise.
-use Rattle.std.specs.Prelude.{ℕ, ◌+◌, ◌≤◌, List, [], ◌∷◌, map, slice_index_or, slice_set}
+use Rattle.std.specs.Prelude.{◌≡◌, ℕ, ◌+◌, ◌≤◌, List, [], ◌∷◌, ◌++◌, length, take, Some, slice_index, slice_set, ◌-◌, drop, zero, suc, ◌<◌, Bool, true, false, slice_index_or, map, ◌^◌}
+use Rattle.ga_event.specs.declared.event.Event.{Event}
+use Rattle.ga_event.specs.declared.event.Cause.{Cause}
+use Rattle.ga_event.specs.Undo.{told_of, cause_with, unapplied}
+use Rattle.ga_journal.specs.declared.entry.Head.{Head}
+use Rattle.ga_event.specs.declared.made.Made.{Made}
+use Rattle.ga_journal.specs.Histories.{Past, history, Book, past, Room, no_room}
+use Rattle.ga_event.specs.Told.{made_after}
+use Rattle.ga_journal.specs.Logs.{Stamped, Records}
+use Rattle.ga_journal.specs.Looks.{IsNewestLook, HasNoLook}
+use Rattle.ga_node.specs.Record.{NodeState}
+use Rattle.ga_event.specs.declared.event.Effect.{Effect}
+use Rattle.ga_journal.specs.Popped.{IsNewest}
 use Rattle.ga_journal.specs.declared.entry.Taken.{Taken}
-use Rattle.ga_journal.specs.Histories.{Past, past, Room, no_room, history}
+use Rattle.ga_journal.specs.Events.{kept_before}
+use Rattle.ga_journal.specs.Marks.{GoWithin, AreMatched}
+
+-- ---- histories cut to their first entries, and walking back over the log without taking anything out
+
+-- of each history so many entries
+abbrev pub cut : List (List Past) → List ℕ → List (List Past)
+cut [] ns = []
+cut (h ∷ hs) [] = h ∷ cut hs []
+cut (h ∷ hs) (n ∷ ns) = take n h ∷ cut hs ns
+
+-- no history is shorter than its cut
+abbrev pub IsCutWithin : List (List Past) → List ℕ → Type 0
+IsCutWithin hs lengths = (n : ℕ) → slice_index lengths n ≤ length (history hs n)
+
+-- the cut of node n is one entry less, which tells this
+pub record IsShorter (hs : List (List Past)) (lengths : List ℕ) (n : ℕ) (fewer : List ℕ) (head : Head) : Type 0 where
+  pub entry : Past
+  pub stamp : entry.stamp ≡ head.stamp
+  pub act : entry.act ≡ head.act
+  pub last : history (cut hs lengths) n ≡ history (cut hs fewer) n ++ entry ∷ []
+  pub others : cut hs fewer ≡ slice_set (cut hs lengths) n (history (cut hs fewer) n)
+  pub fits : IsCutWithin hs fewer
+  pub count : slice_index fewer n ≡ length (history (cut hs fewer) n)
+  pub less : slice_index fewer n + 1 ≡ slice_index lengths n
+  pub size : length fewer ≡ length lengths
+
+-- the events of a log, the oldest first, each with whether it looked
+abbrev pub older_causes : List Stamped → List Cause
+older_causes [] = []
+older_causes (x ∷ older) = older_causes older ++ cause_with x.event x.effect ∷ []
+
+-- the events alone
+abbrev pub older_events : List Stamped → List Event
+older_events [] = []
+older_events (x ∷ older) = older_events older ++ x.event ∷ []
+
+-- the histories, cut so, are those of these events
+pub record WalksBack (hs : List (List Past)) (lengths : List ℕ) (top : ℕ) (log : List Stamped) : Type 0 where
+  pub fits : IsCutWithin hs lengths
+  pub records : Records log (cut hs lengths) top
+
+-- the event is the first of the log, with whether it looked and what is told of it
+abbrev pub IsFirst : List Stamped → Cause → Made → Type 0
+IsFirst [] cause told = ⊥
+IsFirst (x ∷ older) cause told =
+    (cause_with x.event x.effect ≡ cause) × (made_after (older_events older) x.event (told_of x.effect) ≡ Some told)
+
+-- the others are left
+abbrev pub IsWalked : List (List Past) → List ℕ → ℕ → List Stamped → Type 0
+IsWalked hs lengths top [] = ⊥
+IsWalked hs lengths top (x ∷ older) = WalksBack hs lengths top older
+
+-- ---- where a telling of the kept events from the newest back stands
+
+-- the first entries, so many of each node, are those of the events that are not told
+pub record IsUntold (book : Book) (lengths : List ℕ) (top place : ℕ) : Type 0 where
+  pub log : List Stamped
+  pub records : Records log book.histories book.made
+  pub within : place ≤ length log
+  pub walks : WalksBack book.histories lengths top (drop (length log - place) log)
+  pub size : length lengths ≡ 144
+
+-- ---- what is told of the events of a log at places of their list, in which the oldest is at place 0
+
+abbrev pub IsToldAt : List Stamped → ℕ → Made → Type 0
+IsToldAt log place told = (cause : Cause) × IsFirst (drop (length log - place - 1) log) cause told
+
+-- of each place its event
+abbrev pub AreTold : List Stamped → List ℕ → List Made → Type 0
+AreTold log [] [] = Unit {0}
+AreTold log [] (told ∷ more) = ⊥
+AreTold log (place ∷ places) [] = ⊥
+AreTold log (place ∷ places) (told ∷ more) = IsToldAt log place told × AreTold log places more
+
+-- ---- one past the newest look, as a history stores it
+
+-- one past the newest of them, or 0
+abbrev pub IsPastNewest : List Past → ℕ → ℕ → Type 0
+IsPastNewest entries mark zero = HasNoLook entries mark
+IsPastNewest entries mark (suc at) = IsNewestLook entries mark at
+
+-- ---- where the nodes that wait stand
+
+-- each flag that is set stands from the first place on and below the end
+pub record IsWindow (flags : List Bool) (first past : ℕ) : Type 0 where
+  pub size : length flags ≡ 144
+  pub fits : past ≤ 144
+  pub from_first : (n : ℕ) → slice_index_or flags n false ≡ true → first ≤ n
+  pub below_past : (n : ℕ) → slice_index_or flags n false ≡ true → n < past
+
+-- ---- the newest event taken out, by the histories alone
+
+-- the event is the newest of whatever log the histories are of, it was taken back on the chip, and the histories left
+-- are those of the others
+pub record IsTakenOut
+    (hs : List (List Past)) (chip : List NodeState) (e : Event) (left : List (List Past)) (now : List NodeState)
+    : Type 0 where
+  pub effect : Effect
+  pub newest : (log : List Stamped) (made : ℕ) → Records log hs made → IsNewest log e effect left
+  pub chip_is : now ≡ unapplied chip e effect
 
 -- what an entry that was taken out kept
 abbrev pub past_of : Taken → Past
@@ -48,3 +160,35 @@ bound_from low (e ∷ es) = bound_from (e.stamp + 1) es
 
 abbrev pub bound_of : List Past → ℕ
 bound_of h = bound_from 0 h
+
+-- ---- the node whose last entry is the newest of all
+
+-- no node's stamps go past those of node n
+abbrev pub IsLatest : List (List Past) → ℕ → Type 0
+IsLatest hs n = (m : ℕ) → bound_of (history hs m) ≤ bound_of (history hs n)
+
+-- the node has an entry, and no stamp of another is above all of its own
+pub record IsTopmost (hs : List (List Past)) (n : ℕ) : Type 0 where
+  pub some : 0 < bound_of (history hs n)
+  pub greatest : IsLatest hs n
+
+-- ---- what each journal keeps at every moment, in a rollback too
+
+-- There is a history for each node, its stamps rise below the top, and so many events have an entry left.
+pub record Keeps (histories : List Held) (top made kept limit : ℕ) : Type 0 where
+  pub size : length histories ≡ 144
+  pub rise : AllRise (lists_of histories) top
+  pub below : top ≤ made
+  pub count : kept ≡ length (kept_before (lists_of histories) made)
+  pub within : kept ≤ limit
+  pub fits : limit < 2 ^ 32
+
+-- Besides, no more entries are to go than there are, and the entries of passes name each other.
+pub record IsJournal
+    (histories : List Held) (top made kept limit : ℕ) (going : List ℕ) (waiting : List Bool)
+    : Type 0 where
+  pub keeps : Keeps histories top made kept limit
+  pub go_within : GoWithin (lists_of histories) going
+  pub going_size : length going ≡ 144
+  pub waiting_size : length waiting ≡ 144
+  pub matched : AreMatched (lists_of histories)

@@ -1,9 +1,35 @@
 -- Sums over all marks, and whether the other entry of a pass is still there.
-use Rattle.std.specs.Prelude.{ℕ, Bool, false, List, length, Option, Some, None, nat_lt}
-use Rattle.std.specs.List.{sum_by, count_by}
+use Rattle.ga_event.specs.declared.made.Made.TheVariants as made
+use Rattle.std.specs.Prelude.{ℕ, ◌+◌, ◌≤◌, List, [], ◌∷◌, Bool, false, length, Option, Some, None, nat_lt}
+use Rattle.ga_grid.specs.declared.node_id.NodeId.{NodeId}
 use Rattle.ga_journal.specs.declared.entry.Act.{Act}
+use Rattle.ga_journal.specs.declared.entry.Act.TheVariants.{Own, Sent, Took}
+use Rattle.ga_event.specs.declared.made.Made.{Made}
 use Rattle.ga_journal.specs.Histories.{Past, Book, history}
+use Rattle.std.specs.List.{sum_by, count_by}
 use Rattle.ga_journal.specs.Marks.{partner_of}
+
+-- ---- what the entries of a node tell by themselves
+
+-- an entry at a place of a node's history, as it is told
+abbrev pub entry_made : NodeId → ℕ → Act → Made
+entry_made node i (Own deed) = made.Own node (i + 1) deed.kind
+entry_made node i (Sent to side at word) = made.Pass node (i + 1) to (at + 1) word
+entry_made node i (Took from side at word) = made.Pass from (at + 1) node (i + 1) word
+
+abbrev pub entries_made : NodeId → ℕ → List Past → List Made
+entries_made node i [] = []
+entries_made node i (e ∷ es) = entry_made node i e.act ∷ entries_made node (i + 1) es
+
+-- the positions of partners are those of entries that are there
+abbrev pub at_of : Act → ℕ
+at_of (Own deed) = 0
+at_of (Sent to side at word) = at
+at_of (Took from side at word) = at
+
+abbrev pub AtsWithin : ℕ → List Past → Type 0
+AtsWithin most [] = Unit {0}
+AtsWithin most (e ∷ es) = (at_of e.act ≤ most) × AtsWithin most es
 
 abbrev pub to_go : Book → ℕ
 to_go book = sum_by (λ (k : ℕ). k) book.going

@@ -2,9 +2,7 @@
 
 ghost use Rattle.std.specs.Prelude.{◌≡◌, ◌≤◌, List, length};
 ghost use Rattle.ga_journal.specs.Histories.{Past, history};
-ghost use Rattle.ga_journal.specs.kept.Histories.{lists_of, AllRise, bound_of};
-ghost use Rattle.ga_journal.specs.kept.Newest.{IsLatest};
-ghost use Rattle.ga_journal.specs.kept.Cuts.{cut, IsCutWithin};
+ghost use Rattle.ga_journal.specs.kept.Histories.{lists_of, AllRise, bound_of, IsLatest, cut, IsCutWithin};
 
 use super::Histories;
 use ga_grid::NodeId;

@@ -64,12 +64,9 @@ fn passed(ends: (NodeId, NodeId), steps: (u32, u32), side: Side, word: Word18) -
 
 impl Histories {
     ghost use Rattle.std.specs.Prelude.{◌≡◌, ◌-◌, ◌<◌, ◌≤◌, ◌^◌, ℕ, List, length, drop, slice_index, false, IfOk, IfErr, ◌+◌, [], ◌∷◌, ◌++◌, OnOk};
-    ghost use Rattle.ga_journal.specs.kept.Histories.{lists_of, bound_of};
+    ghost use Rattle.ga_journal.specs.kept.Histories.{lists_of, bound_of, cut, older_causes, WalksBack, IsCutWithin, IsShorter, IsFirst, IsWalked, AreTold};
     ghost use Rattle.ga_journal.specs.Histories.{history};
-    ghost use Rattle.ga_journal.specs.Logs.{Stamped, Records};
-    ghost use Rattle.ga_journal.specs.kept.Cuts.{cut, older_causes, WalksBack, IsCutWithin, IsShorter, IsFirst, IsWalked};
-    ghost use Rattle.ga_journal.specs.kept.Recalled.{AreTold};
-    ghost use Rattle.ga_journal.specs.Since.{IsSince};
+    ghost use Rattle.ga_journal.specs.Logs.{Stamped, Records, IsSince};
     ghost use Rattle.std.specs.List.{All};
     ghost use Rattle.std.specs.List.Sorted.{IsStrictlyIncreasing};
 

@@ -19,8 +19,8 @@ pub struct BackwardEvents<'j> {
 }
 
 impl<'j> Model for BackwardEvents<'j> {
-    ghost use Rattle.ga_journal.specs.Untold.{Untold, untold};
-    ghost use Rattle.ga_journal.specs.kept.Untold.{IsUntold};
+    ghost use Rattle.ga_journal.specs.Histories.{Untold, untold};
+    ghost use Rattle.ga_journal.specs.kept.Histories.{IsUntold};
 
     ghost Value = { Untold };
 
@@ -33,7 +33,7 @@ impl<'j> BackwardEvents<'j> {
     ghost use Rattle.std.specs.Prelude.{◌≡◌, ◌-◌, ◌≤◌, ◌↔◌, length, take, Some, IfSome, IsNone};
     ghost use Rattle.ga_event.specs.Told.{steps_of, made_in};
     ghost use Rattle.ga_journal.specs.Events.{kept_of, events_of};
-    ghost use Rattle.ga_journal.specs.Untold.{untold};
+    ghost use Rattle.ga_journal.specs.Histories.{untold};
 
     /// How many kept events are not told yet: the place of the one that was told last.
     pub fn place(&self) -> u32
@@ -72,7 +72,7 @@ impl Journal {
     ghost use Rattle.std.specs.Prelude.{◌≡◌, length};
     ghost use Rattle.ga_journal.specs.Events.{kept_of};
     ghost use Rattle.ga_journal.specs.Logs.{IsWhole};
-    ghost use Rattle.ga_journal.specs.Untold.{untold};
+    ghost use Rattle.ga_journal.specs.Histories.{untold};
 
     /// The kept events, none of which is told yet.
     pub(crate) fn backward(&self) -> BackwardEvents<'_>

@@ -15,8 +15,7 @@ impl Journal {
     ghost use Rattle.ga_journal.specs.Walked.{walked, CanWalk, overwritten};
     ghost use Rattle.ga_journal.specs.Events.{kept_of, causes_in_book, events_of};
     ghost use Rattle.ga_event.specs.Told.{steps_of, mades_of, made_in};
-    ghost use Rattle.ga_journal.specs.Logs.{IsWhole};
-    ghost use Rattle.ga_journal.specs.Since.{IsSince};
+    ghost use Rattle.ga_journal.specs.Logs.{IsWhole, IsSince};
 
     /// What is told of the kept events that touch a node, in order.
     ///

@@ -6,10 +6,8 @@ use ga_grid::{Chip, NodeId};
 
 impl Journal {
     ghost use Rattle.std.specs.Prelude.{◌≡◌, ◌<◌, ◌+◌, ◌^◌, ℕ, Some, length, true, false, IfSome, IfNone};
-    ghost use Rattle.ga_journal.specs.Work.{no_work};
-    ghost use Rattle.ga_journal.specs.Histories.{history};
-    ghost use Rattle.ga_journal.specs.Marks.{AreMarks, mark_of, going_of, waits, numbers_of_position, partner_at, counted_at, ticked, lowered, raised, taken_up};
-    ghost use Rattle.ga_journal.specs.Marks.{CanTakeBack, IsTakenBack};
+    ghost use Rattle.ga_journal.specs.Histories.{no_work, history};
+    ghost use Rattle.ga_journal.specs.Marks.{AreMarks, mark_of, going_of, waits, numbers_of_position, partner_at, counted_at, ticked, lowered, raised, taken_up, CanTakeBack, IsTakenBack};
     ghost use Rattle.ga_journal.specs.Looks.{IsLookToGo, SawNoneToGo, IsSought};
 
     /// The ticks that were counted.

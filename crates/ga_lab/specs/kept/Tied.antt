@@ -6,7 +6,7 @@ use Rattle.ga_journal.specs.Histories.{Book}
 use Rattle.ga_journal.specs.Events.{events_of}
 use Rattle.ga_journal.specs.Walked.{walked_chip}
 use Rattle.ga_journal.specs.Marks.{IsAtRest}
-pub use Rattle.ga_rollback.specs.Tied.{LeadsBack, IsTied}
+pub use Rattle.ga_rollback.specs.Rewound.{LeadsBack, IsTied}
 use Rattle.ga_lab.specs.Machine.{State}
 
 -- the machine's state: the load is what walking all saved words back gives

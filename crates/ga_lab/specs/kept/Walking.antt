@@ -1,13 +1,23 @@
 -- A node of a lab that is walked back.
+use Rattle.ga_journal.specs.declared.fault.JournalFault.TheVariants as journal_fault
+use Rattle.ga_journal.specs.declared.fault.JournalFault.{JournalFault}
+use Rattle.ga_lab.specs.declared.fault.LabFault.{LabFault}
+use Rattle.ga_lab.specs.declared.fault.LabFault.TheVariants.{Full, Memory, Spent}
 use Rattle.std.specs.Prelude.{◌≡◌, ℕ, ◌≤◌, List, length, drop}
 use Rattle.ga_node.specs.Record.{NodeState}
 use Rattle.ga_grid.specs.declared.node_id.NodeId.{NodeId}
 use Rattle.ga_grid.specs.Chip.{node_at}
-use Rattle.ga_journal.specs.Histories.{Book, history}
+use Rattle.ga_journal.specs.Histories.{Book, history, Untold}
 use Rattle.ga_journal.specs.Walked.{walked}
-use Rattle.ga_journal.specs.Untold.{Untold}
 use Rattle.ga_lab.specs.Machine.{Standing, standing, Telling, telling}
 use Rattle.ga_lab.specs.kept.Tied.{state_of, IsLab}
+
+-- ---- the journal's refusals as those of a step
+
+abbrev pub refusal_of : JournalFault → LabFault
+refusal_of journal_fault.Full = Full
+refusal_of journal_fault.Spent = Spent
+refusal_of journal_fault.Memory = Memory
 
 abbrev pub standing_of : List NodeState → Book → NodeId → ℕ → Standing
 standing_of chip book node step = standing (state_of chip book) node step

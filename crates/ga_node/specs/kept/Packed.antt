@@ -1,5 +1,5 @@
 -- A place and its value in one number, and a list of six such numbers that may hold a seventh.
-use Rattle.std.specs.Prelude.{◌≡◌, ℕ, ◌+◌, ◌-◌, ◌*◌, ◌/◌, ◌%◌, ◌^◌, ◌<◌, ◌≤◌, ◌==◌, if◌then◌else◌, nat_lt, List, [], ◌∷◌, ◌++◌, length}
+use Rattle.std.specs.Prelude.{◌≡◌, ℕ, ◌+◌, ◌-◌, ◌*◌, ◌/◌, ◌%◌, ◌^◌, ◌<◌, ◌≤◌, ◌==◌, if◌then◌else◌, nat_lt, List, [], ◌∷◌, ◌++◌, length, zero, suc}
 use Rattle.ga_node.specs.declared.place.Place.{Place}
 use Rattle.ga_node.specs.declared.place.Place.TheVariants.{T, S, DataCell, DataPointer, R, ReturnCell, ReturnPointer, Ram, Rom, A, B, P, I, Slot, Io, Carry, Wait, Stop}
 
@@ -89,3 +89,17 @@ pub record AreKept (ws : List ℕ) : Type 0 where
   pub least : 0 < spare ws → 2 ^ 32 ≤ spare ws
   pub last : 0 < spare ws → IsWord (spare ws - 2 ^ 32)
   pub few : length ws < 6 → spare ws ≡ 0
+
+-- ---- old values of many events, each at the code of its place
+
+-- the pairs of a list that has one more than a word for each pair, and 0 where there is none
+abbrev pub pairs_of : List ℕ → List (Place × ℕ)
+pairs_of [] = []
+pairs_of (zero ∷ ws) = pairs_of ws
+pairs_of (suc w ∷ ws) = unpacked w ∷ pairs_of ws
+
+-- each word stands at the code of its place, where the list begins at this code
+abbrev pub AreAt : ℕ → List ℕ → Type 0
+AreAt code [] = Unit {0}
+AreAt code (zero ∷ ws) = AreAt (code + 1) ws
+AreAt code (suc w ∷ ws) = IsWord w × (w / 2 ^ 24 ≡ code) × AreAt (code + 1) ws

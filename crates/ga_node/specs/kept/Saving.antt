@@ -1,6 +1,6 @@
 -- What each method of a node makes and saves.
-use Rattle.ga_stacks.specs.declared.place.StackPlace.{StackPlace}
 use Rattle.ga_stacks.specs.declared.place.StackPlace.TheVariants as stack
+use Rattle.ga_stacks.specs.declared.place.StackPlace.{StackPlace}
 use Rattle.ga_node.specs.declared.place.Place.{Place}
 use Rattle.ga_node.specs.declared.place.Place.TheVariants.{T, S, DataCell, DataPointer, R, ReturnCell, ReturnPointer}
 use Rattle.std.specs.Prelude.{◌≡◌, ℕ, List, ◌++◌, map, Result, Ok, Err}
@@ -64,3 +64,10 @@ data_values values = map (λ v. (data_place v.0, v.1)) values
 
 abbrev pub return_values : List (StackPlace × ℕ) → List (Place × ℕ)
 return_values values = map (λ v. (return_place v.0, v.1)) values
+
+-- ---- the kind of an event, without its changes
+
+-- the same of kinds alone
+abbrev pub kind_of : Kind → Result (Unit {0}) Kind → Kind
+kind_of kind (Ok done) = kind
+kind_of kind (Err other) = other

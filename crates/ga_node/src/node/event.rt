@@ -1,7 +1,7 @@
 //! The events of a node's own: a fetch, an opcode, a wait or a stop.
 
 ghost use Rattle.std.specs.Prelude.{◌≡◌};
-ghost use Rattle.ga_node.specs.kept.Table.{kind_of};
+ghost use Rattle.ga_node.specs.kept.Saving.{kind_of};
 
 use super::Node;
 use crate::due::Due;

@@ -1,22 +1,157 @@
 -- Looks with changes that are near to them, as they are told, but for the other word.
-use Rattle.std.specs.Prelude.{◌≡◌, ◌<◌, ◌≤◌, ℕ, ◌+◌, nat_lt, true, if◌then◌else◌, List, length, take, Contains, Option, Some, None, IfSome, slice_index_or}
+use Rattle.std.specs.Prelude.{◌≡◌, ◌<◌, ◌≤◌, true, ℕ, List, length, take, slice_index, slice_index_or, ◌+◌, ◌^◌, [], Some, nat_lt, if◌then◌else◌, Contains, Option, None, IfSome}
 use Rattle.ga_node.specs.Io.{io_word}
+use Rattle.ga_node.specs.State.{wait_of, IsWaitCode}
 use Rattle.ga_grid.specs.declared.node_id.NodeId.{NodeId}
-use Rattle.ga_event.specs.declared.event.Event.TheVariants.{Own}
+use Rattle.ga_grid.specs.Chip.{record_at}
+use Rattle.ga_event.specs.declared.event.Event.{Event}
+use Rattle.ga_event.specs.declared.event.Event.TheVariants.{Own, Pass}
 use Rattle.ga_event.specs.declared.event.Cause.{Cause}
 use Rattle.ga_event.specs.Apply.{seen_from}
 use Rattle.ga_event.specs.Told.{steps_of}
-use Rattle.ga_causal.specs.Dependence.{event_at}
-use Rattle.ga_causal.specs.Steps.{touching}
-use Rattle.ga_races.specs.declared.near.Near.{Near}
+use Rattle.ga_causal.specs.Dependence.{event_at, rewound_list}
+use Rattle.ga_races.specs.declared.act.EventAccess.{EventAccess}
+use Rattle.ga_races.specs.HappensBefore.{actions, action_at, are_linked}
+use Rattle.ga_races.specs.Acts.{action_in}
 use Rattle.ga_lab.specs.Machine.{State, chip_of, causes_of, earlier, rewound}
+use Rattle.ga_race_detector.specs.declared.moments.Moment.{Moment}
+use Rattle.ga_ports.specs.declared.side.Side.{Side}
+use Rattle.ga_ports.specs.declared.side.Side.TheVariants.{Right, Down, Left, Up}
+use Rattle.ga_grid.specs.Grid.{neighbour_of}
+use Rattle.ga_causal.specs.Steps.{touching, IsStep}
+use Rattle.ga_race_detector.specs.declared.around.Around.{Around}
+use Rattle.ga_race_detector.specs.declared.around.LeftAround.{LeftAround}
+use Rattle.ga_race_detector.specs.declared.around.Sweep.{Sweep}
+use Rattle.ga_race_detector.specs.declared.left.LeftOf.{LeftOf}
+use Rattle.ga_race_detector.specs.kept.Writers.{AreLeft, IsTaken}
+use Rattle.ga_races.specs.declared.near.Near.{Near}
+use Rattle.ga_race_detector.specs.declared.readings.Reading.{Reading}
 use Rattle.ga_race_detector.specs.Races.{looks_next}
 use Rattle.ga_race_detector.specs.Readings.{IsTold}
-use Rattle.ga_race_detector.specs.kept.Readings.{part_beside, IsAtNear}
-use Rattle.ga_race_detector.specs.kept.Around.{IsAround}
-use Rattle.ga_race_detector.specs.declared.readings.Reading.{Reading}
 use Rattle.ga_race_detector.specs.declared.glances.Glance.{Glance}
-use Rattle.ga_race_detector.specs.declared.around.Around.{Around}
+
+-- ---- nodes as they stood before a place of the kept events, and the event at the place as it was made
+
+-- before the place the node had this wait, by number, and had made so many steps
+pub record StoodSo (s : State) (m place code count : ℕ) : Type 0 where
+  pub wait : (record_at (chip_of (earlier s place)) m).wait ≡ wait_of code
+  pub valid : IsWaitCode code
+  pub steps : count ≡ steps_of m (take place s.kept)
+
+-- so each node of the chip stood
+abbrev pub AllStood : State → ℕ → List ℕ → List ℕ → Type 0
+AllStood s place waits steps = (m : ℕ) → m < 144 → StoodSo s m place (slice_index waits m) (slice_index steps m)
+
+-- the event at the place
+pub record IsAt (s : State) (place : ℕ) (cause : Cause) : Type 0 where
+  pub within : place < length s.kept
+  pub is : event_at (causes_of s) place ≡ cause
+
+-- the act has what the event at the place changed of what is shown to each node of the chip
+abbrev pub IsActAt : State → ℕ → EventAccess → Type 0
+IsActAt s place act = (n : ℕ) → n < 144 → (action_in act).changes n ≡ (action_at (actions s.load s.kept) place).changes n
+
+-- the node of an event, of a pass its writer
+abbrev pub first_part : Event → NodeId
+first_part (Own n) = n
+first_part (Pass w r side) = w
+
+-- the same, of a pass its reader
+abbrev pub last_part : Event → NodeId
+last_part (Own n) = n
+last_part (Pass w r side) = r
+
+-- before the event at the place its nodes had made so many steps, and if it looks it reads this word
+pub record IsMoment (s : State) (place : ℕ) (cause : Cause) (moment : Moment) : Type 0 where
+  pub first : moment.first ≡ steps_of (first_part cause.event).number (take place s.kept)
+  pub last : moment.last ≡ steps_of (last_part cause.event).number (take place s.kept)
+  pub word : cause.look ≡ true → moment.word ≡ io_word (seen_from (chip_of (earlier s place)) (first_part cause.event).number)
+
+-- what is read past the end of a list
+abbrev pub no_moment : Moment
+no_moment = record { first = 0; last = 0; word = 0 }
+
+-- from a place on each of the events has its moment
+abbrev pub AreMomentsFrom : State → ℕ → List Cause → List Moment → Type 0
+AreMomentsFrom s place causes moments = (i : ℕ) → place ≤ i → i < length moments → IsMoment s i (event_at causes i) (slice_index_or moments i no_moment)
+
+-- so has each
+pub record AreMoments (s : State) (causes : List Cause) (moments : List Moment) : Type 0 where
+  pub size : length moments ≡ length causes
+  pub each : AreMomentsFrom s 0 causes moments
+
+-- ---- how many steps of a node and of its neighbours are left where a step is taken back
+
+-- the number of a side
+abbrev pub around_over : Around → Side → ℕ
+around_over around Right = around.right
+around_over around Down = around.down
+around_over around Left = around.left
+around_over around Up = around.up
+
+-- the list of a side
+abbrev pub lists_over : LeftAround → Side → List ℕ
+lists_over lists Right = lists.right.items
+lists_over lists Down = lists.down.items
+lists_over lists Left = lists.left.items
+lists_over lists Up = lists.up.items
+
+-- what is known of a side, as far as the events have gone
+abbrev pub sweep_over : Sweep → Side → LeftOf
+sweep_over sweep Right = sweep.right
+sweep_over sweep Down = sweep.down
+sweep_over sweep Left = sweep.left
+sweep_over sweep Up = sweep.up
+
+-- nothing of this node
+pub record IsFirst (left : LeftOf) : Type 0 where
+  pub count : left.count ≡ 0
+  pub list : left.list.items ≡ []
+
+-- nothing of any
+pub record AreFirst (node : NodeId) (sweep : Sweep) : Type 0 where
+  pub here : IsFirst sweep.here
+  pub beside : (side : Side) → IsFirst (sweep_over sweep side)
+  pub own : sweep.here.node ≡ node
+  pub nodes : (side : Side) (m : ℕ) → neighbour_of node.number side ≡ Some m → (sweep_over sweep side).node.number ≡ m
+
+-- one more event was taken in of each
+pub record AreTaken (old new : Sweep) (cause : Cause) (depth : ℕ) : Type 0 where
+  pub here : IsTaken old.here new.here cause depth
+  pub beside : (side : Side) → IsTaken (sweep_over old side) (sweep_over new side) cause depth
+
+-- of none so many that one more doesn't fit
+pub record AreFew (sweep : Sweep) : Type 0 where
+  pub here : sweep.here.count + 1 < 2 ^ 32
+  pub right : sweep.right.count + 1 < 2 ^ 32
+  pub down : sweep.down.count + 1 < 2 ^ 32
+  pub left : sweep.left.count + 1 < 2 ^ 32
+  pub up : sweep.up.count + 1 < 2 ^ 32
+
+-- so many steps of node n and of each of its neighbours are left where the step k of node b is taken back
+pub record IsAround (causes : List Cause) (b k n : ℕ) (around : Around) : Type 0 where
+  pub node : around.node ≡ touching n (rewound_list causes b k)
+  pub beside : (side : Side) (m : ℕ) → neighbour_of n side ≡ Some m → around_over around side ≡ touching m (rewound_list causes b k)
+
+-- so of each step of node b
+pub record AreAround (causes : List Cause) (b n : ℕ) (lists : LeftAround) : Type 0 where
+  pub node : AreLeft causes b n lists.node.items
+  pub beside : (side : Side) (m : ℕ) → neighbour_of n side ≡ Some m → AreLeft causes b m (lists_over lists side)
+
+-- ---- what private contracts, invariants and bridges cite
+
+-- which node of an event stands beside another, of a pass the writer if that does
+abbrev pub part_beside : Event → ℕ → NodeId
+part_beside (Own own) n = own
+part_beside (Pass writer reader side) n = if are_linked n writer.number then writer else reader
+
+-- the look and the change stand at these two places
+pub record IsAtNear (s : State) (near : Near) (reading : Reading) : Type 0 where
+  pub looks : IsStep (causes_of s) reading.node.number reading.step near.look
+  pub changes : IsStep (causes_of s) reading.neighbour.number reading.change near.change
+  pub side : Side
+  pub beside : neighbour_of reading.node.number side ≡ Some reading.neighbour.number
+  pub order : reading.early ≡ nat_lt near.look near.change
 
 -- the step that is taken back for the look to read another word
 abbrev pub taken_of : Glance → NodeId × ℕ

@@ -1,10 +1,81 @@
 -- Sides of a node over which nothing is ever offered.
-use Rattle.std.specs.Prelude.{◌≡◌, ℕ, Bool, false, None}
+use Rattle.std.specs.Prelude.{◌≡◌, ◌<◌, ◌≤◌, ◌+◌, ◌==◌, ◌&&◌, max, ℕ, if◌then◌else◌, List, [], ◌∷◌, length, slice_index, Option, Some, None, Bool, false}
 use Rattle.ga_ports.specs.declared.side.Side.{Side}
 use Rattle.ga_ports.specs.declared.side.Side.TheVariants.{Right, Down, Left, Up}
-use Rattle.ga_lab.specs.Machine.{State, chip_of, rewound}
-use Rattle.ga_race_detector.specs.Offered.{offered}
+use Rattle.ga_node.specs.Record.{NodeRecord}
+use Rattle.ga_node.specs.Table.{t}
+use Rattle.ga_grid.specs.Grid.{neighbour_of}
+use Rattle.ga_event.specs.declared.event.Cause.{Cause}
+use Rattle.ga_event.specs.Apply.{writes_to}
+use Rattle.ga_event.specs.Touches.{seen_by}
+use Rattle.ga_event.specs.declared.made.Made.{Made}
+use Rattle.ga_event.specs.declared.made.Made.TheVariants.{Own, Pass}
+use Rattle.ga_causal.specs.Dependence.{cause_touches, rewound_list}
+use Rattle.ga_causal.specs.Steps.{touching}
+use Rattle.ga_race_detector.specs.declared.left.LeftBeside.{LeftBeside}
+use Rattle.ga_race_detector.specs.declared.left.LeftOf.{LeftOf}
+use Rattle.ga_lab.specs.Machine.{State, chip_of, rewound, causes_of}
+use Rattle.ga_race_detector.specs.Races.{offered}
 use Rattle.ga_race_detector.specs.declared.writers.Writers.{Writers}
+use Rattle.ga_race_detector.specs.declared.races.Besides.{Besides}
+
+-- ---- how many steps of a node are left where each step of another is taken back
+
+-- the greatest of the numbers of some nodes
+abbrev pub greatest : (ℕ → ℕ) → List ℕ → ℕ
+greatest known [] = 0
+greatest known (n ∷ ns) = max (known n) (greatest known ns)
+
+-- the greater of a number and that of a node, where there is one
+abbrev pub greater_with : (ℕ → ℕ) → Option ℕ → ℕ → ℕ
+greater_with known None number = number
+greater_with known (Some n) number = max (known n) number
+
+-- On how many of a node's steps an event depends, or which it is, where so many were made and it is known on how many the newest event
+-- of each node depends: on the first so many.
+abbrev pub depth : (ℕ → ℕ) → ℕ → ℕ → Cause → ℕ
+depth known n made cause = if cause_touches cause n then made + 1 else greatest known (seen_by cause)
+
+-- of the first steps of the one node, how many steps of the other are left where each is taken back
+abbrev pub IsLeftBehind : List Cause → ℕ → ℕ → List ℕ → Type 0
+IsLeftBehind causes n m left = (k : ℕ) → k < length left → slice_index left k ≡ touching m (rewound_list causes n (k + 1))
+
+-- so of each of its steps
+pub record AreLeft (causes : List Cause) (n m : ℕ) (left : List ℕ) : Type 0 where
+  pub size : length left ≡ touching n causes
+  pub each : IsLeftBehind causes n m left
+
+-- a list was filled up to a length with a number
+pub record IsFilled (old new : List ℕ) (to number : ℕ) : Type 0 where
+  pub size : length new ≡ max (length old) to
+  pub same : (k : ℕ) → k < length old → slice_index new k ≡ slice_index old k
+  pub more : (k : ℕ) → length old ≤ k → k < length new → slice_index new k ≡ number
+
+-- One more event was taken in, which depends on so many steps: where it is a step of the node, more of these are left without it.
+pub record IsTaken (old new : LeftOf) (cause : Cause) (depth : ℕ) : Type 0 where
+  pub node : new.node ≡ old.node
+  pub count : new.count ≡ old.count + (if cause_touches cause old.node.number then 1 else 0)
+  pub list : IsFilled old.list.items new.list.items (if cause_touches cause old.node.number then depth else length old.list.items) old.count
+
+-- the word that a node waits to write over the side
+abbrev pub posted : NodeRecord → Side → Option ℕ
+posted node side = if writes_to node.wait side then Some (t node) else None
+
+-- the word of a pass from the one node to the other
+abbrev pub word_between : ℕ → ℕ → Made → Option ℕ
+word_between writer reader (Own node step kind) = None
+word_between writer reader (Pass from i to j word) = if from.number == writer && to.number == reader then Some word else None
+
+-- the list of a side
+abbrev pub left_over : LeftBeside → Side → List ℕ
+left_over beside Right = beside.right.items
+left_over beside Down = beside.down.items
+left_over beside Left = beside.left.items
+left_over beside Up = beside.up.items
+
+-- so of the neighbour on each side
+abbrev pub IsLeftBeside : List Cause → ℕ → LeftBeside → Type 0
+IsLeftBeside causes n beside = (side : Side) (m : ℕ) → neighbour_of n side ≡ Some m → IsLeftBehind causes n m (left_over beside side)
 
 -- the flag of a side
 abbrev pub at_side : Writers → Side → Bool
@@ -20,3 +91,9 @@ NeverOffers s n side = (k : ℕ) → offered (chip_of (rewound s n k)) n side �
 -- so it is over each side that has no flag
 abbrev pub AreSilent : State → ℕ → Writers → Type 0
 AreSilent s n flags = (side : Side) → at_side flags side ≡ false → NeverOffers s n side
+
+-- ---- what is known of the neighbours of a node while its races are looked for
+
+pub record IsBeside (s : State) (n : ℕ) (beside : Besides) : Type 0 where
+  pub silent : AreSilent s n beside.writers
+  pub left : IsLeftBeside (causes_of s) n beside.left

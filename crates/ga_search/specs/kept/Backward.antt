@@ -1,14 +1,24 @@
 -- What the search back for a condition cites.
-use Rattle.std.specs.Prelude.{ℕ, zero, suc, ◌+◌, ◌&&◌, if◌then◌else◌, max, List, [], ◌∷◌, Bool, false, Option, Some, None}
+use Rattle.std.specs.Prelude.{ℕ, zero, suc, ◌+◌, ◌&&◌, if◌then◌else◌, max, List, [], ◌∷◌, Bool, false, Option, Some, None, ◌≡◌, ◌-◌, length, slice_index, ◌/◌, ◌%◌, ◌==◌, ◌≢◌, ◌<◌, true, ◌⊎◌}
 use Rattle.ga_grid.specs.declared.node_id.NodeId.{NodeId}
-use Rattle.ga_grid.specs.Grid.{node_id}
+use Rattle.ga_grid.specs.Grid.{node_id, neighbour_of}
 use Rattle.ga_event.specs.Told.{made_in}
 use Rattle.ga_event.specs.declared.made.Made.{Made}
 use Rattle.ga_lab.specs.Machine.{State, told_of_kept, earlier}
 use Rattle.ga_search.specs.declared.condition.Condition.{Condition}
-use Rattle.ga_search.specs.declared.condition.Condition.TheVariants.{Holds, ComesTo, Reaches, Writes}
+use Rattle.ga_search.specs.declared.condition.Condition.TheVariants.{Holds, ComesTo, Reaches, Writes, PassesNumber}
 use Rattle.ga_search.specs.Conditions.{holds}
 use Rattle.ga_search.specs.Backward.{is_among}
+use Rattle.std.specs.List.{slice_get}
+use Rattle.ga_search.specs.Words.{one_over, word_count}
+use Rattle.std.specs.Int.{bit_at}
+use Rattle.ga_search.specs.declared.numbers.Numbers.{Numbers}
+use Rattle.ga_ports.specs.declared.side.Side.{Side}
+use Rattle.ga_node.specs.Record.{NodeRecord}
+use Rattle.ga_node.specs.Table.{refusal}
+use Rattle.ga_grid.specs.Chip.{record_at}
+use Rattle.ga_event.specs.declared.made.Made.TheVariants.{Own, Pass}
+use Rattle.ga_races.specs.Orders.{can_go}
 
 -- the node whose registers or memory a condition asks for, and node 000 where it asks for none
 abbrev pub asked_node : Condition → NodeId
@@ -40,3 +50,72 @@ all_upto (until ∷ others) only s count = max (held_upto until only s count) (a
 abbrev pub newest_place : ℕ → Option ℕ
 newest_place zero = None
 newest_place (suc place) = Some place
+
+-- ---- what private contracts, invariants and bridges cite
+
+-- the link whose words a condition counts
+abbrev pub counted_link : Condition → Option (NodeId × NodeId)
+counted_link (PassesNumber writer reader number) = Some (writer, reader)
+counted_link other = None
+
+-- how many words of a link are kept, and none where there is no link
+abbrev pub count_over : Option (NodeId × NodeId) → State → ℕ
+count_over None s = 0
+count_over (Some link) s = word_count s link.0.number link.1.number
+
+abbrev pub counted : Condition → State → ℕ
+counted until s = count_over (counted_link until) s
+
+-- how many words of it an event carried
+abbrev pub more_over : Option (NodeId × NodeId) → Made → ℕ
+more_over None told = 0
+more_over (Some link) told = one_over link.0.number link.1.number told
+
+abbrev pub counted_by : Condition → Made → ℕ
+counted_by until told = more_over (counted_link until) told
+
+-- of each of some conditions it is known how many words of its link are kept; and how many were before an event
+abbrev pub AreCounted : List Condition → State → List ℕ → Type 0
+AreCounted until s words = (k : ℕ) (one : Condition) → slice_get until k ≡ Some one → counted one s ≡ slice_index words k
+
+abbrev pub WereCounted : List Condition → State → Made → List ℕ → Type 0
+WereCounted until s told words = (k : ℕ) (one : Condition) → slice_get until k ≡ Some one → counted one s ≡ slice_index words k + counted_by one told
+
+-- what is told of the newest event that is kept
+abbrev pub newest_told : State → Option Made
+newest_told s = made_in (told_of_kept s) (length s.kept - 1)
+
+-- ---- A set of numbers below 192, a bit for each
+
+-- the number is in the set
+unfoldable pub has : Numbers → ℕ → Bool
+has numbers n = bit_at (slice_index numbers.words (n / 64)) (n % 64) == 1
+
+-- ---- where a set of numbers is right about the nodes that have an event
+
+-- the set is right about the number
+abbrev pub IsRight : List NodeRecord → Numbers → ℕ → Type 0
+IsRight chip ready n = n < 192 → has ready n ≡ can_go chip n
+
+-- it holds the nodes that have an event, and nothing else
+abbrev pub HoldsReady : List NodeRecord → Numbers → Type 0
+HoldsReady chip ready = (n : ℕ) → IsRight chip ready n
+
+-- no other node is in the set
+pub record IsAlone (ready : Numbers) (node : NodeId) : Type 0 where
+  pub here : has ready node.number ≡ true
+  pub others : (n : ℕ) → n < 144 → n ≢ node.number → has ready n ≡ false
+
+-- what was right stays so
+abbrev pub StaysRight : List NodeRecord → Numbers → Numbers → Type 0
+StaysRight chip old new = (n : ℕ) → IsRight chip old n → IsRight chip new n
+
+-- it is right about a node and its neighbours
+pub record IsRightAround (chip : List NodeRecord) (ready : Numbers) (n : ℕ) : Type 0 where
+  pub here : IsRight chip ready n
+  pub beside : (side : Side) (m : ℕ) → neighbour_of n side ≡ Some m → IsRight chip ready m
+
+-- it is right where waits and stops changed: around the node of an own event, unless that runs on, and around both nodes of a pass
+abbrev pub IsRefreshed : List NodeRecord → Made → Numbers → Type 0
+IsRefreshed chip (Own node step kind) ready = (refusal (record_at chip node.number) ≡ None) ⊎ IsRightAround chip ready node.number
+IsRefreshed chip (Pass writer from reader to word) ready = IsRightAround chip ready writer.number × IsRightAround chip ready reader.number

@@ -1,12 +1,15 @@
 -- What an own event needs so that one of the conditions of a run can hold right after it.
+use Rattle.ga_node.specs.declared.kind.Kind.TheVariants as kind
+use Rattle.ga_search.specs.declared.running.End.TheVariants as the_end
 use Rattle.std.specs.Prelude.{◌≡◌, ℕ, ◌+◌, ◌%◌, ◌≤◌, ◌==◌, nat_lt, Bool, false, ◌&&◌, not, List, Some}
 use Rattle.std.specs.List.{slice_get}
 use Rattle.ga_node.specs.Record.{NodeRecord}
 use Rattle.ga_node.specs.declared.kind.Kind.{Kind}
-use Rattle.ga_node.specs.declared.kind.Kind.TheVariants as kind
 use Rattle.ga_search.specs.declared.condition.Condition.{Condition}
 use Rattle.ga_search.specs.declared.condition.Condition.TheVariants.{Never, Passes, PassesNumber, Steps, Stops, StopsAt, WaitsAt, Holds, ComesTo, Reaches, Writes}
 use Rattle.ga_search.specs.declared.needs.Needs.{Needs}
+use Rattle.ga_search.specs.declared.running.End.{End}
+use Rattle.ga_search.specs.Running.{Running, told, run_moved, held_next, IsHalted}
 
 -- one of so many opcodes from `!p` on, from the last code of a byte on to the first one: of four those that store, of 256 all
 abbrev pub is_one_of : ℕ → ℕ → Bool
@@ -40,3 +43,19 @@ Covers needs (Writes node address word) = 4 ≤ needs.opcodes
 -- and of each of some conditions
 abbrev pub IsNeeded : Needs → List Condition → Type 0
 IsNeeded needs until = (k : ℕ) (one : Condition) → slice_get until k ≡ Some one → Covers needs one
+
+-- ---- how a run is over
+
+-- it is with its next event, which led here, or no event follows
+abbrev pub IsOver : List Condition → Running → Running → End → Type 0
+IsOver until r next (the_end.Reached made which) = (told r ≡ Some made) × (held_next until r ≡ Some which) × (next ≡ run_moved r)
+IsOver until r next the_end.Made = ⊥
+IsOver until r next the_end.Quiet = IsHalted r the_end.Quiet × (next ≡ r)
+IsOver until r next (the_end.Refused why) = IsHalted r (the_end.Refused why) × (next ≡ r)
+
+-- how many events there were, where so many were made before
+abbrev pub events_at : ℕ → End → ℕ
+events_at n (the_end.Reached made which) = n + 1
+events_at n the_end.Made = n
+events_at n the_end.Quiet = n
+events_at n (the_end.Refused why) = n

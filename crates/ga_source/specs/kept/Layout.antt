@@ -1,9 +1,11 @@
 -- Requests laid out in cells: what is read of a group, and where the walk through the requests is.
-use Rattle.std.specs.Prelude.{ℕ, ◌≡◌, ◌≢◌, ◌<◌, ◌⊎◌, Bool, true, false, ◌||◌, List, [], ◌∷◌, Option, Some, None, length, take, slice_index_or}
-use Rattle.std.specs.List.{All, list_any}
-use Rattle.ga_node.specs.Record.{NodeState}
+use Rattle.std.specs.Prelude.{Bool, true, false, List, [], ◌∷◌, ℕ, ◌≡◌, ◌≢◌, ◌<◌, ◌⊎◌, ◌||◌, Option, Some, None, length, take, slice_index_or, suc, ◌++◌, ◌+◌, ◌%◌, ◌-◌, ◌≤◌}
+use Rattle.ga_slots.specs.declared.op.Op.{Op}
+use Rattle.ga_slots.specs.declared.op.Op.TheVariants.{FetchP, Nop, Return}
 use Rattle.ga_parser.specs.declared.item.Item.{Item}
-use Rattle.ga_parser.specs.declared.item.Item.TheVariants.{Back}
+use Rattle.ga_parser.specs.declared.item.Item.TheVariants.{Opcode, Literal, Back, Ahead, Cell}
+use Rattle.std.specs.List.{All, list_any, flat_map}
+use Rattle.ga_node.specs.Record.{NodeState}
 use Rattle.ga_parser.specs.declared.item.Asked.{Asked}
 use Rattle.ga_source.specs.declared.group.Group.{Group}
 use Rattle.ga_parser.specs.declared.item.Request.{Request}
@@ -11,9 +13,32 @@ use Rattle.ga_parser.specs.declared.item.Request.TheVariants.{Fill, Go, Carry}
 use Rattle.ga_source.specs.declared.packing.Packed.{Packed}
 use Rattle.ga_source.specs.declared.packing.Packer.{Packer}
 use Rattle.ga_source.specs.declared.spot.Spot.{Spot}
-use Rattle.ga_source.specs.Reading.{begin_at, behind, item_stands, is_filled, fits, is_met, after_request, follows}
-use Rattle.ga_source.specs.Cells.{takes, is_asked}
-use Rattle.ga_source.specs.kept.Words.{nothing}
+use Rattle.ga_source.specs.Reading.{begin_at, behind, item_stands, is_filled, fits, is_met, after_request, follows, resolved, are_both, word_in, reaches, ends_cell}
+use Rattle.ga_source.specs.Cells.{takes, is_asked, KeepsElsewhere}
+use Rattle.ga_source.specs.Groups.{Placed, placed_at, placed_from}
+use Rattle.ga_node.specs.declared.place.Place.{Place}
+use Rattle.ga_node.specs.declared.place.Place.TheVariants.{Ram, Rom}
+use Rattle.ga_slots.specs.Slots.{opcode, target}
+use Rattle.ga_parser.specs.declared.item.Operand.TheVariants.{Label}
+
+-- ---- the opcodes of items, and cells of data
+
+-- the opcode of an item
+abbrev pub op_in : Item → Op
+op_in (Opcode op) = op
+op_in (Literal _) = FetchP
+op_in (Back op _) = op
+op_in (Ahead op _) = op
+op_in (Cell _) = Nop
+
+-- what is read where there is no item
+abbrev pub nothing : Item
+nothing = Opcode Return
+
+-- one cell of data, and nothing else
+abbrev pub is_data : List Item → Bool
+is_data (Cell _ ∷ []) = true
+is_data _ = false
 
 -- ---- the items of a cell
 
@@ -134,3 +159,134 @@ pub record IsLaidOut (packed : Packed) (asked : List Asked) : Type 0 where
   pub read : (node : NodeState) → All (IsRead node packed.labels.items) packed.groups.items → follows node packed.labels.items (begin_at 0) asked ≡ true
   pub named : (cell : ℕ) → are_taken packed.groups.items cell ≡ true → is_asked packed.labels.items (begin_at 0) asked cell ≡ true
   pub fit : All (IsFitGroup packed.labels.items) packed.groups.items
+
+-- ---- groups as the places of their items, while requests are packed
+
+-- items of a cell, each with its line, one in each slot from this one on
+unfoldable pub places_in : ℕ → ℕ → List Item → List ℕ → List Placed
+places_in address slot [] lines = []
+places_in address slot (item ∷ items) [] = []
+places_in address slot (item ∷ items) (line ∷ lines) = record { address = address; slot = slot; item = item; line = line } ∷ places_in address (suc slot) items lines
+
+abbrev pub group_places : Group → List Placed
+group_places group = places_in group.address 0 group.items.items group.lines.items
+
+-- a group has an item, and each item has a line
+pub record HasLines (group : Group) : Type 0 where
+  pub begun : 0 < length group.items.items
+  pub each : length group.lines.items ≡ length group.items.items
+
+-- the items of the groups so far and of the open cell
+abbrev pub packer_places : Packer → List Placed
+packer_places packer = flat_map group_places packer.groups.items ++ places_in packer.spot.at 0 packer.filling.items packer.lines.items
+
+-- The groups and the open cell have just the items that the requests so far ask for, where the walk puts them.
+-- Whatever the labels that aren't known yet will be.
+pub record IsGrouped (packer : Packer) (asked : List Asked) : Type 0 where
+  pub places : (labels : List (Option ℕ)) → Extends packer.labels.items labels → placed_from labels (begin_at 0) asked ≡ packer_places packer
+  pub groups : All HasLines packer.groups.items
+  pub lines : length packer.lines.items ≡ length packer.filling.items
+  pub whole : packer.filling.items ≡ [] → packer.broken ≡ None
+
+-- The same where the last request asks for an item that is still to be put, at the packer's spot.
+pub record IsPutting (packer : Packer) (asked : List Asked) (item : Item) (line : ℕ) : Type 0 where
+  pub places : (labels : List (Option ℕ)) → Extends packer.labels.items labels → placed_from labels (begin_at 0) asked ≡ packer_places packer ++ placed_at packer.spot item line ∷ []
+  pub groups : All HasLines packer.groups.items
+  pub lines : length packer.lines.items ≡ length packer.filling.items
+
+-- the items of the cell that was being filled are those of a group now
+pub record IsGathered (before after : Packer) : Type 0 where
+  pub places : flat_map group_places after.groups.items ≡ packer_places before
+  pub lines : length before.lines.items ≡ length before.filling.items → after.lines.items ≡ []
+  pub groups : length before.lines.items ≡ length before.filling.items → (before.filling.items ≡ [] → before.broken ≡ None) → All HasLines before.groups.items → All HasLines after.groups.items
+
+-- ---- places that are cells of a memory, and what loading leaves as it was
+
+-- the cell of a memory that an address names
+abbrev pub IsCell : ℕ → Place → Type 0
+IsCell address (Ram k) = (k < 64) × (address % 512 ≡ k)
+IsCell address (Rom k) = (k < 64) × (address % 512 ≡ 0x80 + k)
+IsCell address _ = ⊥
+
+-- nothing but the memories differs
+abbrev pub KeepsRest : NodeState → NodeState → Type 0
+KeepsRest before after = after ≡ record before { ram = after.ram; rom = after.rom }
+
+-- ---- what a word holds of items, and what is loaded of a group
+
+-- ---- words
+
+-- a jump that leads from wherever its label is reached
+abbrev pub Leads : List (Option ℕ) → ℕ → ℕ → ℕ → Type 0
+Leads labels word slot label = (p : ℕ) → reaches p slot (resolved labels (Label label)) ≡ true → are_both (resolved labels (Label label)) (Some (target p word slot)) ≡ true
+
+-- the word has the item in a slot
+abbrev pub HasItem : List (Option ℕ) → ℕ → ℕ → Item → Type 0
+HasItem labels word slot (Opcode op) = opcode word slot ≡ op
+HasItem labels word slot (Literal _) = opcode word slot ≡ FetchP
+HasItem labels word slot (Back op label) = (opcode word slot ≡ op) × Leads labels word slot label
+HasItem labels word slot (Ahead op label) = (opcode word slot ≡ op) × Leads labels word slot label
+HasItem labels word slot (Cell value) = are_both (resolved labels value) (Some word) ≡ true
+
+-- the last item of a cell may stand in this slot
+abbrev pub MayEnd : ℕ → Item → Type 0
+MayEnd slot (Back _ _) = slot < 3
+MayEnd slot (Ahead _ _) = slot < 3
+MayEnd slot (Cell _) = slot ≡ 0
+MayEnd slot _ = Unit {0}
+
+-- the word has each item in its slot, and `.` behind
+pub record IsWordOf (labels : List (Option ℕ)) (items : List Item) (word : ℕ) : Type 0 where
+  pub has : (k : ℕ) → k < length items → HasItem labels word k (slice_index_or items k nothing)
+  pub dots : (k : ℕ) → length items ≤ k → k < 4 → ends_cell (slice_index_or items (length items - 1) nothing) ≡ false → opcode word k ≡ Nop
+
+-- ---- cells
+
+-- a cell of RAM or ROM that was given
+pub record Holds (given : List (Option ℕ)) (cell : ℕ) : Type 0 where
+  pub in_memory : (cell < 64) ⊎ ((128 ≤ cell) × (cell < 192))
+  pub is_given : slice_index_or given cell None ≢ None
+
+-- what was given stays
+abbrev pub Keeps : NodeState → List (Option ℕ) → NodeState → List (Option ℕ) → Type 0
+Keeps before given after given_then = (address : ℕ) → Holds given (address % 512) → (word_in after address ≡ word_in before address) × Holds given_then (address % 512)
+
+-- besides its opcode, what an item needs: its literal, or that its jump reaches
+abbrev pub HasRest : NodeState → List (Option ℕ) → Spot → Item → Type 0
+HasRest node labels spot (Literal value) = are_both (resolved labels value) (word_in node spot.p) ≡ true
+HasRest node labels spot (Back _ label) = (spot.slot < 3) × (reaches spot.p spot.slot (resolved labels (Label label)) ≡ true)
+HasRest node labels spot (Ahead _ label) = (spot.slot < 3) × (reaches spot.p spot.slot (resolved labels (Label label)) ≡ true)
+HasRest node labels spot _ = Unit {0}
+
+-- the cell of an item's literal is given
+abbrev pub HoldsRest : List (Option ℕ) → Spot → Item → Type 0
+HoldsRest given spot (Literal _) = Holds given (spot.p % 512)
+HoldsRest given spot _ = Unit {0}
+
+-- the word of a group stands in its cell
+pub record HasWord (node : NodeState) (labels : List (Option ℕ)) (address : ℕ) (items : List Item) : Type 0 where
+  pub word : ℕ
+  pub is_word : IsWordOf labels items word
+  pub in_cell : word_in node address ≡ Some word
+
+-- the group's word and its first items are written
+pub record IsWriting (before : NodeState) (given : List (Option ℕ)) (node : NodeState) (later labels : List (Option ℕ)) (group : Group) (spot : Spot) (i : ℕ) : Type 0 where
+  pub where_is : spot ≡ spot_in group.address group.items.items i
+  pub rest : KeepsRest before node
+  pub elsewhere : KeepsElsewhere (λ (cell : ℕ). takes_group cell group) before node
+  pub kept : Keeps before given node later
+  pub has_word : HasWord node labels group.address group.items.items
+  pub held : Holds later (group.address % 512)
+  pub so_far : Stand node labels (begin_at group.address) (take i group.items.items)
+  pub cells : (cell : ℕ) → taken (begin_at group.address) (take i group.items.items) cell ≡ true → Holds later cell
+
+-- the group is read, and its cells are given
+pub record IsLoadedGroup (node : NodeState) (labels given : List (Option ℕ)) (group : Group) : Type 0 where
+  pub read : IsRead node labels group
+  pub held : (cell : ℕ) → takes_group cell group ≡ true → Holds given cell
+
+-- a cell of a memory
+abbrev pub IsMemory : Place → Type 0
+IsMemory (Ram cell) = cell < 64
+IsMemory (Rom cell) = cell < 64
+IsMemory _ = ⊥

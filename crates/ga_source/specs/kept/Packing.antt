@@ -1,5 +1,5 @@
 -- Plain requests as groups: each cell a group of its own (docs/REFERENCE.md, "Source"; this project's own).
-use Rattle.std.specs.Prelude.{ℕ, ◌≡◌, ◌%◌, ◌<◌, ◌≤◌, ◌^◌, List, [], ◌∷◌, map, length, slice_index_or, Option, Some, None}
+use Rattle.std.specs.Prelude.{ℕ, ◌≡◌, ◌%◌, ◌<◌, ◌≤◌, ◌^◌, List, [], ◌∷◌, map, length, slice_index_or, Option, Some, None, Bool, true, false, ◌≢◌}
 use Rattle.ga_parser.specs.declared.item.Operand.{Operand}
 use Rattle.ga_parser.specs.declared.item.Operand.TheVariants.{Number, Label}
 use Rattle.ga_parser.specs.declared.item.Item.TheVariants.{Cell}
@@ -10,7 +10,17 @@ use Rattle.ga_parser.specs.declared.item.Asked.{Asked}
 use Rattle.ga_source.specs.declared.packing.Packer.{Packer}
 use Rattle.ga_source.specs.Reading.{begin_at}
 use Rattle.ga_source.specs.Made.{address_behind}
-use Rattle.ga_source.specs.Sound.{cells_from, cell_of}
+use Rattle.ga_source.specs.Sound.{cells_from, cell_of, node_number_of_words, IsSoundBody}
+use Rattle.std.specs.List.{All}
+use Rattle.ga_node.specs.Record.{NodeState}
+use Rattle.ga_source.specs.declared.program.Program.{Program}
+use Rattle.ga_source.specs.Programs.{IsAssembled}
+use Rattle.ga_parser.specs.Saying.{Said}
+use Rattle.ga_source.specs.Asks.{IsOf, IsAsked}
+use Rattle.ga_parser.specs.declared.scan.TokenKind.TheVariants.{Word}
+use Rattle.ga_parser.specs.declared.scan.Token.{Token}
+use Rattle.ga_parser.specs.Plain.{body_in, bodies_in}
+use Rattle.ga_parser.specs.kept.Drafting.{texts_of}
 
 -- requests without their lines
 abbrev pub requests_of : List Asked → List Request
@@ -70,3 +80,40 @@ AreWords cells = (k : ℕ) → k < length cells → (cell_of cells k).1 < 2 ^ 18
 -- from the k-th on, no cell is given
 abbrev pub AreOpen : List (Option ℕ) → List (ℕ × ℕ) → ℕ → Type 0
 AreOpen given cells from = (k : ℕ) → from ≤ k → k < length cells → slice_index_or given ((cell_of cells k).0 % 512) None ≡ None
+
+-- ---- programs loaded so far
+
+-- a program whose node is marked as begun
+abbrev pub HasBegun : List Bool → Program → Type 0
+HasBegun begun program = slice_index_or begun program.node.number false ≡ true
+
+-- the programs so far, whose nodes are marked
+pub record AreLoaded (chip : List NodeState) (begun : List Bool) (programs : List Program) : Type 0 where
+  pub marked : All (HasBegun begun) programs
+  pub assembled : IsAssembled chip programs
+
+-- the programs are those of the first of these words, and the other words are left
+unfoldable pub AreOfFirst : List (List (List ℕ)) → List Program → List (List (List ℕ)) → Type 0
+AreOfFirst bodies [] left = bodies ≡ left
+AreOfFirst [] (program ∷ programs) left = ⊥
+AreOfFirst (words ∷ bodies) (program ∷ programs) left = IsOf words program × AreOfFirst bodies programs left
+
+-- the same of words with their lines
+unfoldable pub AreAskedFirst : List (List Said) → List Program → List (List Said) → Type 0
+AreAskedFirst bodies [] left = bodies ≡ left
+AreAskedFirst [] (program ∷ programs) left = ⊥
+AreAskedFirst (words ∷ bodies) (program ∷ programs) left = IsAsked words program × AreAskedFirst bodies programs left
+
+-- ---- what is left of a source that only want of memory keeps from being assembled
+
+-- the words of nodes that haven't begun, each once
+pub record AreSound (begun : List Bool) (bodies : List (List (List ℕ))) : Type 0 where
+  pub each : All IsSoundBody bodies
+  pub apart : (j k : ℕ) → j < k → k < length bodies → node_number_of_words bodies j ≢ node_number_of_words bodies k
+  pub fresh : (k n : ℕ) → k < length bodies → node_number_of_words bodies k ≡ Some n → slice_index_or begun n false ≡ false
+
+-- the same of words that are left
+pub record IsSoundFrom (begun : List Bool) (words : List Token) : Type 0 where
+  pub kinds : All (λ token. token.kind ≡ Word) words
+  pub begins : body_in (texts_of words) ≡ []
+  pub bodies : AreSound begun (bodies_in (texts_of words))

@@ -5,7 +5,7 @@ use Rattle.serde_json.specs.Data.{Data}
 use Rattle.serde_json.specs.View.{view}
 use Rattle.serde_json.specs.declared.value.Value.{Value}
 use Rattle.ga_adapter.specs.declared.calls.OpenCall.{OpenCall}
-use Rattle.ga_adapter.proofs.FrameLists.{stack_so}
+use Rattle.ga_adapter.proofs.Lists.{stack_so}
 use Rattle.ga_adapter.proofs.frames.stack_body.Goals as goal
 
 pub returns : goal.returns

@@ -5,7 +5,7 @@ use Rattle.ga_lab.specs.Machine.{Standing, history_of}
 use Rattle.ga_origin.specs.Origins.{node_after}
 use Rattle.ga_origin.proofs.Made.{then_of, stands_so}
 use Rattle.ga_answers.specs.Around.{passed_text}
-use Rattle.ga_answers.proofs.Around.{at_most}
+use Rattle.ga_answers.proofs.Saying.{at_most}
 use Rattle.ga_answers.proofs.at_text.place_line.Goals as goal
 
 pub returns-in-Some : goal.returns-in-Some

@@ -1,6 +1,6 @@
 use Rattle.std.proofs.Common.{ℕ, ◌+◌, min, ap, sym, ◌∙◌, arith}
 use Rattle.ga_event.specs.Told.{steps_of}
-use Rattle.ga_answers.proofs.Around.{around_here, last_is, around_nowhere}
+use Rattle.ga_answers.proofs.Saying.{around_here, last_is, around_nowhere}
 use Rattle.ga_answers.proofs.at_text.say_around.Goals as goal
 
 pub returns-then-stands : goal.returns-then-stands

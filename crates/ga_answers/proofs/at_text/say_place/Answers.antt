@@ -3,8 +3,7 @@ use Rattle.ga_lab.specs.Machine.{Standing}
 use Rattle.ga_text.proofs.SaidLemmas.{cut_here, cut_within}
 use Rattle.ga_answers.specs.Around.{place_text}
 use Rattle.ga_answers.specs.Tails.{step_tail}
-use Rattle.ga_answers.proofs.Told.{told_as}
-use Rattle.ga_answers.proofs.Saying.{joined_said}
+use Rattle.ga_answers.proofs.Saying.{told_as, joined_said}
 use Rattle.ga_answers.proofs.at_text.say_place.Goals as goal
 
 pub returns-in_err-say_blocks : goal.returns-in_err-say_blocks

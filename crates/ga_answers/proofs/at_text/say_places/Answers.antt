@@ -1,9 +1,8 @@
 use Rattle.std.proofs.Common.{ℕ, ◌-◌, List, ◌++◌, [], refl, arith}
 use Rattle.ga_text.proofs.SaidLemmas.{cut_here, said_pending}
 use Rattle.ga_answers.specs.Around.{place_text, places_text}
-use Rattle.ga_answers.proofs.Saying.{line_said, line_cut, all_said}
+use Rattle.ga_answers.proofs.Saying.{line_said, line_cut, all_said, next_place, no_place, beyond_base}
 use Rattle.ga_origin.proofs.Made.{stands_so}
-use Rattle.ga_answers.proofs.Around.{next_place, no_place, beyond_base}
 use Rattle.ga_answers.proofs.at_text.say_places.Goals as goal
 
 pub places-init : goal.places-init

@@ -4,8 +4,7 @@ use Rattle.ga_origin.specs.Rows.{row_at}
 use Rattle.ga_answers.specs.Tails.{step_tail}
 use Rattle.ga_answers.specs.Trees.{tree_row_text}
 use Rattle.ga_answers.specs.Because.{decision_text}
-use Rattle.ga_answers.proofs.Told.{told_as}
-use Rattle.ga_answers.proofs.Saying.{joined_said}
+use Rattle.ga_answers.proofs.Saying.{told_as, joined_said}
 use Rattle.ga_answers.proofs.because_text.say_decision.Goals as goal
 
 pub returns-in_err-say_blocks : goal.returns-in_err-say_blocks

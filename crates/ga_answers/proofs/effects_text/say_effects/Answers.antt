@@ -1,4 +1,4 @@
-use Rattle.ga_answers.proofs.Answering.{effects_found, effects_refused}
+use Rattle.ga_answers.proofs.Saying.{effects_found, effects_refused}
 use Rattle.ga_answers.proofs.effects_text.say_effects.Goals as goal
 
 pub returns-in-Ok-clause-said : goal.returns-in-Ok-clause-said

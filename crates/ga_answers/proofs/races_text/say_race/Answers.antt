@@ -1,6 +1,6 @@
 use Rattle.std.proofs.Common.{◌∙◌}
 use Rattle.ga_answers.specs.Races.{race_text}
-use Rattle.ga_answers.proofs.Told.{told_as}
+use Rattle.ga_answers.proofs.Saying.{told_as}
 use Rattle.ga_answers.proofs.races_text.say_race.Goals as goal
 
 pub returns : goal.returns

@@ -1,4 +1,4 @@
-use Rattle.ga_answers.proofs.Answering.{races_found, races_refused}
+use Rattle.ga_answers.proofs.Saying.{races_found, races_refused}
 use Rattle.ga_answers.proofs.races_text.say_races.Goals as goal
 
 pub returns-in-Ok-clause-said : goal.returns-in-Ok-clause-said

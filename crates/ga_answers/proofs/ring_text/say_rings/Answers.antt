@@ -3,8 +3,7 @@ use Rattle.ga_grid.specs.Chip.{records_of}
 use Rattle.ga_causal.specs.Dependence.{is_marked}
 use Rattle.ga_text.proofs.SaidLemmas.{cut_here, said_pending}
 use Rattle.ga_answers.specs.Waiting.{ring_text, each_node, all_rings}
-use Rattle.ga_answers.proofs.Saying.{line_said, line_cut, all_said}
-use Rattle.ga_answers.proofs.WaitingLines.{next_node, all_told}
+use Rattle.ga_answers.proofs.Saying.{line_said, line_cut, all_said, next_node, all_told}
 use Rattle.ga_answers.proofs.ring_text.say_rings.Goals as goal
 
 pub nodes-init : goal.nodes-init

@@ -2,7 +2,7 @@ use Rattle.std.proofs.Common.{ap, ◌∙◌}
 use Rattle.std.specs.Prelude.{is_some}
 use Rattle.ga_answers.specs.Saved.{saved_text}
 use Rattle.ga_answers.proofs.Saving.{listed_saved}
-use Rattle.ga_answers.proofs.Told.{told_as}
+use Rattle.ga_answers.proofs.Saying.{told_as}
 use Rattle.ga_answers.proofs.saved_text.say_saved.Goals as goal
 
 pub returns-in-Ok : goal.returns-in-Ok

@@ -1,8 +1,7 @@
 use Rattle.std.proofs.Common.{List, ℕ, ◌++◌, ◌∙◌, ap}
 use Rattle.ga_text.proofs.SaidLemmas.{cut_here, cut_within}
 use Rattle.ga_answers.specs.Tails.{noted_cell, noted_slot, noted_text}
-use Rattle.ga_answers.proofs.Told.{told_as}
-use Rattle.ga_answers.proofs.Saying.{joined_said}
+use Rattle.ga_answers.proofs.Saying.{told_as, joined_said}
 use Rattle.ga_answers.proofs.tail_text.say_noted.Goals as goal
 
 pub returns-in_err-say_blocks : goal.returns-in_err-say_blocks

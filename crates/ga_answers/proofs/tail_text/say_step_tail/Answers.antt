@@ -1,6 +1,6 @@
 use Rattle.std.proofs.Common.{List, ℕ, ◌++◌, ◌∙◌, codes, ap}
 use Rattle.ga_answers.specs.Tails.{tail_text, slot_before, step_tail}
-use Rattle.ga_answers.proofs.Told.{told_as}
+use Rattle.ga_answers.proofs.Saying.{told_as}
 use Rattle.ga_answers.proofs.tail_text.say_step_tail.Goals as goal
 
 pub returns : goal.returns

@@ -1,7 +1,7 @@
 use Rattle.std.proofs.Common.{sym}
 use Rattle.std.proofs.lemmas.Bool.{cond-false, ne_eqb}
 use Rattle.ga_answers.specs.Tails.{part_cell, tail_text, step_tail, value_tail}
-use Rattle.ga_answers.proofs.Told.{told_as}
+use Rattle.ga_answers.proofs.Saying.{told_as}
 use Rattle.ga_answers.proofs.tail_text.say_value_tail.Goals as goal
 
 pub returns-else-value-eq0 : goal.returns-else-value-eq0

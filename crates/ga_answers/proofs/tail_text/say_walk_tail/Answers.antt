@@ -1,6 +1,6 @@
 use Rattle.std.proofs.Common.{ap}
 use Rattle.ga_answers.specs.Tails.{step_tail}
-use Rattle.ga_answers.proofs.Told.{told_as}
+use Rattle.ga_answers.proofs.Saying.{told_as}
 use Rattle.ga_answers.proofs.tail_text.say_walk_tail.Goals as goal
 
 pub returns : goal.returns

@@ -1,8 +1,7 @@
 use Rattle.std.proofs.Common.{◌++◌, refl, inl, inr}
 use Rattle.ga_text.proofs.SaidLemmas.{cut_here, cut_within}
 use Rattle.ga_answers.specs.Trees.{more_text}
-use Rattle.ga_answers.proofs.Saying.{joined_said}
-use Rattle.ga_answers.proofs.Trees.{tree_told}
+use Rattle.ga_answers.proofs.Saying.{joined_said, tree_told}
 use Rattle.ga_answers.proofs.whence_text.say_asked.Goals as goal
 
 pub returns-in_err-say_rows-in-Ok : goal.returns-in_err-say_rows-in-Ok

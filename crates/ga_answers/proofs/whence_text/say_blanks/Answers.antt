@@ -1,8 +1,7 @@
 use Rattle.std.proofs.Common.{ℕ, ◌-◌, List, [], ◌++◌, refl, codes, arith}
 use Rattle.ga_text.proofs.SaidLemmas.{cut_here, said_pending}
 use Rattle.ga_answers.specs.Trees.{blanks}
-use Rattle.ga_answers.proofs.Saying.{line_said, line_cut, all_said}
-use Rattle.ga_answers.proofs.Trees.{next_level, no_level}
+use Rattle.ga_answers.proofs.Saying.{line_said, line_cut, all_said, next_level, no_level}
 use Rattle.ga_answers.proofs.whence_text.say_blanks.Goals as goal
 
 pub levels-init : goal.levels-init

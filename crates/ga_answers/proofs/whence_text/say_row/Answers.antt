@@ -2,8 +2,7 @@ use Rattle.std.proofs.Common.{◌≡◌, ℕ, List, ◌+◌, ◌++◌, ap, ◌�
 use Rattle.ga_text.proofs.SaidLemmas.{cut_here, cut_within, said_assoc, cut_assoc}
 use Rattle.ga_answers.specs.Tails.{value_tail}
 use Rattle.ga_answers.specs.Trees.{blanks, value_text, tree_row_text}
-use Rattle.ga_answers.proofs.Told.{told_as}
-use Rattle.ga_answers.proofs.Saying.{joined_said}
+use Rattle.ga_answers.proofs.Saying.{told_as, joined_said}
 use Rattle.ga_answers.proofs.whence_text.say_row.Goals as goal
 
 pub returns-in_err-say_blanks : goal.returns-in_err-say_blanks

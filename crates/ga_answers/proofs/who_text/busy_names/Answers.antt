@@ -2,7 +2,7 @@ use Rattle.std.proofs.Common.{ℕ, Bool, ◌-◌, ◌&&◌, ◌++◌, ◌∙◌,
 use Rattle.std.specs.Prelude.{not}
 use Rattle.ga_causal.specs.Dependence.{is_marked}
 use Rattle.ga_answers.specs.Waiting.{name_if}
-use Rattle.ga_answers.proofs.WaitingLines.{next_added, all_added}
+use Rattle.ga_answers.proofs.Saying.{next_added, all_added}
 use Rattle.ga_answers.proofs.who_text.busy_names.Goals as goal
 
 pub nodes-preserved : goal.nodes-preserved

@@ -1,7 +1,7 @@
 use Rattle.std.proofs.Common.{Bool, ◌∙◌, ap, arith}
 use Rattle.std.specs.Prelude.{if◌then◌else◌}
 use Rattle.ga_causal.specs.Dependence.{is_marked}
-use Rattle.ga_answers.proofs.WaitingLines.{counted_none, counted_on, counted_whole}
+use Rattle.ga_answers.proofs.Saying.{counted_none, counted_on, counted_whole}
 use Rattle.ga_answers.proofs.who_text.idle_count.Goals as goal
 
 pub nodes-init : goal.nodes-init

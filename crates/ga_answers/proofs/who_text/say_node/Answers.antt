@@ -2,7 +2,7 @@ use Rattle.std.proofs.Common.{◌∙◌}
 use Rattle.ga_grid.specs.Chip.{records_of}
 use Rattle.ga_causal.specs.Dependence.{is_marked}
 use Rattle.ga_answers.specs.Waiting.{busy_text}
-use Rattle.ga_answers.proofs.Told.{told_as}
+use Rattle.ga_answers.proofs.Saying.{told_as}
 use Rattle.ga_answers.proofs.who_text.say_node.Goals as goal
 
 pub returns : goal.returns

@@ -3,8 +3,7 @@ use Rattle.ga_grid.specs.Chip.{records_of}
 use Rattle.ga_causal.specs.Dependence.{is_marked}
 use Rattle.ga_text.proofs.SaidLemmas.{cut_here, cut_within, cut_assoc, said_assoc}
 use Rattle.ga_answers.specs.Waiting.{stuck_text, all_rings, idle_text}
-use Rattle.ga_answers.proofs.Saying.{joined_said}
-use Rattle.ga_answers.proofs.Answering.{who_told}
+use Rattle.ga_answers.proofs.Saying.{joined_said, who_told}
 use Rattle.ga_answers.proofs.who_text.say_who.Goals as goal
 
 pub returns-in_err-say_waiting : goal.returns-in_err-say_waiting

@@ -1,6 +1,6 @@
 use Rattle.std.proofs.Common.{◌∙◌}
 use Rattle.ga_answers.specs.Texts.{sent_text}
-use Rattle.ga_answers.proofs.Told.{told_as}
+use Rattle.ga_answers.proofs.Saying.{told_as}
 use Rattle.ga_answers.proofs.words_text.say_sent.Goals as goal
 
 pub returns : goal.returns

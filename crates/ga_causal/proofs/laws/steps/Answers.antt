@@ -1,5 +1,4 @@
-use Rattle.ga_causal.proofs.Places.{touching_in, stands_exact, place_step}
-use Rattle.ga_causal.proofs.Later.{older_step}
+use Rattle.ga_causal.proofs.Places.{touching_in, stands_exact, place_step, older_step}
 use Rattle.ga_causal.proofs.laws.steps.Goals as goal
 
 pub returns-clause-events : goal.returns-clause-events

@@ -1,17 +1,14 @@
 use Rattle.std.proofs.Common.{ℕ, ◌+◌, ◌-◌, ◌++◌, [], List, take, drop, length, length-take, refl, sym, ap, subst, ◌∙◌, arith}
 use Rattle.std.specs.Prelude.{Result, Ok}
 use Rattle.std.specs.Result.{IsErr}
-use Rattle.ga_console.specs.kept.Ahead.{IsAhead, IsLineAhead}
-use Rattle.ga_console.specs.Turns.{Answering}
-use Rattle.ga_console.specs.Session.{Serves, ServesCut}
+use Rattle.ga_console.specs.kept.Run.{IsAhead, IsLineAhead}
+use Rattle.ga_console.specs.Session.{Answering, Serves, ServesCut}
 use Rattle.ga_display.specs.Texts.{no_input}
 use Rattle.ga_text.specs.declared.output.WriteFailed.{WriteFailed}
 use Rattle.ga_console.specs.declared.commands.Ending.{Ending}
 use Rattle.ga_console.specs.declared.commands.Ending.TheVariants.{Ended, Past}
-use Rattle.ga_text.proofs.SaidLemmas.{at_err, cut_here, said_assoc, cut_assoc, said_pending, said_nothing}
-use Rattle.ga_console.proofs.AheadLemmas.{ahead_whole, line_whole, line_taken, line_kept, line_within}
-use Rattle.ga_console.proofs.AheadLemmas.{quit_part}
-use Rattle.ga_text.proofs.LineLemmas.{empty_part, some_part}
+use Rattle.ga_text.proofs.SaidLemmas.{at_err, cut_here, said_assoc, cut_assoc, said_pending, said_nothing, empty_part, some_part}
+use Rattle.ga_console.proofs.AheadLemmas.{ahead_whole, line_whole, line_taken, line_kept, line_within, quit_part}
 use Rattle.ga_console.proofs.Heard.{heard_none, heard_push, heard_cut, heard_failed, heard_ended, heard_last, heard_quit, heard_quit_last, heard_past, heard_same, cut_short, read_to, read_past, read_over, split_at, split_past, split_over}
 use Rattle.ga_console.proofs.commands.answer_lines.Goals as goal
 

@@ -1,6 +1,6 @@
 use Rattle.std.proofs.Common.{List, sym, ap, ◌∙◌, subst}
 use Rattle.ga_node.specs.Record.{NodeRecord}
-use Rattle.ga_grid.specs.Steady.{AreSteady}
+use Rattle.ga_grid.specs.Chip.{AreSteady}
 use Rattle.ga_lab.specs.Machine.{State}
 use Rattle.ga_text.specs.Lines.{lines_of}
 use Rattle.ga_image.proofs.ReadSteady.{images_steady}

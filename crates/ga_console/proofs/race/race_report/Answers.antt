@@ -1,7 +1,6 @@
 use Rattle.std.proofs.Common.{[], Some, inl, refl, sym, ap, ◌∙◌}
 use Rattle.std.proofs.lemmas.List.{append-nil}
-use Rattle.ga_console.proofs.Wholes.{alone_whole, alone_long}
-use Rattle.ga_console.proofs.Races.{reports}
+use Rattle.ga_console.proofs.Races.{alone_whole, alone_long, reports}
 use Rattle.ga_console.proofs.race.race_report.Goals as goal
 
 pub returns-in-Whole : goal.returns-in-Whole

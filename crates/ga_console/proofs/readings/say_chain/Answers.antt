@@ -1,8 +1,7 @@
 use Rattle.std.proofs.Common.{ℕ, ◌+◌, List, ◌++◌, length, drop, take, refl, ap, ◌∙◌, arith}
 use Rattle.std.specs.Prelude.{flat_map}
 use Rattle.ga_display.specs.Texts.{made_text, chain_text}
-use Rattle.ga_text.proofs.SaidLemmas.{cut_here, cut_within, cut_assoc, said_as, said_assoc}
-use Rattle.ga_text.proofs.ListedLemmas.{listed_none, listed_more, listed_front, listed_all}
+use Rattle.ga_text.proofs.SaidLemmas.{cut_here, cut_within, cut_assoc, said_as, said_assoc, listed_none, listed_more, listed_front, listed_all}
 use Rattle.ga_console.proofs.readings.say_chain.Goals as goal
 
 pub returns-in_err-say_chain_count : goal.returns-in_err-say_chain_count

@@ -2,8 +2,7 @@ use Rattle.std.proofs.Common.{ℕ, ◌+◌, List, ◌++◌, length, drop, take, 
 use Rattle.std.specs.Prelude.{flat_map}
 use Rattle.ga_display.specs.Texts.{made_text, trace_text}
 use Rattle.ga_console.specs.Replies.{steps_text}
-use Rattle.ga_text.proofs.SaidLemmas.{cut_here, cut_within, cut_assoc, said_as, said_assoc}
-use Rattle.ga_text.proofs.ListedLemmas.{listed_none, listed_more, listed_front, listed_all}
+use Rattle.ga_text.proofs.SaidLemmas.{cut_here, cut_within, cut_assoc, said_as, said_assoc, listed_none, listed_more, listed_front, listed_all}
 use Rattle.ga_console.proofs.readings.say_steps.Goals as goal
 
 pub returns-in_err-say_trace : goal.returns-in_err-say_trace

@@ -5,8 +5,7 @@ use Rattle.ga_grid.specs.declared.node_id.NodeId.{NodeId}
 use Rattle.ga_breakpoints.specs.declared.breakpoint.Breakpoint.{Breakpoint}
 use Rattle.ga_requests.specs.Back.{gone_words, reversed_by}
 use Rattle.ga_dap.specs.Telling.{BackTold}
-use Rattle.ga_dap.proofs.Sends.{carries_so}
-use Rattle.ga_dap.proofs.Shown.{shown_so}
+use Rattle.ga_dap.proofs.Known.{carries_so, shown_so}
 use Rattle.ga_dap.proofs.back.reverse.Goals as goal
 
 pub returns-in_default : goal.returns-in_default

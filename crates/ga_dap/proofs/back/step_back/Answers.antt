@@ -3,8 +3,7 @@ use Rattle.ga_causal.specs.Dependence.{is_marked}
 use Rattle.ga_grid.specs.declared.node_id.NodeId.{NodeId}
 use Rattle.ga_requests.specs.Back.{gone_words}
 use Rattle.ga_dap.specs.Telling.{BackTold}
-use Rattle.ga_dap.proofs.Sends.{carries_so}
-use Rattle.ga_dap.proofs.Shown.{shown_so}
+use Rattle.ga_dap.proofs.Known.{carries_so, shown_so}
 use Rattle.ga_dap.proofs.back.step_back.Goals as goal
 
 pub returns-in_default : goal.returns-in_default

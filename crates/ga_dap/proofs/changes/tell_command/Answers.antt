@@ -2,7 +2,7 @@ use Rattle.std.proofs.Common.{◌∷◌, ap}
 use Rattle.serde_json.specs.View.{view}
 use Rattle.ga_responses.specs.Sending.{answered}
 use Rattle.ga_responses.proofs.Sent.{ok_then}
-use Rattle.ga_dap.proofs.Sends.{sent_then}
+use Rattle.ga_dap.proofs.Known.{sent_then}
 use Rattle.ga_dap.proofs.changes.tell_command.Goals as goal
 
 pub returns : goal.returns

@@ -1,7 +1,7 @@
 use Rattle.std.proofs.Common.{Option, subst}
 use Rattle.ga_text.specs.Lines.{Text}
 use Rattle.ga_dap.specs.Evaluating.{EvaluatesGiven}
-use Rattle.ga_dap.proofs.Sends.{carries_so}
+use Rattle.ga_dap.proofs.Known.{carries_so}
 use Rattle.ga_dap.proofs.console.evaluate.Goals as goal
 
 pub returns : goal.returns

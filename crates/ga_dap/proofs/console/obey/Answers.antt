@@ -4,8 +4,7 @@ use Rattle.ga_causal.specs.Dependence.{is_marked}
 use Rattle.ga_text.specs.Lines.{Text}
 use Rattle.ga_dap.specs.Evaluating.{Commands, AnswerTold}
 use Rattle.ga_dap.specs.Telling.{has_moved}
-use Rattle.ga_dap.proofs.Sends.{carries_so}
-use Rattle.ga_dap.proofs.Shown.{shown_so}
+use Rattle.ga_dap.proofs.Known.{carries_so, shown_so}
 use Rattle.ga_dap.proofs.console.obey.Goals as goal
 
 pub returns-in-Ok-Some : goal.returns-in-Ok-Some

@@ -4,7 +4,7 @@ use Rattle.ga_text.specs.Lines.{Text}
 use Rattle.ga_text.specs.Output.{IsSaid}
 use Rattle.ga_console.proofs.AheadLemmas.{quit_part}
 use Rattle.ga_explorer.specs.Answers.{Explores}
-use Rattle.ga_explorer.specs.Exploring.{Exploring}
+use Rattle.ga_explorer.specs.Opening.{Exploring}
 use Rattle.ga_responses.specs.declared.debuggee.Debuggee.{Debuggee}
 use Rattle.ga_dap.specs.Opening.{parts_explored}
 use Rattle.ga_dap.proofs.Unmoved.{unmoved}

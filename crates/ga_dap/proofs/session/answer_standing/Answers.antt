@@ -3,8 +3,7 @@ use Rattle.ga_responses.specs.declared.debuggee.Debuggee.{Debuggee}
 use Rattle.ga_responses.specs.declared.request_name.RequestName.{RequestName}
 use Rattle.ga_requests.specs.declared.launched.Launched.{Launched}
 use Rattle.ga_dap.specs.Answering.{DoesStanding}
-use Rattle.ga_dap.proofs.Known.{of_place}
-use Rattle.ga_dap.proofs.Sends.{carries_so}
+use Rattle.ga_dap.proofs.Known.{of_place, carries_so}
 use Rattle.ga_dap.proofs.session.answer_standing.Goals as goal
 
 abbrev with_program : Launched → Debuggee → Launched

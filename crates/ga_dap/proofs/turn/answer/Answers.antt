@@ -1,6 +1,6 @@
 use Rattle.std.proofs.Common.{[], refl, ap, inr}
 use Rattle.ga_dap.specs.Client.{refused_for_memory, sent_from, sent_as}
-use Rattle.ga_dap.proofs.Sends.{sent_again}
+use Rattle.ga_dap.proofs.Known.{sent_again}
 use Rattle.ga_dap.proofs.turn.answer.Goals as goal
 
 pub returns-in-Err-Memory : goal.returns-in-Err-Memory

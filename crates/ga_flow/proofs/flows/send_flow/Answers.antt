@@ -1,5 +1,5 @@
 use Rattle.std.proofs.Common.{◌∙◌, ap}
-use Rattle.ga_flow.specs.kept.Following.{settled}
+use Rattle.ga_flow.specs.kept.{settled}
 use Rattle.ga_flow.proofs.Following.{send_found}
 use Rattle.ga_flow.proofs.flows.send_flow.Goals as goal
 

@@ -2,9 +2,8 @@ use Rattle.std.proofs.Common.{◌≡◌, ◌+◌, ◌≤◌, arith, sym, ◌∙�
 use Rattle.std.proofs.lemmas.Bool.{eqb-true}
 use Rattle.std.proofs.lemmas.List.{nil_from_length}
 use Rattle.ga_text.specs.Lines.{lines_of}
-use Rattle.ga_image.specs.Progress.{Progress}
-use Rattle.ga_image.specs.kept.Progress.{progress_of, stage_of}
-use Rattle.ga_image.specs.Reading.{reading, start}
+use Rattle.ga_image.specs.Reading.{Progress, reading, start}
+use Rattle.ga_image.specs.kept.Forms.{progress_of, stage_of}
 use Rattle.ga_image.proofs.Room.{room, IsSized, line_less, start_room}
 use Rattle.ga_image.proofs.Steps.{reads_on, reads_fault, reads_end, reads_cut, still_open}
 use Rattle.ga_image.proofs.image.read.Goals as goal

@@ -1,7 +1,7 @@
 use Rattle.std.proofs.Common.{ℕ, List, ◌++◌}
 use Rattle.std.proofs.lemmas.Result.{on_ok_weaker}
 use Rattle.ga_node.specs.Record.{record_of, fresh_record}
-use Rattle.ga_grid.specs.Load.{load_p_of}
+use Rattle.ga_grid.specs.Grid.{load_p_of}
 use Rattle.ga_image.specs.declared.field.Field.TheVariants.{Ram, Rom}
 use Rattle.ga_image.specs.Printing.{register_lines, state_lines, memory_lines, lines_at}
 use Rattle.ga_image.proofs.Pieces.{lines_grown}

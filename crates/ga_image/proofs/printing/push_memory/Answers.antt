@@ -5,7 +5,7 @@ use Rattle.ga_image.specs.kept.Forms.{field_in}
 use Rattle.ga_image.specs.Printing.{AreWords, line_unless, row_of_words, row_cells}
 use Rattle.ga_image.specs.kept.Printing.{fields_text, memory_in}
 use Rattle.ga_image.proofs.Pieces.{lines_grown, rows_more, row_cell}
-use Rattle.ga_image.proofs.PrintedSound.{rows_words, memory_words}
+use Rattle.ga_image.proofs.PrintedFields.{rows_words, memory_words}
 use Rattle.ga_image.proofs.printing.push_memory.Goals as goal
 
 pub rows-preserved : goal.rows-preserved

@@ -2,7 +2,7 @@ use Rattle.std.proofs.Common.{ℕ, List, ◌++◌, sym, ap, ◌∙◌}
 use Rattle.std.proofs.lemmas.Result.{on_ok_weaker}
 use Rattle.ga_stacks.specs.Ring.{fresh_word}
 use Rattle.ga_node.specs.Record.{record_of}
-use Rattle.ga_grid.specs.Load.{load_p_of}
+use Rattle.ga_grid.specs.Grid.{load_p_of}
 use Rattle.ga_image.specs.declared.field.Field.TheVariants.{A, B, P, I, Io}
 use Rattle.ga_image.specs.kept.Printing.{fields_text}
 use Rattle.ga_image.specs.Printing.{word_unless}

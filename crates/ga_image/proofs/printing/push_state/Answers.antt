@@ -3,12 +3,12 @@ use Rattle.std.proofs.Common.{ℕ, List, ◌++◌, sym, ◌∙◌, ap, subst}
 use Rattle.std.proofs.lemmas.Result.{on_ok_weaker}
 use Rattle.ga_stacks.specs.Ring.{fresh_word, listed}
 use Rattle.ga_node.specs.Record.{record_of}
-use Rattle.ga_node.specs.Waits.{wait_code}
+use Rattle.ga_node.specs.State.{wait_code}
 use Rattle.ga_image.specs.declared.field.Field.TheVariants.{Carry, Slot, Wait, Stop, Data, Return}
 use Rattle.ga_image.specs.Printing.{line_unless, word_unless}
 use Rattle.ga_image.specs.ReadBack.{HasSides}
 use Rattle.ga_image.proofs.Pieces.{lines_grown, word_grown, words_grown}
-use Rattle.ga_image.proofs.PrintedSound.{sides_of, holds_words}
+use Rattle.ga_image.proofs.PrintedFields.{sides_of, holds_words}
 use Rattle.ga_image.proofs.printing.push_state.Goals as goal
 
 pub returns-clause-text : goal.returns-clause-text

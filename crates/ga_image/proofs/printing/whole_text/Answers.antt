@@ -7,7 +7,7 @@ use Rattle.ga_image.specs.kept.Printing.{blocks_text}
 use Rattle.ga_image.specs.Printing.{block_unless, lines_at}
 use Rattle.ga_image.specs.ReadBack.{IsSoundRecord}
 use Rattle.ga_image.proofs.Pieces.{next_block, finished}
-use Rattle.ga_image.proofs.PrintedSound.{all_more, all_whole}
+use Rattle.ga_image.proofs.PrintedFields.{all_more, all_whole}
 use Rattle.ga_image.proofs.printing.whole_text.Goals as goal
 
 pub loop-number-preserved : goal.loop-number-preserved

@@ -1,4 +1,4 @@
-use Rattle.ga_lab.proofs.Reached as Reached
+use Rattle.ga_lab.proofs.Again as Reached
 use Rattle.ga_lab.proofs.laws.kept_fits.Goals as goal
 
 pub returns : goal.returns

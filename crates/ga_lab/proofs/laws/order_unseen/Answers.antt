@@ -1,5 +1,5 @@
 use Rattle.ga_lab.proofs.Alike as Alike
-use Rattle.ga_lab.proofs.Reached.{some_reached}
+use Rattle.ga_lab.proofs.Again.{some_reached}
 use Rattle.ga_lab.proofs.laws.order_unseen.Goals as goal
 
 pub returns-clause-chip : goal.returns-clause-chip

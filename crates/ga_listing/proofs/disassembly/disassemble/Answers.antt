@@ -1,6 +1,6 @@
 use Rattle.std.proofs.Common.{[], Some, inl, refl, sym, ap, ◌∙◌}
 use Rattle.std.proofs.lemmas.List.{append-nil}
-use Rattle.ga_console.proofs.Wholes.{alone_whole, alone_long}
+use Rattle.ga_console.proofs.Races.{alone_whole, alone_long}
 use Rattle.ga_listing.proofs.Sources.{disassembles, disassembles_nothing}
 use Rattle.ga_listing.proofs.disassembly.disassemble.Goals as goal
 

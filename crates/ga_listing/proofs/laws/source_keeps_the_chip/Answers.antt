@@ -1,6 +1,6 @@
 use Rattle.std.proofs.Common.{◌≡◌}
 use Rattle.ga_parser.specs.Saying.{said_in}
-use Rattle.ga_listing.proofs.SourceReads.{read_says, made_of_same}
+use Rattle.ga_listing.proofs.Telling.{read_says, made_of_same}
 use Rattle.ga_listing.proofs.laws.source_keeps_the_chip.Goals as goal
 
 pub returns-clause-made : goal.returns-clause-made

@@ -1,6 +1,6 @@
 use Rattle.std.proofs.Common.{ℕ, List, [], Some, sym, ap, subst, ◌∙◌}
 use Rattle.std.proofs.lemmas.List.{append-nil}
-use Rattle.ga_listing.specs.kept.Source.{Listing}
+use Rattle.ga_listing.specs.kept.{Listing}
 use Rattle.ga_listing.proofs.Sources.{lists, lists_nothing}
 use Rattle.ga_listing.proofs.listing.list_source.Goals as goal
 

@@ -1,7 +1,7 @@
 use Rattle.std.proofs.Common.{ℕ, List, ◌∙◌, ◌++◌, ap, arith, refl}
 use Rattle.std.specs.Prelude.{slice_index}
-use Rattle.ga_notes.specs.kept.Texts.{shown_byte}
-use Rattle.ga_text.proofs.ListedLemmas.{listed_none, listed_more, listed_all}
+use Rattle.ga_notes.specs.kept.{shown_byte}
+use Rattle.ga_text.proofs.SaidLemmas.{listed_none, listed_more, listed_all}
 use Rattle.ga_notes.proofs.faults.push_shown.Goals as goal
 
 pub loop-byte-init : goal.loop-byte-init

@@ -3,7 +3,7 @@ use Rattle.ga_node.specs.Record.{record_of}
 use Rattle.ga_lab.specs.Machine.{Standing}
 use Rattle.ga_origin.specs.Origins.{node_after}
 use Rattle.ga_origin.proofs.Made.{stood_of, within_so, back_so}
-use Rattle.ga_origin.proofs.Asking.{asked_here}
+use Rattle.ga_origin.proofs.Causes.{asked_here}
 use Rattle.ga_origin.proofs.asked.asked_behind.Goals as goal
 
 pub returns-clause-value : goal.returns-clause-value

@@ -4,10 +4,8 @@ use Rattle.ga_causal.specs.Dependence.{itself}
 use Rattle.ga_flow.specs.Flow.{top}
 use Rattle.ga_origin.specs.declared.listing.Row.{Row}
 use Rattle.ga_origin.specs.Origins.{value_of_step}
-use Rattle.ga_origin.specs.Rows.{row_at}
-use Rattle.ga_origin.specs.Causes.{IsNamedFor}
-use Rattle.ga_origin.proofs.Causes.{rows_named, earlier}
-use Rattle.ga_origin.proofs.Asking.{asked_near}
+use Rattle.ga_origin.specs.Rows.{row_at, IsNamedFor}
+use Rattle.ga_origin.proofs.Causes.{rows_named, earlier, asked_near}
 use Rattle.ga_origin.proofs.laws.asked_steps_are_causes.Goals as goal
 
 pub returns : goal.returns

@@ -2,8 +2,7 @@ use Rattle.std.proofs.Common.{[], ◌∷◌, inr}
 use Rattle.std.proofs.lemmas.List.Elements.{All-nil, All-cons}
 use Rattle.ga_causal.specs.Dependence.{itself}
 use Rattle.ga_origin.specs.declared.listing.Row.{Row}
-use Rattle.ga_origin.specs.Rows.{row_at}
-use Rattle.ga_origin.specs.Causes.{IsNamedFor}
+use Rattle.ga_origin.specs.Rows.{row_at, IsNamedFor}
 use Rattle.ga_origin.proofs.Causes.{rows_named}
 use Rattle.ga_origin.proofs.laws.named_steps_are_causes.Goals as goal
 

@@ -1,5 +1,5 @@
 use Rattle.std.proofs.Common.{◌≤◌}
-use Rattle.ga_origin.specs.kept.Kept.{AreHeld}
+use Rattle.ga_origin.specs.kept.Searching.{AreHeld}
 use Rattle.ga_origin.proofs.registers.registers_at.Given as goal
 
 abbrev pub invariant-going : goal.invariant-going

@@ -1,6 +1,6 @@
 use Rattle.std.proofs.Common.{[], ◌+◌, take, refl, sym, subst}
 use Rattle.ga_grid.specs.Chip.{records_of}
-use Rattle.ga_page.specs.kept.Made.{MakesAll, none}
+use Rattle.ga_page.specs.kept.{MakesAll, none}
 use Rattle.ga_page.proofs.Mades.{made_more}
 use Rattle.ga_page.proofs.made.make_all.Goals as goal
 

@@ -1,6 +1,6 @@
 use Rattle.std.proofs.Common.{[], ◌++◌, Some, sym, ap, ◌∙◌, append_assoc}
 use Rattle.ga_console.proofs.RunLemmas.{said_fresh}
-use Rattle.ga_picture.proofs.Going.{goes_ended, goes_broken, stream_fault}
+use Rattle.ga_picture.proofs.Following.{goes_ended, goes_broken, stream_fault}
 use Rattle.ga_picture.proofs.follow.follow.Goals as goal
 
 pub returns-in-Done : goal.returns-in-Done

@@ -1,7 +1,6 @@
 use Rattle.std.proofs.Common.{◌≡◌, ◌≤◌, true, false, length, sym, subst, arith}
 use Rattle.ga_protocol.specs.Framing.{header_end, OneBeginsOther, Finds, IsLength}
-use Rattle.ga_protocol.proofs.Frames.{whole, is_too_long, is_many, is_no_end, is_part, no_digits}
-use Rattle.ga_protocol.proofs.Tests.{is_zero, not_zero}
+use Rattle.ga_protocol.proofs.Frames.{whole, is_too_long, is_many, is_no_end, is_part, no_digits, is_zero, not_zero}
 use Rattle.ga_protocol.proofs.framing.front_behind.Goals as goal
 
 pub returns-in_default : goal.returns-in_default

@@ -1,7 +1,7 @@
 use Rattle.std.proofs.Common.{◌≡◌, ◌≤◌, ◌<◌, ◌+◌, ◌*◌, ◌-◌, ℕ, List, length, drop, get_or, arith}
 use Rattle.std.proofs.lemmas.List.{at_drop_more}
 use Rattle.ga_protocol.specs.Framing.{content_limit, value_from}
-use Rattle.ga_protocol.proofs.Digits.{grows}
+use Rattle.ga_protocol.proofs.Unique.{grows}
 use Rattle.ga_protocol.proofs.framing.length_of.Goals as goal
 
 -- one digit more

@@ -1,6 +1,5 @@
 use Rattle.std.proofs.Common.{length}
-use Rattle.ga_protocol.proofs.Frames.{is_name, is_no_digit}
-use Rattle.ga_protocol.proofs.Tests.{is_zero, not_zero}
+use Rattle.ga_protocol.proofs.Frames.{is_name, is_no_digit, is_zero, not_zero}
 use Rattle.ga_protocol.proofs.framing.without_digit.Goals as goal
 
 pub returns-then-is_empty : goal.returns-then-is_empty

@@ -1,4 +1,4 @@
-use Rattle.ga_race_detector.proofs.Sessions.{no_next}
+use Rattle.ga_race_detector.proofs.Offering.{no_next}
 use Rattle.ga_race_detector.proofs.laws.ends.Goals as goal
 
 pub returns : goal.returns

@@ -3,7 +3,7 @@ use Rattle.ga_node.specs.Record.{NodeRecord, record_of}
 use Rattle.ga_grid.specs.Chip.{record_at}
 use Rattle.ga_event.specs.Apply.{replay}
 use Rattle.ga_lab.specs.Machine.{State, chip_of, earlier, rewound}
-use Rattle.ga_race_detector.specs.Offered.{offered_by, given}
+use Rattle.ga_race_detector.specs.Races.{offered_by, given}
 use Rattle.ga_race_detector.proofs.Standing.{IsBehind, is_rewound}
 use Rattle.ga_race_detector.proofs.offers.offered.Goals as goal
 

@@ -1,6 +1,6 @@
 use Rattle.std.proofs.Common.{◌≡◌, ◌<◌, ℕ, false}
 use Rattle.ga_grid.specs.Chip.{records_of}
-use Rattle.ga_races.specs.Ready.{can_go}
+use Rattle.ga_races.specs.Orders.{can_go}
 use Rattle.ga_race_detector.proofs.races.is_quiet.Given as goal
 
 abbrev pub invariant-nodes : goal.invariant-nodes

@@ -2,7 +2,7 @@ use Rattle.std.proofs.Common.{ℕ, Option, ◌∙◌, sym, ap}
 use Rattle.std.specs.Prelude.{is_some}
 use Rattle.ga_event.specs.Apply.{beside_in}
 use Rattle.ga_lab.specs.Machine.{chip_of, rewound}
-use Rattle.ga_race_detector.proofs.Showing.{rewound_shows}
+use Rattle.ga_race_detector.proofs.Posted.{rewound_shows}
 use Rattle.ga_race_detector.proofs.readings.beside_behind.Goals as goal
 
 pub returns-in-Some : goal.returns-in-Some

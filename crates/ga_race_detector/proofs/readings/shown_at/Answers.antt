@@ -4,8 +4,7 @@ use Rattle.ga_node.specs.Record.{NodeRecord, record_of}
 use Rattle.ga_event.specs.Apply.{shows}
 use Rattle.ga_lab.specs.Machine.{chip_of}
 use Rattle.ga_lab.proofs.Called.{runs_of}
-use Rattle.ga_race_detector.proofs.Posted.{last_stood}
-use Rattle.ga_race_detector.proofs.Showing.{own_shows}
+use Rattle.ga_race_detector.proofs.Posted.{last_stood, own_shows}
 use Rattle.ga_race_detector.proofs.readings.shown_at.Goals as goal
 
 pub returns-in-Some-Own : goal.returns-in-Some-Own

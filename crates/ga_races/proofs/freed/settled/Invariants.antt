@@ -1,8 +1,7 @@
 use Rattle.std.proofs.Common.{◌≡◌, ℕ, Bool, length}
 use Rattle.ga_grid.specs.Chip.{records_of}
 use Rattle.ga_causal.specs.Dependence.{is_marked}
-use Rattle.ga_races.specs.Stuck.{AreStuck}
-use Rattle.ga_races.specs.Freed.{IsSubset}
+use Rattle.ga_races.specs.Acts.{AreStuck, IsSubset}
 use Rattle.ga_races.proofs.Freeing.{how_many}
 use Rattle.ga_races.proofs.freed.settled.Given as goal
 

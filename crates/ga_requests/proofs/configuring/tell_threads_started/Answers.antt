@@ -1,6 +1,6 @@
 use Rattle.std.proofs.Common.{false, replicate, subst}
 use Rattle.ga_causal.specs.Dependence.{is_marked}
-use Rattle.ga_causal.proofs.Flags.{none_marked}
+use Rattle.ga_causal.proofs.Oldest.{none_marked}
 use Rattle.ga_responses.specs.Sending.{Messages, SendsAll}
 use Rattle.ga_responses.proofs.Sent.{ok_then}
 use Rattle.ga_requests.proofs.Answered.{changed_alike}

@@ -3,7 +3,7 @@ use Rattle.ga_notes.specs.declared.notes.Notes.{Notes}
 use Rattle.ga_search.specs.Running.{Running, running}
 use Rattle.ga_breakpoints.specs.Going.{HasGone, stepping_on}
 use Rattle.ga_breakpoints.specs.declared.hits.HitTally.{HitTally}
-use Rattle.ga_responses.specs.Programs.{notes_or, program_notes}
+use Rattle.ga_responses.specs.Disassembling.{notes_or, program_notes}
 use Rattle.ga_requests.specs.Slices.{slice_limit, tally_begun}
 use Rattle.ga_requests.proofs.execution.step_slice.Goals as goal
 

@@ -1,7 +1,6 @@
 use Rattle.std.proofs.Common.{codes, refl}
 use Rattle.ga_responses.specs.Sending.{refused_response}
-use Rattle.ga_responses.proofs.Sent.{ok_then}
-use Rattle.ga_responses.proofs.Told.{with_reference}
+use Rattle.ga_responses.proofs.Sent.{ok_then, with_reference}
 use Rattle.ga_responses.proofs.disassembling.tell_instructions.Goals as goal
 
 pub returns-in-None-clause-sent : goal.returns-in-None-clause-sent

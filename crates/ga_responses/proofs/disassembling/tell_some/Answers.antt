@@ -2,8 +2,7 @@ use Rattle.std.proofs.Common.{◌≡◌, ◌∙◌, ℕ, min, ap}
 use Rattle.serde_json.specs.View.{view}
 use Rattle.ga_notes.specs.declared.notes.Notes.{Notes}
 use Rattle.ga_adapter.specs.Disassembly.{disassembled}
-use Rattle.ga_responses.specs.Disassembling.{first_told}
-use Rattle.ga_responses.specs.Programs.{program_notes}
+use Rattle.ga_responses.specs.Disassembling.{first_told, program_notes}
 use Rattle.ga_responses.specs.Sending.{answered}
 use Rattle.ga_responses.proofs.Sent.{ok_then}
 use Rattle.ga_responses.proofs.disassembling.tell_some.Goals as goal

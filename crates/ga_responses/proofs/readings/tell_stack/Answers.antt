@@ -3,7 +3,7 @@ use Rattle.ga_notes.specs.declared.notes.Notes.{Notes}
 use Rattle.serde_json.specs.View.{view}
 use Rattle.ga_adapter.specs.Frames.{stack_trace}
 use Rattle.ga_responses.specs.Arguments.{number_given_or}
-use Rattle.ga_responses.specs.Programs.{program_notes}
+use Rattle.ga_responses.specs.Disassembling.{program_notes}
 use Rattle.ga_responses.specs.Sending.{answered, refused_response}
 use Rattle.ga_responses.proofs.Sent.{ok_then}
 use Rattle.ga_responses.proofs.readings.tell_stack.Goals as goal

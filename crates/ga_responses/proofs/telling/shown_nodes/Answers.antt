@@ -1,6 +1,6 @@
 use Rattle.std.proofs.Common.{◌∙◌, ap, arith, length-set}
 use Rattle.ga_adapter.specs.Threads.{has_thread}
-use Rattle.ga_responses.proofs.Marked.{marked_more}
+use Rattle.ga_responses.proofs.Sent.{marked_more}
 use Rattle.ga_responses.proofs.telling.shown_nodes.Goals as goal
 
 pub loop-number-preserved : goal.loop-number-preserved

@@ -1,7 +1,7 @@
 use Rattle.std.proofs.Common.{sym, ◌∙◌, ap}
 use Rattle.std.specs.Prelude.{is_ok}
 use Rattle.ga_grid.specs.Chip.{records_of}
-use Rattle.ga_search.specs.kept.Ready.{IsRight}
+use Rattle.ga_search.specs.kept.Backward.{IsRight}
 use Rattle.ga_races.proofs.Ready.{can_go_is}
 use Rattle.ga_search.proofs.Looking.{looked_kept}
 use Rattle.ga_search.proofs.ready.look.Goals as goal

@@ -1,4 +1,4 @@
-use Rattle.ga_search.specs.kept.Numbers.{has}
+use Rattle.ga_search.specs.kept.Backward.{has}
 use Rattle.ga_races.proofs.Ready.{within}
 use Rattle.ga_search.proofs.ready.lowest_from.Goals as goal
 

@@ -1,5 +1,5 @@
 use Rattle.std.proofs.Common.{sym, subst}
-use Rattle.ga_search.specs.kept.Ready.{IsRefreshed}
+use Rattle.ga_search.specs.kept.Backward.{IsRefreshed}
 use Rattle.ga_grid.specs.Chip.{records_of}
 use Rattle.ga_search.proofs.Looking.{around_stays}
 use Rattle.ga_search.proofs.ready.refresh.Goals as goal

@@ -1,7 +1,7 @@
 use Rattle.std.proofs.Common.{◌≡◌, ◌∙◌, true, false, Option, ap, sym, arith}
 use Rattle.ga_grid.specs.declared.node_id.NodeId.{NodeId}
 use Rattle.ga_lab.specs.Machine.{chip_of}
-use Rattle.ga_races.specs.Ready.{can_go}
+use Rattle.ga_races.specs.Orders.{can_go}
 use Rattle.ga_search.specs.Running.{Running, running}
 use Rattle.ga_search.specs.Watched.{chosen_first}
 use Rattle.ga_search.proofs.Stepping.{choice_is, nothing_past}

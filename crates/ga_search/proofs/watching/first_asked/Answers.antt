@@ -1,7 +1,7 @@
 use Rattle.std.proofs.Common.{◌≡◌, ◌∙◌, Some, length, refl, sym, arith}
 use Rattle.std.specs.Prelude.{slice_get}
 use Rattle.std.proofs.lemmas.Option.{slice_get_read}
-use Rattle.ga_search.proofs.Held.{held_first, none_held, none_more}
+use Rattle.ga_search.proofs.Needing.{held_first, none_held, none_more}
 use Rattle.ga_search.specs.Conditions.{holds}
 use Rattle.ga_search.proofs.watching.first_asked.Goals as goal
 

@@ -1,4 +1,4 @@
-use Rattle.ga_search.proofs.Held.{NoneOf}
+use Rattle.ga_search.proofs.Needing.{NoneOf}
 use Rattle.ga_search.proofs.watching.first_asked.Given as goal
 
 abbrev pub invariant-loop-place : goal.invariant-loop-place

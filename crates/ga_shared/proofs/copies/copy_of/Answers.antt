@@ -1,6 +1,6 @@
 use Rattle.std.proofs.Common.{◌≡◌, ◌<◌, length, ◌∙◌, ap, sym, arith, below_more}
 use Rattle.ga_node.specs.Record.{record_of}
-use Rattle.ga_grid.specs.Load.{load_p_of}
+use Rattle.ga_grid.specs.Grid.{load_p_of}
 use Rattle.ga_grid.specs.Chip.{node_at, with_node}
 use Rattle.ga_grid.proofs.Chips.{node_at-default_chip, length-default_chip, node_at-with_node_same, node_at-with_node_other, length-with_node}
 use Rattle.ga_shared.proofs.NodeCopies.{records_of-same}

@@ -3,8 +3,7 @@ use Rattle.std.specs.Prelude.{IsTrue, ◌==◌, ◌||◌}
 use Rattle.ga_node.specs.declared.place.Place.TheVariants as place
 use Rattle.ga_node.specs.declared.wait.Wait.{Wait}
 use Rattle.ga_node.specs.Record.{NodeState, record_of}
-use Rattle.ga_node.specs.State.{with_value}
-use Rattle.ga_node.specs.Waits.{wait_code}
+use Rattle.ga_node.specs.State.{with_value, wait_code}
 use Rattle.ga_shared.proofs.NodeCopies.{carry_back}
 use Rattle.ga_shared.proofs.copies.copy_registers.Goals as goal
 

@@ -1,5 +1,5 @@
 use Rattle.std.proofs.Common.{take}
-use Rattle.ga_shared.specs.Race.{Works}
+use Rattle.ga_shared.specs.Log.{Works}
 use Rattle.ga_shared.proofs.workers.work.Given as goal
 
 abbrev pub invariant-loop-i : goal.invariant-loop-i

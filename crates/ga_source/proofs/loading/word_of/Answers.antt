@@ -1,8 +1,7 @@
 use Rattle.std.proofs.Common.{◌<◌, List, length, sym, subst}
 use Rattle.std.specs.Prelude.{IfSome}
 use Rattle.ga_parser.specs.declared.item.Item.{Item}
-use Rattle.ga_source.specs.kept.Layout.{IsFit}
-use Rattle.ga_source.specs.kept.Loading.{IsWordOf}
+use Rattle.ga_source.specs.kept.Layout.{IsFit, IsWordOf}
 use Rattle.ga_source.proofs.Coded.{four_codes, word_found}
 use Rattle.ga_source.proofs.loading.word_of.Goals as goal
 

@@ -1,8 +1,7 @@
 use Rattle.std.proofs.Common.{rules, ◌≡◌, List, arith, ◌<◌, length, take, sym, subst, refl}
 use Rattle.std.specs.Prelude.{Err}
 use Rattle.std.proofs.lemmas.List.{take_all, take_more, map-append}
-use Rattle.ga_source.specs.kept.Layout.{IsWalked}
-use Rattle.ga_source.specs.kept.Grouping.{IsGrouped}
+use Rattle.ga_source.specs.kept.Layout.{IsWalked, IsGrouped}
 use Rattle.ga_parser.specs.declared.item.Asked.{Asked}
 use Rattle.ga_source.specs.kept.Packing.{requests_of, IsPackedPlain}
 use Rattle.ga_source.proofs.CellGroups.{none_packed, one_plain}

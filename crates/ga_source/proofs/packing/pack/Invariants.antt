@@ -1,6 +1,5 @@
 use Rattle.std.proofs.Common.{take}
-use Rattle.ga_source.specs.kept.Layout.{IsInCell, IsWalked}
-use Rattle.ga_source.specs.kept.Grouping.{IsGrouped}
+use Rattle.ga_source.specs.kept.Layout.{IsInCell, IsWalked, IsGrouped}
 use Rattle.ga_source.specs.kept.Packing.{requests_of, ArePlain, IsPackedPlain}
 use Rattle.ga_source.proofs.packing.pack.Given as goal
 

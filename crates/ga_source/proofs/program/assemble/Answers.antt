@@ -1,6 +1,6 @@
 use Rattle.std.proofs.Common.{◌∙◌, ap, sym}
 use Rattle.ga_parser.specs.Saying.{all_said}
-use Rattle.ga_source.proofs.Assembling.{asked_of_words, read_of_words, made_of_source, refused_of_words, empty_of_source, steady_of_source}
+use Rattle.ga_source.proofs.PlainNodes.{asked_of_words, read_of_words, made_of_source, refused_of_words, empty_of_source, steady_of_source}
 use Rattle.ga_source.proofs.program.assemble.Goals as goal
 
 pub returns-clause-asked : goal.returns-clause-asked

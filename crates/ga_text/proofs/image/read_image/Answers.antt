@@ -1,10 +1,9 @@
 use Rattle.std.proofs.Common.{◌≡◌, ℕ, ◌-◌, Bool, true, false, List, [], ◌∷◌, ◌++◌, length, take, drop, sym, ap, ◌∙◌, subst, arith, length-append, append_assoc}
-use Rattle.ga_text.proofs.PartLemmas.{where_err}
+use Rattle.ga_text.proofs.Taking.{where_err}
 use Rattle.std.proofs.lemmas.Bool.{false≢true}
 use Rattle.ga_text.specs.Lines.{ended}
-use Rattle.ga_text.specs.kept.Input.{TakesPart}
+use Rattle.ga_text.specs.kept.{TakesPart, with_feed}
 use Rattle.ga_text.specs.Input.{Unread}
-use Rattle.ga_text.specs.kept.Image.{with_feed}
 use Rattle.ga_text.specs.Image.{end_line}
 use Rattle.ga_text.proofs.ImageLemmas.{Body, body_more, body_line, line_range, no_end, over_piece, over_all, ended_piece}
 use Rattle.ga_text.proofs.image.read_image.Goals as goal

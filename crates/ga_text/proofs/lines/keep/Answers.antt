@@ -1,5 +1,5 @@
 use Rattle.std.proofs.Common.{◌≡◌, ℕ, ◌+◌, ◌++◌, length, take, ap, ◌∙◌, arith, length-take}
-use Rattle.ga_text.proofs.PartLemmas.{kept_bytes, where_ok}
+use Rattle.ga_text.proofs.Taking.{kept_bytes, where_ok}
 use Rattle.ga_text.proofs.lines.keep.Goals as goal
 
 pub returns : goal.returns

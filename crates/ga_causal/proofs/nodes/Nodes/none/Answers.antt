@@ -1,4 +1,4 @@
-use Rattle.ga_causal.proofs.Flags.{none_marked}
+use Rattle.ga_causal.proofs.Oldest.{none_marked}
 use Rattle.ga_causal.proofs.nodes.Nodes.none.Goals as goal
 
 pub returns : goal.returns

@@ -1,8 +1,7 @@
 use Rattle.std.proofs.Common.{refl, subst, sym}
 use Rattle.ga_responses.specs.declared.request_name.RequestName.{RequestName}
 use Rattle.ga_dap.specs.Answering.{AnswersKnown}
-use Rattle.ga_dap.proofs.Known.{of_launched}
-use Rattle.ga_dap.proofs.Sends.{carries_so}
+use Rattle.ga_dap.proofs.Known.{of_launched, carries_so}
 use Rattle.ga_dap.proofs.session.Session.answer_known.Goals as goal
 
 pub returns-in-Initialize : goal.returns-in-Initialize

@@ -2,7 +2,7 @@ use Rattle.std.proofs.Common.{◌∙◌, Option, Some, refl, subst, sym, ap}
 use Rattle.ga_requests.specs.declared.launched.Launched.{Launched}
 use Rattle.ga_dap.specs.declared.session.Session.{Session}
 use Rattle.ga_dap.specs.Answering.{DoesIfLaunched}
-use Rattle.ga_dap.proofs.Sends.{carries_so}
+use Rattle.ga_dap.proofs.Known.{carries_so}
 use Rattle.ga_dap.proofs.session.Session.answer_launched.Goals as goal
 
 pub returns-in-Some : goal.returns-in-Some

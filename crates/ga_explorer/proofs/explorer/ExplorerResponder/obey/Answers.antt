@@ -1,8 +1,8 @@
 use Rattle.std.proofs.Common.{ap, subst, inl, inr}
 use Rattle.ga_console.specs.Replies.{LineAnswer}
-use Rattle.ga_explorer.specs.Exploring.{Exploring}
+use Rattle.ga_explorer.specs.Opening.{Exploring}
 use Rattle.ga_explorer.specs.Answers.Explores.{debugged}
-use Rattle.ga_explorer.proofs.Apart.{debugger_alone}
+use Rattle.ga_explorer.proofs.LineAnswers.{debugger_alone}
 use Rattle.ga_explorer.proofs.explorer.ExplorerResponder.obey.Goals as goal
 
 pub returns : goal.returns

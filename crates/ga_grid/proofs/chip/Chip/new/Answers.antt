@@ -2,7 +2,7 @@ use Rattle.std.proofs.Common.{◌≡◌, ◌∙◌, ◌++◌, ◌∷◌, [], sym
 use Rattle.std.specs.List.{range_with_len}
 use Rattle.std.proofs.lemmas.List.FromFn.{map-range_with_len_more}
 use Rattle.ga_node.specs.Record.{fresh_node}
-use Rattle.ga_grid.specs.Load.{load_p_of, default_chip}
+use Rattle.ga_grid.specs.Grid.{load_p_of, default_chip}
 use Rattle.ga_grid.proofs.chip.Chip.new.Goals as goal
 
 pub loop-number-preserved : goal.loop-number-preserved

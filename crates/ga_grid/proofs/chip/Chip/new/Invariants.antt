@@ -1,7 +1,7 @@
 use Rattle.std.proofs.Common.{◌≡◌, map}
 use Rattle.std.specs.List.{range_with_len}
 use Rattle.ga_node.specs.Record.{fresh_node}
-use Rattle.ga_grid.specs.Load.{load_p_of}
+use Rattle.ga_grid.specs.Grid.{load_p_of}
 use Rattle.ga_grid.proofs.chip.Chip.new.Given as goal
 
 -- the nodes so far

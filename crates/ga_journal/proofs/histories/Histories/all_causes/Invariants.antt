@@ -1,8 +1,7 @@
 use Rattle.std.proofs.Common.{◌≡◌, ◌≤◌, List, length, drop, take, map, vec_len}
 use Rattle.std.specs.Prelude.{vec_capacity}
-use Rattle.ga_journal.specs.kept.Histories.{lists_of}
+use Rattle.ga_journal.specs.kept.Histories.{lists_of, WalksBack}
 use Rattle.ga_journal.specs.Logs.{Stamped, Records}
-use Rattle.ga_journal.specs.kept.Cuts.{WalksBack}
 use Rattle.ga_journal.proofs.Recalling.{cause_at}
 use Rattle.ga_journal.proofs.histories.Histories.all_causes.Given as goal
 

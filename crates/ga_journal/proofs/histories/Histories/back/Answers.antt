@@ -1,9 +1,7 @@
 use Rattle.std.proofs.Common.{◌+◌, ◌∙◌, refl, sym, ap}
 use Rattle.std.specs.Prelude.{slice_index}
-use Rattle.ga_journal.specs.kept.Histories.{lists_of, bound_of}
+use Rattle.ga_journal.specs.kept.Histories.{lists_of, bound_of, IsTopmost, cut}
 use Rattle.ga_journal.specs.Histories.{history}
-use Rattle.ga_journal.specs.kept.Newest.{IsTopmost}
-use Rattle.ga_journal.specs.kept.Cuts.{cut}
 use Rattle.ga_journal.proofs.Heads.{bound-push}
 use Rattle.ga_journal.proofs.Keeping.{newest_is}
 use Rattle.ga_journal.proofs.Popping.{own_newest, sent_left, sent_more, sent_newest, took_left, took_more, took_newest}

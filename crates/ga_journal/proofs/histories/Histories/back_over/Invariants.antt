@@ -1,7 +1,6 @@
 use Rattle.std.proofs.Common.{◌≤◌, ◌-◌, List, length, drop}
-use Rattle.ga_journal.specs.kept.Histories.{lists_of}
+use Rattle.ga_journal.specs.kept.Histories.{lists_of, WalksBack}
 use Rattle.ga_journal.specs.Logs.{Stamped}
-use Rattle.ga_journal.specs.kept.Cuts.{WalksBack}
 use Rattle.ga_journal.proofs.histories.Histories.back_over.Given as goal
 
 abbrev pub invariant-loop : goal.invariant-loop

@@ -1,7 +1,7 @@
 use Rattle.std.proofs.Common.{◌<◌, subst, sym}
 use Rattle.ga_journal.specs.kept.Histories.{bound_of}
 use Rattle.ga_journal.specs.kept.Ends.{CanGoBack}
-use Rattle.ga_journal.proofs.Rooms.{history_read, popped_last, popped_others}
+use Rattle.ga_journal.proofs.Cutting.{history_read, popped_last, popped_others}
 use Rattle.ga_journal.proofs.histories.Histories.go_back.Goals as goal
 
 pub go_back-requires-clause-some : goal.go_back-requires-clause-some

@@ -1,6 +1,6 @@
 use Rattle.std.proofs.Common.{◌∙◌, ap}
 use Rattle.ga_journal.specs.Histories.{Room}
-use Rattle.ga_journal.proofs.Rooms.{on_ok, lists_same, room_grown}
+use Rattle.ga_journal.proofs.Cutting.{on_ok, lists_same, room_grown}
 use Rattle.ga_journal.proofs.histories.Histories.grow.Goals as goal
 
 pub returns-clause-same : goal.returns-clause-same

@@ -1,6 +1,6 @@
 use Rattle.std.proofs.Common.{◌∙◌, ap, sym, Result, Ok, Err, OnOk, OnErr}
 use Rattle.ga_journal.specs.Histories.{Room}
-use Rattle.ga_journal.proofs.Rooms.{on_ok, lists_same, room_grown, room_read, pass_rooms}
+use Rattle.ga_journal.proofs.Cutting.{on_ok, lists_same, room_grown, room_read, pass_rooms}
 use Rattle.ga_journal.proofs.histories.Histories.grow_for_pass.Goals as goal
 
 both_ok : {T E : Type 0} (A B : Type 0) (r : Result T E) → OnOk r A → OnOk r B → OnOk r (A × B)

@@ -2,7 +2,7 @@ use Rattle.std.proofs.Common.{◌<◌, ◌≤◌, sym, subst, arith}
 use Rattle.ga_journal.specs.kept.Histories.{lists_of, Rises}
 use Rattle.ga_journal.specs.Histories.{history}
 use Rattle.ga_journal.specs.Looks.{IsLookAfter, HasNoLookAfter}
-use Rattle.ga_journal.proofs.Rooms.{history_read}
+use Rattle.ga_journal.proofs.Cutting.{history_read}
 use Rattle.ga_journal.proofs.Looking.{look_first, look_before}
 use Rattle.ga_journal.proofs.histories.Histories.look_after.Goals as goal
 

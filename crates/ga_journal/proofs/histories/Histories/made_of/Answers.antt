@@ -2,10 +2,9 @@ use Rattle.std.proofs.Common.{◌≡◌, ◌∙◌, Some, length, sym, ap, subst
 use Rattle.std.specs.Prelude.{slice_get}
 use Rattle.ga_journal.specs.kept.Histories.{lists_of}
 use Rattle.ga_journal.specs.Histories.{history}
-use Rattle.ga_journal.specs.kept.Entries.{AtsWithin, at_of, entries_made, entry_made}
-use Rattle.ga_journal.proofs.Rooms.{history_read}
-use Rattle.ga_journal.proofs.Telling.{at_read}
-use Rattle.ga_journal.proofs.Picking.{entry_picked, none_past}
+use Rattle.ga_journal.specs.kept.Marks.{AtsWithin, at_of, entries_made, entry_made}
+use Rattle.ga_journal.proofs.Cutting.{history_read}
+use Rattle.ga_journal.proofs.Telling.{at_read, entry_picked, none_past}
 use Rattle.ga_journal.proofs.histories.Histories.made_of.Goals as goal
 
 pub made_by-requires-clause-own : goal.made_by-requires-clause-own

@@ -2,8 +2,8 @@ use Rattle.std.proofs.Common.{◌≡◌, ◌∙◌, ◌++◌, ◌∷◌, [], len
 use Rattle.std.proofs.lemmas.List.{take_all}
 use Rattle.ga_journal.specs.kept.Histories.{lists_of}
 use Rattle.ga_journal.specs.Histories.{history}
-use Rattle.ga_journal.specs.kept.Entries.{AtsWithin, at_of, entries_made, entry_made}
-use Rattle.ga_journal.proofs.Rooms.{history_read}
+use Rattle.ga_journal.specs.kept.Marks.{AtsWithin, at_of, entries_made, entry_made}
+use Rattle.ga_journal.proofs.Cutting.{history_read}
 use Rattle.ga_journal.proofs.Telling.{at_read, entries_made-more}
 use Rattle.ga_journal.proofs.histories.Histories.mades.Goals as goal
 

@@ -1,4 +1,4 @@
-use Rattle.ga_journal.proofs.Rooms.{lists_pushed, pass_room_others}
+use Rattle.ga_journal.proofs.Cutting.{lists_pushed, pass_room_others}
 use Rattle.ga_journal.proofs.histories.Histories.push_end.Goals as goal
 
 pub returns-clause-after : goal.returns-clause-after

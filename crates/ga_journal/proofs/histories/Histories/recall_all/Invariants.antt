@@ -1,9 +1,7 @@
 use Rattle.std.proofs.Common.{◌≡◌, ◌+◌, ◌-◌, ◌<◌, ◌≤◌, List, length, drop, get_or, vec_len}
 use Rattle.std.specs.Prelude.{reverse, vec_capacity}
-use Rattle.ga_journal.specs.kept.Histories.{lists_of}
+use Rattle.ga_journal.specs.kept.Histories.{lists_of, WalksBack, AreTold}
 use Rattle.ga_journal.specs.Logs.{Stamped, Records}
-use Rattle.ga_journal.specs.kept.Cuts.{WalksBack}
-use Rattle.ga_journal.specs.kept.Recalled.{AreTold}
 use Rattle.ga_journal.proofs.histories.Histories.recall_all.Given as goal
 
 -- so many events are left, and of the places above them it is told

@@ -9,7 +9,7 @@ use Rattle.ga_journal.specs.Histories.{Past}
 use Rattle.ga_journal.specs.kept.Histories.{Held}
 use Rattle.ga_journal.specs.kept.Stored.{past_in}
 use Rattle.ga_journal.specs.Walked.{walked}
-use Rattle.ga_journal.proofs.ReadBack.{slice_length, longer, left_before, read_last_left}
+use Rattle.ga_journal.proofs.Storing.{slice_length, longer, left_before, read_last_left}
 use Rattle.ga_journal.proofs.Walks.{walked_one, can_one, can_later, walked_apart}
 use Rattle.ga_journal.proofs.history.History.walk_near.Goals.{After-into_iter-entry-iterator, In-Some, In-None}
 use Rattle.ga_journal.proofs.history.History.walk_near.Goals as goal

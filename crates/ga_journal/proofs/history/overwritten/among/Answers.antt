@@ -1,7 +1,7 @@
 use Rattle.std.proofs.Common.{sym, ◌∙◌, ap, arith, refl}
 use Rattle.std.proofs.lemmas.List.{drop_all}
 use Rattle.ga_journal.specs.Walked.{among}
-use Rattle.ga_journal.proofs.Overwritten.{decides, passed_over, from_one}
+use Rattle.ga_journal.proofs.Walks.{decides, passed_over, from_one}
 use Rattle.ga_journal.proofs.history.overwritten.among.Goals as goal
 
 pub loop-k-init : goal.loop-k-init

@@ -1,7 +1,7 @@
 use Rattle.std.proofs.Common.{◌∙◌, List, ap}
 use Rattle.ga_journal.specs.Histories.{Book, Past, history}
 use Rattle.ga_journal.specs.Walked.{overwritten}
-use Rattle.ga_journal.proofs.Rooms.{history_read}
+use Rattle.ga_journal.proofs.Cutting.{history_read}
 use Rattle.ga_journal.proofs.journal.Journal.overwritten.Goals as goal
 
 pub returns : goal.returns

@@ -1,14 +1,12 @@
 use Rattle.std.proofs.Common.{◌≡◌, ℕ, get_or, sym, ap, subst, []}
 use Rattle.ga_journal.specs.Histories.{Book}
-use Rattle.ga_journal.specs.kept.Histories.{lists_of, room_of}
-use Rattle.ga_journal.specs.kept.Newest.{IsTopmost}
+use Rattle.ga_journal.specs.kept.Histories.{lists_of, room_of, IsTopmost}
 use Rattle.ga_journal.specs.Events.{kept_of}
 use Rattle.ga_journal.specs.Logs.{Records, IsWhole}
 use Rattle.ga_journal.specs.Popped.{TakesBack}
-use Rattle.ga_journal.proofs.Keeping.{none_kept, newest_is, pop_keeps, popped_by}
+use Rattle.ga_journal.proofs.Keeping.{none_kept, newest_is, pop_keeps, popped_by, whole_less}
 use Rattle.ga_journal.proofs.Recalling.{topmost_kept}
 use Rattle.ga_journal.proofs.Marking.{none_go, pop_matched}
-use Rattle.ga_journal.proofs.Chains.{whole_less}
 use Rattle.ga_journal.proofs.journal.Journal.undo.Goals as goal
 
 pub returns-then-self-eq0-clause-none : goal.returns-then-self-eq0-clause-none

@@ -1,7 +1,7 @@
 use Rattle.std.proofs.Common.{◌≤◌, ◌∙◌, List, length, take, drop, sym, ap, subst}
 use Rattle.ga_journal.specs.Histories.{Book, Past, history}
 use Rattle.ga_journal.specs.Walked.{walked, CanWalk}
-use Rattle.ga_journal.proofs.Rooms.{history_read}
+use Rattle.ga_journal.proofs.Cutting.{history_read}
 use Rattle.ga_journal.proofs.journal.Journal.walk_back.Goals as goal
 
 pub walk_back-requires-clause-within : goal.walk_back-requires-clause-within

@@ -1,5 +1,5 @@
 use Rattle.std.proofs.Common.{length, sym, ◌∙◌, ap, subst}
-use Rattle.ga_journal.specs.Untold.{Untold}
+use Rattle.ga_journal.specs.Histories.{Untold}
 use Rattle.ga_lab.specs.Machine.{State, telling}
 use Rattle.ga_lab.specs.kept.Tied.{IsLab, state_of}
 use Rattle.ga_lab.specs.kept.Walking.{telling_of}

@@ -1,8 +1,7 @@
 use Rattle.std.proofs.Common.{◌≡◌, length, sym, ◌∙◌, ap}
 use Rattle.ga_event.specs.Told.{steps_of, mades_of}
 use Rattle.ga_journal.specs.Histories.{history}
-use Rattle.ga_journal.proofs.Telling.{mades_log}
-use Rattle.ga_journal.proofs.Picking.{entries_long}
+use Rattle.ga_journal.proofs.Telling.{mades_log, entries_long}
 use Rattle.ga_lab.specs.Machine.{State, history_of}
 use Rattle.ga_lab.specs.kept.Tied.{state_of}
 use Rattle.ga_lab.proofs.Stepping.{whole_of}

@@ -9,8 +9,7 @@ use Rattle.ga_rollback.specs.declared.forecast.Going.{Going}
 use Rattle.ga_lab.specs.declared.fault.LabFault.{LabFault}
 use Rattle.ga_lab.specs.declared.fault.LabFault.TheVariants.{NoStep}
 use Rattle.ga_lab.specs.Machine.{State, stands, rewound, rewind_answer}
-use Rattle.ga_lab.proofs.Rewinding.{only_fault, stands_yes, stands_no, entries_fit, answer_refused, lab_anew, state_anew}
-use Rattle.ga_lab.proofs.Foretold.{answer_foretold, steps_foretold, state_ticked, if_ok, if_err, ok_if, err_if}
+use Rattle.ga_lab.proofs.Rewinding.{only_fault, stands_yes, stands_no, entries_fit, answer_refused, lab_anew, state_anew, answer_foretold, steps_foretold, state_ticked, if_ok, if_err, ok_if, err_if}
 use Rattle.ga_lab.proofs.lab.Lab.would_rewind.Goals.{in-Ok, in-Err-NoStep}
 use Rattle.ga_lab.proofs.lab.Lab.would_rewind.Goals as goal
 

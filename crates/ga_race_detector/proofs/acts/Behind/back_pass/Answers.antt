@@ -1,7 +1,7 @@
 use Rattle.std.proofs.Common.{◌<◌, ◌∙◌, sym, ap, subst}
 use Rattle.std.specs.Prelude.{ℕ}
 use Rattle.ga_lab.specs.Machine.{chip_of}
-use Rattle.ga_node.specs.Waits.{IsWaitCode}
+use Rattle.ga_node.specs.State.{IsWaitCode}
 use Rattle.ga_event.specs.declared.event.Event.{Event}
 use Rattle.ga_event.specs.Touches.{touches}
 use Rattle.ga_races.proofs.Frees.{touches_writer, touches_reader}

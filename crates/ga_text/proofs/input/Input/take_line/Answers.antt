@@ -1,7 +1,7 @@
 use Rattle.std.proofs.Common.{◌≡◌, ℕ, List, take, sym, ap, ◌∙◌, arith, length-take}
 use Rattle.std.specs.Prelude.{slice_range}
 use Rattle.ga_text.specs.Input.{Unread}
-use Rattle.ga_text.proofs.PartLemmas.{range_at_feed}
+use Rattle.ga_text.proofs.Taking.{range_at_feed}
 use Rattle.ga_text.proofs.input.Input.take_line.Goals as goal
 
 bytes_of : Unread → List ℕ

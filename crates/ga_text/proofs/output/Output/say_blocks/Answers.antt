@@ -1,7 +1,7 @@
 use Rattle.std.proofs.Common.{ℕ, List, [], ◌++◌, ◌≡◌, drop, refl, sym, ap, ◌∙◌, append_assoc, take-append-drop}
 use Rattle.std.proofs.lemmas.List.{append-nil}
 use Rattle.ga_text.proofs.SaidLemmas.{cut_here, cut_within, cut_assoc, said_as, said_assoc, said_pending}
-use Rattle.ga_text.proofs.PartLemmas.{no_bytes}
+use Rattle.ga_text.proofs.Taking.{no_bytes}
 use Rattle.ga_text.proofs.output.Output.say_blocks.Goals as goal
 
 pub pieces-init : goal.pieces-init

@@ -1,12 +1,10 @@
 use Rattle.std.proofs.Common.{◌≡◌, ◌+◌, ◌<◌, ◌∙◌, sym, ap, arith}
 use Rattle.std.specs.Prelude.{slice_index}
 use Rattle.std.proofs.lemmas.List.{length-map}
-use Rattle.ga_journal.specs.kept.Histories.{lists_of, pasts_of, bound_of}
+use Rattle.ga_journal.specs.kept.Histories.{lists_of, pasts_of, bound_of, cut}
 use Rattle.ga_journal.specs.Histories.{history}
-use Rattle.ga_journal.specs.kept.Cuts.{cut}
 use Rattle.ga_journal.proofs.Heads.{bound_le}
-use Rattle.ga_journal.proofs.Cutting.{length-cut, cut_empty, cut_within, bound_read}
-use Rattle.ga_journal.proofs.Rooms.{read_at}
+use Rattle.ga_journal.proofs.Cutting.{length-cut, cut_empty, cut_within, bound_read, read_at}
 use Rattle.ga_journal.proofs.histories.bounds.FirstsBounds.bound.Goals as goal
 
 pub returns-then-len-eq0-clause-value : goal.returns-then-len-eq0-clause-value

@@ -2,7 +2,7 @@ use Rattle.std.proofs.Common.{◌≡◌, ◌+◌, ◌∙◌, ap, arith}
 use Rattle.ga_journal.specs.kept.Histories.{lists_of, bound_of}
 use Rattle.ga_journal.specs.Histories.{history}
 use Rattle.ga_journal.proofs.Heads.{bound_le}
-use Rattle.ga_journal.proofs.Rooms.{history_read}
+use Rattle.ga_journal.proofs.Cutting.{history_read}
 use Rattle.ga_journal.proofs.histories.bounds.HistoriesBounds.bound.Goals as goal
 
 pub overflow_add-result : goal.overflow_add-result

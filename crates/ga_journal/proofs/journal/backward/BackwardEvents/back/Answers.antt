@@ -1,10 +1,9 @@
 use Rattle.std.proofs.Common.{◌≡◌, ◌-◌, ◌<◌, List, Some, subst, arith}
 use Rattle.ga_event.specs.Told.{made_in}
-use Rattle.ga_journal.specs.Histories.{Book}
+use Rattle.ga_journal.specs.Histories.{Book, Untold}
 use Rattle.ga_journal.specs.Logs.{Stamped}
-use Rattle.ga_journal.specs.Untold.{Untold}
 use Rattle.ga_journal.specs.Events.{kept_of}
-use Rattle.ga_journal.specs.kept.Cuts.{WalksBack, IsFirst, IsWalked}
+use Rattle.ga_journal.specs.kept.Histories.{WalksBack, IsFirst, IsWalked}
 use Rattle.ga_journal.proofs.Untelling.{told_next, left_next}
 use Rattle.ga_journal.proofs.journal.backward.BackwardEvents.back.Goals as goal
 

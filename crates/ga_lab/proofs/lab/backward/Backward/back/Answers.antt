@@ -1,10 +1,10 @@
 use Rattle.std.proofs.Common.{◌≡◌, ◌-◌, ◌↔◌, sym, ◌∙◌, ap, subst}
 use Rattle.std.specs.Prelude.{IsNone}
-use Rattle.ga_journal.specs.Untold.{Untold}
+use Rattle.ga_journal.specs.Histories.{Untold}
 use Rattle.ga_lab.specs.Machine.{Telling, told_before}
 use Rattle.ga_lab.specs.kept.Tied.{IsLab}
 use Rattle.ga_lab.specs.kept.Walking.{telling_of}
-use Rattle.ga_lab.proofs.ToldBack.{told_is}
+use Rattle.ga_lab.proofs.Replays.{told_is}
 use Rattle.ga_lab.proofs.lab.backward.Backward.back.Goals as goal
 
 pub invariant_of-self : goal.invariant_of-self

@@ -1,7 +1,7 @@
 use Rattle.std.proofs.Common.{take, ◌∙◌, ap}
 use Rattle.ga_event.specs.Told.{steps_of}
 use Rattle.ga_lab.specs.Machine.{Telling}
-use Rattle.ga_lab.proofs.ToldBack.{steps_before}
+use Rattle.ga_lab.proofs.Replays.{steps_before}
 use Rattle.ga_lab.proofs.lab.backward.Backward.steps.Goals as goal
 
 pub returns : goal.returns
