@@ -41,6 +41,7 @@ fn place(name: &[u8]) -> Option<(usize, usize)> {
 }
 
 /// The node of this name.
+#[inline(always)]
 pub fn node_of(name: &[u8]) -> Option<usize> {
     let digits: [u8; 3] = name.try_into().ok()?;
     let [row, tens, ones] = digits.map(|it| it.wrapping_sub(b'0') as usize);

@@ -228,12 +228,14 @@ impl Node {
 
     /// P with the bits that the address in the slot that is next replaces.
     fn target(&self) -> u32 {
-        let field = [0x3ff, 0xff, 7, 0][self.slot as usize & 3];
+        static FIELDS: [u32; 4] = [0x3ff, 0xff, 7, 0];
+        let field = FIELDS[self.slot as usize & 3];
         self.p & !field | self.i & field
     }
 
     /// What is read at an address, and whether by a look, or what the node comes to instead.
-    fn read(&self, address: u32, wait: fn(u8) -> State, look: impl Fn() -> u32) -> Result<(u32, Lost), State> {
+    #[inline(always)]
+    fn read(&self, address: u32, wait: impl Fn(u8) -> State, look: impl Fn() -> u32) -> Result<(u32, Lost), State> {
         match place(address) {
             Place::Ram(cell) => Ok((self.ram[cell], 0)),
             Place::Rom(cell) => Ok((self.rom[cell], 0)),

@@ -85,20 +85,38 @@ impl Text<'_> {
 
     /// Puts a number in decimal.
     #[inline(always)]
-    pub fn number(&mut self, mut number: u32) {
-        let mut digits = [0; 20];
-        let mut at = 10;
-        while number >= 100 {
-            at -= 2;
-            digits[at..at + 2].copy_from_slice(&PAIRS[(number % 100) as usize]);
-            number /= 100;
+    pub fn number(&mut self, number: u32) {
+        if number < 10_000 {
+            self.upper(number);
+        } else if number < 100_000_000 {
+            self.upper(number / 10_000);
+            self.four(number % 10_000);
+        } else {
+            self.upper(number / 100_000_000);
+            self.four(number / 10_000 % 10_000);
+            self.four(number % 10_000);
         }
-        at -= 2;
-        digits[at..at + 2].copy_from_slice(&PAIRS[number as usize]);
-        at += usize::from(number < 10);
-        // ten bytes are put, of which those behind the digits are put over by what follows
-        self.room[self.length..][..10].copy_from_slice(&digits[at..at + 10]);
-        self.length += 10 - at;
+    }
+
+    /// The upper digits of a number, at most four.
+    #[inline(always)]
+    fn upper(&mut self, number: u32) {
+        if number < 10 {
+            self.put([b'0' + number as u8]);
+        } else if number < 100 {
+            self.put(PAIRS[number as usize]);
+        } else if number < 1000 {
+            self.put([b'0' + (number / 100) as u8]);
+            self.put(PAIRS[(number % 100) as usize]);
+        } else {
+            self.four(number);
+        }
+    }
+
+    #[inline(always)]
+    fn four(&mut self, number: u32) {
+        let ([a, b], [c, d]) = (PAIRS[(number / 100) as usize], PAIRS[(number % 100) as usize]);
+        self.put([a, b, c, d]);
     }
 
     /// Ends the text, which is a line.

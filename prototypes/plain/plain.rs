@@ -6,7 +6,7 @@
 //! of its node, and one byte more for the order of all events. It makes two things otherwise: want of memory ends it, and the answers
 //! `spent` and `memory` don't come.
 //!
-//! Build: `rustc --edition 2024 -O plain.rs -o plain`. Use: `plain debug [--limit L]`.
+//! Build: `rustc --edition 2024 -O -C codegen-units=1 -C lto=fat -C panic=abort plain.rs -o PLAIN`. Use: `PLAIN debug [--limit L]`.
 
 mod image;
 mod lab;

@@ -8,6 +8,7 @@ timing.py same PLAIN PROGRAM                    whether both answer each session
 `--only WORD` takes the sessions whose name has this word. `count` and `time` take the sessions of steps, with `--all` all of them.
 `time` runs the programs in turn, each on one processor, with output to /dev/null, and tells the best of N runs (by default 15): elapsed,
 user and system time, page faults, and what part of the program's time the plain one takes (`speed`: 1 is as fast).
+Programs that are called `plain`, `trial` .. are told apart by the last part of their paths.
 """
 import argparse
 import os
@@ -95,13 +96,24 @@ def times(programs, sessions, rounds, lines, processor):
             for _ in range(rounds):
                 for it in programs:
                     runs[it].append(once(it, path, processor))
-            best = {it: [*map(min, zip(*runs[it])), min(one[1] + one[2] for one in runs[it])] for it in programs}
             print(name)
-            plain = best[programs[0]]
+            plain = Best(runs[programs[0]])
             for it in programs:
-                took, user, system, faults, both = best[it]
-                beside = f"  speed {plain[0] / took:.2f}, user time {user / plain[1]:.2f}, user and system {both / plain[4]:.2f} of the plain program's" if it != programs[0] else ""
-                print(f"  {os.path.basename(it):12} elapsed {took:6.1f} ms, user {user:6.1f}, system {system:5.1f}, both {both:6.1f}, faults {faults:6}{beside}", flush=True)
+                best = Best(runs[it])
+                beside = f"  speed {plain.took / best.took:.2f}; user {best.user / plain.user:.2f}, processor {best.both / plain.both:.2f} of the plain one's"
+                told = f"elapsed {best.took:6.1f} ms, user {best.user:5.1f}, system {best.system:5.1f}, both {best.both:5.1f}, faults {best.faults:6}"
+                print(f"  {os.path.basename(it):12} {told}{beside if it != programs[0] else ''}", flush=True)
+
+
+class Best:
+    """The least of some runs. How much of a run is user time is only sampled, so that share is taken of all of them."""
+
+    def __init__(self, runs):
+        self.took = min(it[0] for it in runs)
+        self.both = min(it[1] + it[2] for it in runs)
+        self.user = self.both * sum(it[1] for it in runs) / sum(it[1] + it[2] for it in runs)
+        self.system = self.both - self.user
+        self.faults = min(it[3] for it in runs)
 
 
 def same(one, other, sessions):
