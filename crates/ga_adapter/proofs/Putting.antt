@@ -4,7 +4,7 @@ use Rattle.std.specs.Prelude.{option_map, unwrap_or}
 use Rattle.std.specs.List.{range_with_len}
 use Rattle.ga_grid.specs.declared.node_id.NodeId.{NodeId}
 use Rattle.ga_lab.specs.Machine.{State}
-use Rattle.ga_flow.specs.declared.part.Part.TheVariants as part
+use Rattle.ga_event.specs.declared.flow.part.Part.TheVariants as part
 use Rattle.ga_origin.specs.Origins.{flow_at}
 use Rattle.ga_adapter.specs.declared.calls.Shift.{Shift}
 use Rattle.ga_adapter.specs.Calls.{put_by, kept_from, entries_from}

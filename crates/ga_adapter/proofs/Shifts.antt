@@ -24,8 +24,8 @@ use Rattle.ga_grid.specs.declared.node_id.NodeId.{NodeId}
 use Rattle.ga_event.specs.declared.made.Made.{Made}
 use Rattle.ga_event.specs.declared.made.Made.TheVariants as made
 use Rattle.ga_lab.specs.Machine.{State, history_of}
-use Rattle.ga_flow.specs.declared.part.Part.TheVariants.{Return, Ram, Rom, A, P, Outside}
-use Rattle.ga_flow.specs.Flow.{Flow, Flows, Same, Move, PushData, PopData, PushReturn, PopReturn, SetTopReturn, SetP, SetA, SetI, SetWait, SetStop, GoOn, Skip, StartAgain, top, top_return, from, jump_moves, add_moves, read_moves, write_moves, moves, moves_by, moved, moved_all, send_moves, take_moves, own_flow, send_flow, take_flow}
+use Rattle.ga_event.specs.declared.flow.part.Part.TheVariants.{Return, Ram, Rom, A, P, Outside}
+use Rattle.ga_event.specs.Flow.{Flow, Flows, Same, Move, PushData, PopData, PushReturn, PopReturn, SetTopReturn, SetP, SetA, SetI, SetWait, SetStop, GoOn, Skip, StartAgain, top, top_return, from, jump_moves, add_moves, read_moves, write_moves, moves, moves_by, moved, moved_all, send_moves, take_moves, own_flow, send_flow, take_flow}
 use Rattle.ga_origin.specs.Origins.{node_after, flow_told, flow_at}
 use Rattle.ga_origin.proofs.Ran.{WasNext, ran_so}
 use Rattle.ga_adapter.specs.Calls.{kept_from, is_call_op, is_call, is_calling}

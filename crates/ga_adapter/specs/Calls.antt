@@ -11,8 +11,8 @@ use Rattle.ga_event.specs.declared.made.Made.{Made}
 use Rattle.ga_event.specs.declared.made.Made.TheVariants as made
 use Rattle.ga_event.specs.Told.{steps_of}
 use Rattle.ga_lab.specs.Machine.{State, history_of}
-use Rattle.ga_flow.specs.declared.part.Part.TheVariants as part
-use Rattle.ga_flow.specs.Flow.{Flow, Same}
+use Rattle.ga_event.specs.declared.flow.part.Part.TheVariants as part
+use Rattle.ga_event.specs.Flow.{Flow, Same}
 use Rattle.ga_origin.specs.Origins.{flow_at}
 use Rattle.ga_adapter.specs.declared.calls.OpenCall.{OpenCall}
 use Rattle.ga_adapter.specs.Spots.{spot_behind}

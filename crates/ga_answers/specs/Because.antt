@@ -6,7 +6,7 @@ use Rattle.ga_event.specs.declared.made.Made.{Made}
 use Rattle.ga_event.specs.declared.made.Made.TheVariants.{Own, Pass}
 use Rattle.ga_lab.specs.Machine.{State, stands}
 use Rattle.ga_lab.specs.declared.fault.LabFault.TheVariants.{NoStep}
-use Rattle.ga_flow.specs.declared.part.Part.{Part}
+use Rattle.ga_event.specs.declared.flow.part.Part.{Part}
 use Rattle.ga_origin.specs.declared.deciding.Decision.{Decision}
 use Rattle.ga_origin.specs.Deciding.{newest_decided}
 use Rattle.ga_origin.specs.Rows.{row_at}

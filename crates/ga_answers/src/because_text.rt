@@ -17,7 +17,7 @@ use crate::tail_text::say_step_tail;
 use crate::whence_text::say_row;
 use arrayvec::ArrayVec;
 use ga_display::refusal_text;
-use ga_flow::Part;
+use ga_event::Part;
 use ga_grid::NodeId;
 use ga_lab::{Lab, LabFault, Made, Walk};
 use ga_notes::Notes;

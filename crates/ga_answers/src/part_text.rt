@@ -4,7 +4,7 @@ ghost use Rattle.std.specs.Prelude.{◌≡◌, ◌+◌, ◌≤◌, ◌++◌};
 ghost use Rattle.arrayvec.specs.ArrayVec.{array_vec_len};
 ghost use Rattle.ga_answers.specs.Trees.{data_name, return_name, part_name, mark_text};
 
-use ga_flow::Part;
+use ga_event::Part;
 use ga_text::{NUMBER_ROOM, TextBuffer, push_byte, push_number, push_text};
 
 /// The most bytes of a part's name.

@@ -11,7 +11,7 @@ ghost use Rattle.ga_origin.specs.Origins.{node_after};
 ghost use Rattle.ga_answers.specs.Tails.{noted_cell, noted_slot as noted_slot_of, noted_text, tail_text, slot_before, step_tail, part_cell, value_tail};
 
 use crate::Said;
-use ga_flow::Part;
+use ga_event::Part;
 use ga_grid::NodeId;
 use ga_lab::{Lab, Walk};
 use ga_node::{Node, Place};

@@ -32,9 +32,9 @@ use Rattle.ga_lab.specs.Machine.{State, chip_of, history_of, told_by, told_of_ke
 use Rattle.ga_lab.specs.Calls.{step as call_step}
 use Rattle.ga_lab.proofs.Called.{Runs, runs_of, runs_some, chip_is, told_is, call_runs}
 use Rattle.ga_lab.proofs.Stepping.{told_after}
-use Rattle.ga_flow.specs.declared.part.Part.{Part}
-use Rattle.ga_flow.specs.declared.part.Part.TheVariants as part
-use Rattle.ga_flow.specs.Flow.{Flow, send_flow, take_flow}
+use Rattle.ga_event.specs.declared.flow.part.Part.{Part}
+use Rattle.ga_event.specs.declared.flow.part.Part.TheVariants as part
+use Rattle.ga_event.specs.Flow.{Flow, send_flow, take_flow}
 use Rattle.ga_origin.specs.declared.value.Value.{Value}
 use Rattle.ga_origin.specs.Origins.{place_after, node_after, flow_told, flow_at, moved_from, moved_at, told_part, value_of_step, origin_from}
 use Rattle.ga_origin.specs.Fetched.{cell_of_target, fetched_by, fetched_cell}

@@ -3,3 +3,9 @@ pub mod Passes
 pub mod Locality
 pub mod Steadiness
 pub mod Nexts
+pub mod Deciding
+pub mod Flowing
+pub mod Following
+pub mod Same
+pub mod Sources
+pub mod Tracks

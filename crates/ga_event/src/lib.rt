@@ -1,8 +1,10 @@
-//! Events of the chip: which event a node makes next, what an event does, and how it is taken back.
+//! Events of the chip: which event a node makes next, what an event does to a chip, how it is taken back, and from where each word
+//! comes that it leaves.
 #![tactic(auto)]
 
 mod back;
 mod event;
+mod flow;
 mod forward;
 pub mod laws;
 mod made;
@@ -10,6 +12,7 @@ mod next;
 
 pub use back::{restore, unapply};
 pub use event::{Cause, Deed, Effect, Event, cause_with, touches};
+pub use flow::{Choice, Flow, Part, due_in, flow_where, own_flow, send_flow, take_flow};
 pub use forward::{apply, apply_own, apply_pass, cause_of, is_reading, is_writing, seen_from};
 pub use made::Made;
 pub use next::{next_event, runs};

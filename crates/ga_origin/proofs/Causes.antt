@@ -17,9 +17,9 @@ use Rattle.std.proofs.lemmas.List.Elements.{All-nil, All-cons, All-append, All-m
 use Rattle.ga_event.specs.declared.event.Cause.{Cause}
 use Rattle.ga_causal.specs.Dependence.{DependsOn, itself, through, place_of}
 use Rattle.ga_causal.proofs.Places.{stands_exact, older_step}
-use Rattle.ga_flow.specs.declared.part.Part.{Part}
-use Rattle.ga_flow.specs.declared.part.Part.TheVariants.{Data, Return, Ram, Rom, A, B, P, I, Io, Carry, Slot, Wait, Stop, Outside}
-use Rattle.ga_flow.specs.Flow.{Flow, Same, From, top}
+use Rattle.ga_event.specs.declared.flow.part.Part.{Part}
+use Rattle.ga_event.specs.declared.flow.part.Part.TheVariants.{Data, Return, Ram, Rom, A, B, P, I, Io, Carry, Slot, Wait, Stop, Outside}
+use Rattle.ga_event.specs.Flow.{Flow, Same, From, top}
 use Rattle.ga_origin.specs.declared.listing.Row.{Row}
 use Rattle.ga_origin.specs.Rows.{sender_in, source_values, sources_from, sources_of, row_at, made_row, below, AreRows, all, again, next, cut, IsCause, IsNamedFor}
 use Rattle.ga_origin.proofs.Telling.{IsOne, sent_is}

@@ -10,9 +10,9 @@ use Rattle.ga_event.specs.declared.made.Made.{Made}
 use Rattle.ga_event.specs.declared.made.Made.TheVariants.{Own, Pass}
 use Rattle.ga_causal.specs.Dependence.{itself, place_of}
 use Rattle.ga_lab.specs.Machine.{State, causes_of, history_of}
-use Rattle.ga_flow.specs.declared.part.Part.{Part}
-use Rattle.ga_flow.specs.declared.part.Part.TheVariants as part
-use Rattle.ga_flow.specs.Flow.{Flow, Same, From, top, part_of}
+use Rattle.ga_event.specs.declared.flow.part.Part.{Part}
+use Rattle.ga_event.specs.declared.flow.part.Part.TheVariants as part
+use Rattle.ga_event.specs.Flow.{Flow, Same, From, top, part_of}
 use Rattle.ga_origin.specs.declared.value.Value.{Value}
 use Rattle.ga_origin.specs.declared.deciding.Decision.{Decision}
 use Rattle.ga_origin.specs.Origins.{value_of_step, node_after, flow_at, origin_of}

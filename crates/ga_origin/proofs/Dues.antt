@@ -20,9 +20,9 @@ use Rattle.ga_node.specs.declared.wait.Reader.TheVariants.{Instruction, Stack}
 use Rattle.ga_grid.specs.declared.node_id.NodeId.{NodeId}
 use Rattle.ga_event.specs.declared.made.Made.TheVariants as made
 use Rattle.ga_lab.specs.Machine.{State, history_of}
-use Rattle.ga_flow.specs.declared.choice.Choice.{Choice}
-use Rattle.ga_flow.specs.declared.part.Part.{Part}
-use Rattle.ga_flow.specs.Flow.{Same, choice, moves_where, moves_by, moved_all, flow_where, own_flow}
+use Rattle.ga_event.specs.declared.flow.choice.Choice.{Choice}
+use Rattle.ga_event.specs.declared.flow.part.Part.{Part}
+use Rattle.ga_event.specs.Flow.{Same, choice, moves_where, moves_by, moved_all, flow_where, own_flow}
 use Rattle.ga_origin.specs.Origins.{node_after}
 use Rattle.ga_origin.specs.kept.Searching.{IsDueBy}
 use Rattle.ga_origin.proofs.Ran.{WasNext, ran_so}

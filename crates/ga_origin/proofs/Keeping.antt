@@ -21,8 +21,8 @@ use Rattle.ga_grid.specs.declared.node_id.NodeId.{NodeId}
 use Rattle.ga_event.specs.declared.made.Made.{Made}
 use Rattle.ga_event.specs.declared.made.Made.TheVariants as made
 use Rattle.ga_lab.specs.Machine.{State, history_of}
-use Rattle.ga_flow.specs.declared.part.Part.TheVariants.{Ram, P, A}
-use Rattle.ga_flow.specs.Flow.{Flow, Same, Move, PushData, SetP, SetA, SetI, GoOn, StartAgain, from, read_moves, write_moves, moves, moves_by, moved_all, own_flow, send_flow, take_flow}
+use Rattle.ga_event.specs.declared.flow.part.Part.TheVariants.{Ram, P, A}
+use Rattle.ga_event.specs.Flow.{Flow, Same, Move, PushData, SetP, SetA, SetI, GoOn, StartAgain, from, read_moves, write_moves, moves, moves_by, moved_all, own_flow, send_flow, take_flow}
 use Rattle.ga_origin.specs.Origins.{node_after, flow_told, flow_at}
 use Rattle.ga_origin.specs.Writes.{is_written, cell_write, written_at}
 use Rattle.ga_origin.specs.kept.Searching.{is_store, ran_store}

@@ -11,10 +11,9 @@ use Rattle.ga_event.specs.Touches.{touches}
 use Rattle.ga_event.specs.Told.{steps_of}
 use Rattle.ga_grid.specs.Chip.{record_at}
 use Rattle.ga_lab.specs.Machine.{State, Standing, standing, chip_of, earlier, history_of}
-use Rattle.ga_flow.specs.declared.part.Part.{Part}
-use Rattle.ga_flow.specs.declared.part.Part.TheVariants.{Data, Return, Ram, Rom, A, B, P, I, Io, Carry, Slot, Wait, Stop, Outside}
-use Rattle.ga_flow.specs.Flow.{Flow, Same, IsPart}
-use Rattle.ga_flow.specs.Following.{IsSource}
+use Rattle.ga_event.specs.declared.flow.part.Part.{Part}
+use Rattle.ga_event.specs.declared.flow.part.Part.TheVariants.{Data, Return, Ram, Rom, A, B, P, I, Io, Carry, Slot, Wait, Stop, Outside}
+use Rattle.ga_event.specs.Flow.{Flow, Same, IsPart, IsSource}
 use Rattle.ga_origin.specs.declared.value.Value.{Value}
 use Rattle.ga_origin.specs.Origins.{place_after, node_after, told_flow, flow_told, flow_at, moved_from, moved_at, told_part, value_of_step, origin_from, origin_of}
 use Rattle.std.proofs.lemmas.Option.{none-some}

@@ -15,9 +15,9 @@ use Rattle.ga_node.specs.Table.{due_of}
 use Rattle.ga_event.specs.declared.made.Made.{Made}
 use Rattle.ga_event.specs.declared.made.Made.TheVariants as made
 use Rattle.ga_lab.specs.Machine.{State, history_of}
-use Rattle.ga_flow.specs.declared.part.Part.{Part}
-use Rattle.ga_flow.specs.declared.part.Part.TheVariants.{Ram, A}
-use Rattle.ga_flow.specs.Flow.{Same, Move, PopData, SetA, SetWait, SetStop, GoOn, top, from, write_moves, moves_by, moved_all, own_flow}
+use Rattle.ga_event.specs.declared.flow.part.Part.{Part}
+use Rattle.ga_event.specs.declared.flow.part.Part.TheVariants.{Ram, A}
+use Rattle.ga_event.specs.Flow.{Same, Move, PopData, SetA, SetWait, SetStop, GoOn, top, from, write_moves, moves_by, moved_all, own_flow}
 use Rattle.ga_origin.specs.declared.registers.Registers.{Registers}
 use Rattle.std.specs.Prelude.{option_map, slice_index}
 use Rattle.ga_origin.specs.Origins.{node_after, flow_told, flow_at, moved_from, moved_at}

@@ -21,9 +21,9 @@ use Rattle.ga_grid.specs.declared.node_id.NodeId.{NodeId}
 use Rattle.ga_event.specs.declared.made.Made.{Made}
 use Rattle.ga_event.specs.declared.made.Made.TheVariants as made
 use Rattle.ga_lab.specs.Machine.{State, history_of}
-use Rattle.ga_flow.specs.declared.part.Part.{Part}
-use Rattle.ga_flow.specs.declared.part.Part.TheVariants.{Data, Return, Ram, Rom, A, P, Wait, Stop, Outside}
-use Rattle.ga_flow.specs.Flow.{Flow, Same, Move, PushData, PopData, SetP, SetA, SetI, SetIo, SetRam, SetWait, SetStop, GoOn, StartAgain, top, from, read_moves, write_moves, moves, moves_by, moved_all, own_flow}
+use Rattle.ga_event.specs.declared.flow.part.Part.{Part}
+use Rattle.ga_event.specs.declared.flow.part.Part.TheVariants.{Data, Return, Ram, Rom, A, P, Wait, Stop, Outside}
+use Rattle.ga_event.specs.Flow.{Flow, Same, Move, PushData, PopData, SetP, SetA, SetI, SetIo, SetRam, SetWait, SetStop, GoOn, StartAgain, top, from, read_moves, write_moves, moves, moves_by, moved_all, own_flow}
 use Rattle.ga_origin.specs.declared.value.Value.{Value}
 use Rattle.ga_origin.specs.Origins.{node_after, flow_told, moved_from, moved_at, origin_from, origin_of}
 use Rattle.ga_origin.specs.kept.Moving.{by_op, by_fetch, by_pause, by_kind, moved_by}

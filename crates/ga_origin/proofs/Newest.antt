@@ -9,7 +9,7 @@ use Rattle.ga_origin.specs.Rows.{has_value, row_at, made_row, AreRows, all, agai
 use Rattle.std.specs.Prelude.{Option, option_map, slice_index}
 use Rattle.std.proofs.lemmas.Option.{same_Some}
 use Rattle.ga_event.specs.declared.made.Made.{Made}
-use Rattle.ga_flow.specs.declared.part.Part.TheVariants.{Ram}
+use Rattle.ga_event.specs.declared.flow.part.Part.TheVariants.{Ram}
 use Rattle.ga_origin.specs.declared.writes.CellWrite.{CellWrite}
 use Rattle.ga_origin.specs.Writes.{is_written, cell_write, written_at, either, newest_written}
 

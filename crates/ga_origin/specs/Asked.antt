@@ -18,9 +18,9 @@ use Rattle.ga_grid.specs.declared.node_id.NodeId.{NodeId}
 use Rattle.ga_event.specs.declared.made.Made.{Made}
 use Rattle.ga_event.specs.declared.made.Made.TheVariants as made
 use Rattle.ga_lab.specs.Machine.{State, history_of}
-use Rattle.ga_flow.specs.declared.part.Part.{Part}
-use Rattle.ga_flow.specs.declared.part.Part.TheVariants as part
-use Rattle.ga_flow.specs.Flow.{top, top_return}
+use Rattle.ga_event.specs.declared.flow.part.Part.{Part}
+use Rattle.ga_event.specs.declared.flow.part.Part.TheVariants as part
+use Rattle.ga_event.specs.Flow.{top, top_return}
 use Rattle.ga_origin.specs.declared.asked.Asked.{Asked}
 use Rattle.ga_origin.specs.declared.asked.Asked.TheVariants.{Behind, Before, Nothing}
 use Rattle.ga_origin.specs.declared.value.Value.{Value}

@@ -5,7 +5,7 @@ use Rattle.ga_ports.specs.declared.address.Target.{Target}
 use Rattle.ga_ports.specs.declared.address.Target.TheVariants.{Ram, Rom}
 use Rattle.ga_grid.specs.declared.node_id.NodeId.{NodeId}
 use Rattle.ga_lab.specs.Machine.{State}
-use Rattle.ga_flow.specs.declared.part.Part.TheVariants as part
+use Rattle.ga_event.specs.declared.flow.part.Part.TheVariants as part
 use Rattle.ga_origin.specs.Origins.{node_after, value_of_step, origin_of}
 
 -- the cell's address: of RAM from 0 on, of ROM from 128 on

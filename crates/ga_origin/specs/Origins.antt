@@ -10,9 +10,9 @@ use Rattle.ga_event.specs.declared.made.Made.{Made}
 use Rattle.ga_event.specs.declared.made.Made.TheVariants as made
 use Rattle.ga_event.specs.Touches.{touches}
 use Rattle.ga_lab.specs.Machine.{State, chip_of, earlier, history_of}
-use Rattle.ga_flow.specs.declared.part.Part.{Part}
-use Rattle.ga_flow.specs.declared.part.Part.TheVariants as part
-use Rattle.ga_flow.specs.Flow.{Flow, Same, From, top, own_flow, send_flow, take_flow}
+use Rattle.ga_event.specs.declared.flow.part.Part.{Part}
+use Rattle.ga_event.specs.declared.flow.part.Part.TheVariants as part
+use Rattle.ga_event.specs.Flow.{Flow, Same, From, top, own_flow, send_flow, take_flow}
 use Rattle.ga_origin.specs.declared.value.Value.{Value}
 
 -- how many of the first events hold so many steps of a node, and the node after these

@@ -1,6 +1,6 @@
 -- The steps whose values went into a value, as a tree whose rows are told one after another, each with those below it behind it.
 use Rattle.ga_event.specs.declared.made.Made.TheVariants as made
-use Rattle.ga_flow.specs.declared.part.Part.TheVariants as part
+use Rattle.ga_event.specs.declared.flow.part.Part.TheVariants as part
 use Rattle.std.specs.Prelude.{◌≡◌, ℕ, ◌⊎◌, Some, zero, suc, ◌+◌, ◌-◌, ◌==◌, Bool, true, false, ◌&&◌, List, [], ◌∷◌, ◌++◌, map, Option, None, option_to_list}
 use Rattle.ga_causal.specs.Dependence.{DependsOn, place_of}
 use Rattle.ga_lab.specs.Machine.{State, causes_of, history_of}
@@ -8,8 +8,8 @@ use Rattle.ga_origin.specs.declared.value.Value.{Value}
 use Rattle.std.specs.List.{list_any, slice_get}
 use Rattle.ga_grid.specs.declared.node_id.NodeId.{NodeId}
 use Rattle.ga_event.specs.declared.made.Made.{Made}
-use Rattle.ga_flow.specs.declared.part.Part.{Part}
-use Rattle.ga_flow.specs.Flow.{Flow, Same, From, top, is_same}
+use Rattle.ga_event.specs.declared.flow.part.Part.{Part}
+use Rattle.ga_event.specs.Flow.{Flow, Same, From, top, is_same}
 use Rattle.ga_origin.specs.declared.listing.Row.{Row}
 use Rattle.ga_origin.specs.Origins.{value_of_step, flow_at, origin_of}
 

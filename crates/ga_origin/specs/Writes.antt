@@ -5,8 +5,8 @@ use Rattle.std.specs.List.{slice_get}
 use Rattle.ga_event.specs.declared.made.Made.{Made}
 use Rattle.ga_grid.specs.declared.node_id.NodeId.{NodeId}
 use Rattle.ga_lab.specs.Machine.{State, history_of}
-use Rattle.ga_flow.specs.declared.part.Part.TheVariants as part
-use Rattle.ga_flow.specs.Flow.{Flow, Same, From}
+use Rattle.ga_event.specs.declared.flow.part.Part.TheVariants as part
+use Rattle.ga_event.specs.Flow.{Flow, Same, From}
 use Rattle.ga_origin.specs.declared.writes.CellWrite.{CellWrite}
 use Rattle.ga_origin.specs.Origins.{is_memory_part, node_after, flow_at}
 

@@ -5,13 +5,12 @@ ghost use Rattle.ga_ports.specs.Address.{classified, IsTarget};
 ghost use Rattle.ga_node.specs.Record.{record_of};
 ghost use Rattle.ga_node.specs.Table.{due_of};
 ghost use Rattle.ga_lab.specs.Machine.{standing};
-ghost use Rattle.ga_flow.specs.Flow.{IsPart};
+ghost use Rattle.ga_event.specs.Flow.{IsPart};
 ghost use Rattle.ga_origin.specs.Asked.{read_asked, write_asked, op_asked, due_asked, take_asked, told_asked, value_asked, asked_of};
 ghost use Rattle.ga_origin.specs.kept.Searching.{IsAsked};
 
 use crate::value::Value;
-use ga_event::Made;
-use ga_flow::{Part, due_in};
+use ga_event::{Made, Part, due_in};
 use ga_grid::NodeId;
 use ga_lab::{Lab, Walk};
 use ga_node::{Due, Node, Place, Wait};

@@ -4,7 +4,7 @@ ghost use Rattle.std.specs.Prelude.{◌≡◌, ◌≤◌, ◌+◌, ◌^◌, ◌<
 ghost use Rattle.ga_node.specs.Record.{record_of};
 ghost use Rattle.ga_event.specs.Told.{steps_of};
 ghost use Rattle.ga_lab.specs.Machine.{standing};
-ghost use Rattle.ga_flow.specs.Flow.{IsPart, part_of};
+ghost use Rattle.ga_event.specs.Flow.{IsPart, part_of};
 ghost use Rattle.ga_origin.specs.Origins.{origin_of};
 ghost use Rattle.ga_origin.specs.Deciding.{tested_by, code_at, brought_at, came_over, op_tested, kind_tested, decided_by, decided_at};
 ghost use Rattle.ga_origin.specs.kept.Tested.{IsTested, IsOwn, IsPass};
@@ -13,8 +13,7 @@ use crate::listing::sender_in;
 use crate::origin::{flow_by_trail, kept_step, origin_behind, trail_near};
 use crate::trail::Trail;
 use crate::value::Value;
-use ga_event::Made;
-use ga_flow::{Flow, Part};
+use ga_event::{Flow, Made, Part};
 use ga_grid::NodeId;
 use ga_lab::{Lab, Walk};
 use ga_node::{Kind, Node, Place};

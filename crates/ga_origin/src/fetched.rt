@@ -12,7 +12,7 @@ use crate::known::p_at;
 use crate::origin::{kept_step, origin_behind, trail_near};
 use crate::trail::Trail;
 use crate::value::Value;
-use ga_flow::Part;
+use ga_event::Part;
 use ga_grid::NodeId;
 use ga_lab::{Lab, Walk};
 use ga_node::{Node, Place};

@@ -6,14 +6,12 @@ ghost use Rattle.ga_node.specs.Table.{due_of};
 ghost use Rattle.ga_node.specs.State.{wait_of};
 ghost use Rattle.ga_node.specs.declared.due.Due.TheVariants as due;
 ghost use Rattle.ga_lab.specs.Machine.{standing};
-ghost use Rattle.ga_flow.specs.Flow.{IsPart, choice, target_of, own_flow, take_flow};
-ghost use Rattle.ga_flow.specs.Following.{flow_of, AreSources};
+ghost use Rattle.ga_event.specs.Flow.{IsPart, choice, target_of, own_flow, take_flow, flow_of, AreSources};
 ghost use Rattle.ga_origin.specs.Origins.{node_after, flow_at};
 ghost use Rattle.ga_origin.specs.kept.Searching.{IsDueBy};
 
 use crate::trail::Trail;
-use ga_event::Made;
-use ga_flow::{Choice, Flow, Part, flow_where, send_flow, take_flow};
+use ga_event::{Choice, Flow, Made, Part, flow_where, send_flow, take_flow};
 use ga_grid::NodeId;
 use ga_lab::Lab;
 use ga_node::{Due, Kind, Place, Wait};

@@ -4,7 +4,7 @@ ghost use Rattle.std.specs.Prelude.{◌≡◌, ◌<◌, ℕ, List, [], ◌∷◌
 ghost use Rattle.ga_causal.specs.Dependence.{place_of};
 ghost use Rattle.ga_grid.specs.declared.node_id.NodeId.{NodeId};
 ghost use Rattle.ga_lab.specs.Machine.{State, causes_of};
-ghost use Rattle.ga_flow.specs.Flow.{top};
+ghost use Rattle.ga_event.specs.Flow.{top};
 ghost use Rattle.ga_origin.specs.declared.value.Value.{Value};
 ghost use Rattle.ga_origin.specs.declared.listing.Row.{Row};
 ghost use Rattle.ga_origin.specs.Origins.{value_of_step};

@@ -3,7 +3,7 @@
 ghost use Rattle.std.specs.Prelude.{◌≡◌, ◌⊎◌, ◌↔◌, ◌<◌, ◌≤◌, ◌+◌, ◌-◌, ◌^◌, ◌++◌, ◌∷◌, [], false, Err, IfOk, IfErr, IfSome, OnOk, All, length, map, reverse, option_to_list};
 ghost use Rattle.ga_event.specs.Told.{steps_of};
 ghost use Rattle.ga_lab.specs.Machine.{standing};
-ghost use Rattle.ga_flow.specs.Flow.{IsPart, Same};
+ghost use Rattle.ga_event.specs.Flow.{IsPart, Same};
 ghost use Rattle.ga_origin.specs.Origins.{value_of_step};
 ghost use Rattle.ga_origin.specs.Rows.{has_value, row_at, sender_in, source_values, below, AreRows};
 ghost use Rattle.ga_origin.specs.kept.Searching.{IsOpen};
@@ -12,8 +12,7 @@ use crate::origin::{Origin, flow_by_trail, origin_near};
 use crate::trail::Trail;
 use crate::value::Value;
 use arrayvec::ArrayVec;
-use ga_event::Made;
-use ga_flow::{Flow, Part};
+use ga_event::{Flow, Made, Part};
 use ga_grid::NodeId;
 use ga_lab::{Lab, LabFault, Walk};
 use std::alloc::{AllocError, Global};

@@ -4,8 +4,7 @@ ghost use Rattle.std.specs.Prelude.{◌≡◌, ◌<◌, ◌≤◌, ◌-◌, None
 ghost use Rattle.ga_node.specs.Record.{record_of};
 ghost use Rattle.ga_event.specs.Told.{steps_of};
 ghost use Rattle.ga_lab.specs.Machine.{history_of, standing};
-ghost use Rattle.ga_flow.specs.Flow.{IsPart};
-ghost use Rattle.ga_flow.specs.Following.{flow_of, AreSources};
+ghost use Rattle.ga_event.specs.Flow.{IsPart, flow_of, AreSources};
 ghost use Rattle.ga_origin.specs.Origins.{is_memory_part, crosses, moved_from, is_of_three, told_part, told_flow, flow_at, origin_from, origin_of};
 ghost use Rattle.ga_origin.specs.kept.Moving.{moved_by};
 
@@ -13,8 +12,7 @@ use crate::known::known_flow;
 use crate::moving::moved_by;
 use crate::trail::Trail;
 use crate::value::Value;
-use ga_event::Made;
-use ga_flow::{Flow, Part, own_flow, send_flow, take_flow};
+use ga_event::{Flow, Made, Part, own_flow, send_flow, take_flow};
 use ga_grid::NodeId;
 use ga_lab::{Lab, Walk};
 use ga_node::Node;

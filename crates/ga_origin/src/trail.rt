@@ -3,7 +3,7 @@
 ghost use Rattle.std.specs.Prelude.{◌≡◌, ◌<◌, ◌≤◌, ◌+◌, ◌-◌, true, None, IfSome};
 ghost use Rattle.std.specs.List.{slice_get};
 ghost use Rattle.ga_lab.specs.Machine.{history_of};
-ghost use Rattle.ga_flow.specs.Flow.{IsPart};
+ghost use Rattle.ga_event.specs.Flow.{IsPart};
 ghost use Rattle.ga_origin.specs.Origins.{origin_of};
 ghost use Rattle.ga_origin.specs.kept.Searching.{AreHeld};
 ghost use Rattle.ga_origin.specs.kept.Moving.{moved_by};
@@ -11,7 +11,7 @@ ghost use Rattle.ga_origin.specs.kept.Moving.{moved_by};
 use crate::moving::{data_place, misses, moved_by};
 use crate::registers::{Registers, registers_at, registers_before, registers_in};
 use crate::value::Value;
-use ga_flow::Part;
+use ga_event::Part;
 use ga_grid::NodeId;
 use ga_lab::{Lab, Walk};
 use std::marker::Model;
@@ -174,7 +174,7 @@ impl<'l> Trail<'l> {
     ghost use Rattle.std.specs.List.{slice_get};
     ghost use Rattle.ga_event.specs.Told.{steps_of};
     ghost use Rattle.ga_lab.specs.Machine.{history_of, standing};
-    ghost use Rattle.ga_flow.specs.Flow.{IsPart};
+    ghost use Rattle.ga_event.specs.Flow.{IsPart};
     ghost use Rattle.ga_origin.specs.Origins.{origin_of};
     ghost use Rattle.ga_origin.specs.kept.Searching.{IsWhole, AreHeld};
     ghost use Rattle.ga_origin.specs.kept.Moving.{moved_by};

@@ -1,6 +1,6 @@
 //! Values, each by where it stood.
 
-use ga_flow::Part;
+use ga_event::Part;
 use ga_grid::NodeId;
 
 /// What stood in a part of a node right after a step of it, or at load for step 0.

@@ -3,7 +3,7 @@
 ghost use Rattle.std.specs.Prelude.{◌≡◌, ◌<◌, ◌≤◌, ◌+◌, ◌-◌, ◌^◌, IfSome, slice_index};
 ghost use Rattle.ga_node.specs.Record.{record_of};
 ghost use Rattle.ga_event.specs.Told.{steps_of};
-ghost use Rattle.ga_flow.specs.Following.{flow_of};
+ghost use Rattle.ga_event.specs.Flow.{flow_of};
 ghost use Rattle.ga_origin.specs.Writes.{is_written, written_at, newest_written};
 ghost use Rattle.ga_origin.specs.kept.Searching.{IsReached, IsFollowedBack, ran_store};
 
@@ -12,8 +12,7 @@ use crate::moving::misses;
 use crate::origin::{flow_by_trail, is_cell};
 use crate::registers::{Registers, registers_before, registers_in};
 use crate::trail::Trail;
-use ga_event::Made;
-use ga_flow::{Flow, Part};
+use ga_event::{Flow, Made, Part};
 use ga_grid::NodeId;
 use ga_lab::Lab;
 use ga_node::{Kind, Node, Place};

@@ -12,9 +12,9 @@ use Rattle.ga_node.specs.declared.kind.Kind.{Kind}
 use Rattle.ga_node.specs.declared.kind.Kind.TheVariants as kind
 use Rattle.ga_event.specs.declared.made.Made.{Made}
 use Rattle.ga_event.specs.declared.made.Made.TheVariants.{Own, Pass}
-use Rattle.ga_flow.specs.declared.part.Part.{Part}
-use Rattle.ga_flow.specs.declared.part.Part.TheVariants.{Data, Return, Ram, Rom, A, B, P, I, Io, Carry, Slot, Wait, Stop, Outside}
-use Rattle.ga_flow.specs.Flow.{top, second, top_return}
+use Rattle.ga_event.specs.declared.flow.part.Part.{Part}
+use Rattle.ga_event.specs.declared.flow.part.Part.TheVariants.{Data, Return, Ram, Rom, A, B, P, I, Io, Carry, Slot, Wait, Stop, Outside}
+use Rattle.ga_event.specs.Flow.{top, second, top_return}
 use Rattle.ga_origin.specs.declared.registers.Registers.{Registers}
 use Rattle.ga_origin.specs.declared.moving.Shift.{Shift}
 use Rattle.ga_origin.specs.declared.moving.Shift.TheVariants.{Stays, Replaces, Pushes, Pops, Combines, Unsure}

@@ -19,7 +19,7 @@ use Rattle.ga_origin.specs.declared.writes.Reached.{Reached}
 use Rattle.ga_origin.specs.Writes.{newest_written}
 use Rattle.ga_slots.specs.Codes.{op_of}
 use Rattle.ga_node.specs.declared.due.Due.{Due}
-use Rattle.ga_flow.specs.Flow.{IsPart}
+use Rattle.ga_event.specs.Flow.{IsPart}
 use Rattle.ga_origin.specs.declared.asked.Asked.{Asked}
 use Rattle.ga_origin.specs.declared.asked.Asked.TheVariants.{Behind, Before, Nothing}
 use Rattle.ga_origin.specs.declared.listing.Row.{Row}

@@ -6,8 +6,8 @@ use Rattle.ga_event.specs.declared.made.Made.{Made}
 use Rattle.ga_event.specs.declared.made.Made.TheVariants.{Own, Pass}
 use Rattle.ga_event.specs.Told.{steps_of}
 use Rattle.ga_lab.specs.Machine.{State, Standing, standing}
-use Rattle.ga_flow.specs.declared.part.Part.{Part}
-use Rattle.ga_flow.specs.declared.part.Part.TheVariants.{Data, Return, I}
+use Rattle.ga_event.specs.declared.flow.part.Part.{Part}
+use Rattle.ga_event.specs.declared.flow.part.Part.TheVariants.{Data, Return, I}
 
 -- T, R or the instruction word
 abbrev pub IsTested : Part → Type 0

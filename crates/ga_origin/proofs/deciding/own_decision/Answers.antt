@@ -1,7 +1,7 @@
 use Rattle.std.proofs.Common.{◌≡◌, ◌+◌, sym, ap, ◌∙◌, arith}
 use Rattle.ga_node.specs.Record.{NodeRecord, record_of}
 use Rattle.ga_lab.specs.Machine.{Standing, standing}
-use Rattle.ga_flow.specs.Flow.{part_of}
+use Rattle.ga_event.specs.Flow.{part_of}
 use Rattle.ga_origin.proofs.Made.{stood_of}
 use Rattle.ga_origin.proofs.Decided.{own_so}
 use Rattle.ga_origin.proofs.deciding.own_decision.Goals as goal

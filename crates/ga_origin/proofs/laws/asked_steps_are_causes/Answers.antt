@@ -1,7 +1,7 @@
 use Rattle.std.proofs.Common.{[], ◌∷◌, inr}
 use Rattle.std.proofs.lemmas.List.Elements.{All-nil, All-cons}
 use Rattle.ga_causal.specs.Dependence.{itself}
-use Rattle.ga_flow.specs.Flow.{top}
+use Rattle.ga_event.specs.Flow.{top}
 use Rattle.ga_origin.specs.declared.listing.Row.{Row}
 use Rattle.ga_origin.specs.Origins.{value_of_step}
 use Rattle.ga_origin.specs.Rows.{row_at, IsNamedFor}

@@ -1,7 +1,7 @@
 use Rattle.std.proofs.Common.{◌≡◌, suc, ◌+◌, ◌-◌, ◌++◌, map, reverse, refl, sym, ap, ◌∙◌, arith}
 use Rattle.std.specs.List.{slice_get}
 use Rattle.std.proofs.lemmas.Result.{on_ok_weaker}
-use Rattle.ga_flow.specs.Flow.{Same, From}
+use Rattle.ga_event.specs.Flow.{Same, From}
 use Rattle.ga_lab.specs.Machine.{history_of}
 use Rattle.ga_origin.specs.Rows.{row_at}
 use Rattle.ga_origin.proofs.Sources.{below_load, below_made, below_open, load_open}

@@ -2,7 +2,7 @@ use Rattle.std.proofs.Common.{ap, ◌∙◌, arith}
 use Rattle.std.specs.List.{slice_get}
 use Rattle.ga_node.specs.Record.{record_of}
 use Rattle.ga_lab.specs.Machine.{history_of}
-use Rattle.ga_flow.specs.Following.{flow_of}
+use Rattle.ga_event.specs.Flow.{flow_of}
 use Rattle.ga_origin.proofs.Made.{then_of, flow_within, flow_none}
 use Rattle.ga_origin.proofs.origin.flow_behind.Goals as goal
 

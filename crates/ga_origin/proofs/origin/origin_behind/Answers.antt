@@ -1,6 +1,5 @@
 use Rattle.std.proofs.Common.{◌≡◌, ℕ, suc, ◌-◌, ap, ◌∙◌, refl, arith}
-use Rattle.ga_flow.specs.Flow.{Flow}
-use Rattle.ga_flow.specs.Following.{flow_of}
+use Rattle.ga_event.specs.Flow.{Flow, flow_of}
 use Rattle.ga_origin.specs.Origins.{moved_from, value_of_step, origin_from}
 use Rattle.ga_lab.specs.Machine.{Standing}
 use Rattle.ga_origin.proofs.Made.{back_on, back_end, told_so, stays_so}

@@ -1,6 +1,6 @@
 use Rattle.std.proofs.Common.{◌≡◌, ◌≤◌}
 use Rattle.ga_lab.specs.Machine.{standing}
-use Rattle.ga_flow.specs.Flow.{IsPart}
+use Rattle.ga_event.specs.Flow.{IsPart}
 use Rattle.ga_origin.specs.Origins.{origin_from}
 use Rattle.ga_origin.proofs.origin.origin_behind.Given as goal
 

@@ -1,0 +1,196 @@
+-- What flows into each part of a node in an event.
+use Rattle.std.proofs.Common.{◌≡◌, ℕ, ◌+◌, ◌-◌, ◌/◌, ◌%◌, ◌^◌, ◌==◌, Bool, true, false, cond, List, [], ◌∷◌, ◌++◌, nat_le, refl, sym, ap, ◌∙◌, subst, bit_and, bit_xor}
+use Rattle.ga_word.specs.Word.{words, carry_value, doubled, halved, step_sum, step_high, step_low}
+use Rattle.ga_slots.specs.Slots.{target}
+use Rattle.ga_slots.specs.Codes.{code_of}
+use Rattle.ga_slots.specs.declared.op.Op.{Op}
+use Rattle.ga_slots.specs.declared.op.Op.TheVariants as op
+use Rattle.ga_ports.specs.Address.{classified, advanced, is_single, side_of}
+use Rattle.ga_ports.specs.declared.address.Target.{Target}
+use Rattle.ga_ports.specs.declared.address.Target.TheVariants.{Ram, Rom, Io, Ports, Bad}
+use Rattle.ga_node.specs.Record.{NodeRecord, HasSizes}
+use Rattle.ga_node.specs.Io.{io_word}
+use Rattle.ga_node.specs.Changes.{Change, after_changes}
+use Rattle.ga_node.specs.Changes as change
+use Rattle.ga_node.specs.Table.{t, r, posts, halts, found, stored, followed, with_kind, effect, is_extended, due_of, done_by, own_event, own, sent, taken, taking}
+use Rattle.ga_event.specs.Flow.{Flow, Same, From, Move, top, second, top_return, part_of, IsPart, moved_all, from, read_moves, write_moves, moves, moves_by, take_moves, own_flow, send_flow, take_flow, choice, target_of, test_holds, DecideAlike, Comes}
+use Rattle.ga_event.specs.declared.flow.part.Part.{Part}
+use Rattle.ga_event.specs.declared.flow.part.Part.TheVariants.{Ram as OfRam, Rom as OfRom, A as OfA, P as OfP, I as OfI, Carry as OfCarry, Slot as OfSlot, Outside}
+use Rattle.ga_event.specs.Flow as move
+use Rattle.ga_node.specs.declared.seen.Seen.{Seen}
+use Rattle.ga_node.specs.declared.kind.Kind.{Kind}
+use Rattle.ga_node.specs.declared.kind.Kind.TheVariants as kind
+use Rattle.ga_node.specs.declared.due.Due.{Due}
+use Rattle.ga_node.specs.declared.due.Due.TheVariants as due
+use Rattle.ga_node.specs.declared.wait.Wait.{Wait}
+use Rattle.ga_node.specs.declared.wait.Wait.TheVariants as wait
+use Rattle.ga_node.specs.declared.wait.Reader.{Reader}
+use Rattle.ga_node.specs.declared.wait.Reader.TheVariants.{Instruction, Stack}
+use Rattle.ga_event.proofs.Tracks.{push_data, pop_data, set_top, pop_to, push_return, pop_return, set_top_return, set_p, set_a, set_b, set_i, set_io, set_carry, set_ram, go_on, skip, start_again, set_wait, set_stop, AreMoves, none, then, comes_after, sizes_after}
+
+abbrev posts_to : ℕ → Kind × List Change
+posts_to sides = posts (wait.Write (side_of sides))
+
+module _ (seen other : Seen) (n m : NodeRecord) where
+  -- what comes from there at the start of an event of both nodes
+  abbrev Source : Flow → ℕ → ℕ → Type 0
+  Source flow x y = Comes (io_word seen) n (io_word other) m flow x y
+
+  abbrev at_n : Part → ℕ
+  at_n = part_of (io_word seen) n
+
+  abbrev at_m : Part → ℕ
+  at_m = part_of (io_word other) m
+
+  -- the moves of two changes, the same in both
+  abbrev Rows : List Move → List Change → List Change → Type 0
+  Rows = AreMoves (io_word seen) n (io_word other) m
+
+  -- two events of one kind with these moves
+  abbrev IsRow : List Move → Kind × List Change → Kind × List Change → Type 0
+  IsRow mvs x y = (x.0 ≡ y.0) × Rows mvs x.1 y.1
+
+  from_one : (g : ℕ → ℕ) (a : Part) → Source (from a) (g (at_n a)) (g (at_m a))
+  from_one g a agree = ap g agree.0
+
+  from_two : (g : ℕ → ℕ → ℕ) (a b : Part) → Source (From (a ∷ b ∷ [])) (g (at_n a) (at_n b)) (g (at_m a) (at_m b))
+  from_two g a b agree = ap (λ v. g v (at_n b)) agree.0 ∙ ap (g (at_m a)) agree.1.0
+
+  from_three : (g : ℕ → ℕ → ℕ → ℕ) (a b c : Part) → Source (From (a ∷ b ∷ c ∷ [])) (g (at_n a) (at_n b) (at_n c)) (g (at_m a) (at_m b) (at_m c))
+  from_three g a b c agree = ap (λ v. g v (at_n b) (at_n c)) agree.0 ∙ ap (λ v. g (at_m a) v (at_n c)) agree.1.0 ∙ ap (g (at_m a) (at_m b)) agree.1.1.0
+
+  -- the last change of most opcodes
+  goes_on : Rows (move.GoOn ∷ []) (change.GoOn ∷ []) (change.GoOn ∷ [])
+  goes_on = then go_on none
+
+  skips : Rows (move.Skip ∷ []) (change.Skip ∷ []) (change.Skip ∷ [])
+  skips = then skip none
+
+  jump_row : Rows move.jump_moves (change.SetP (target n.p n.i n.slot) ∷ change.Skip ∷ []) (change.SetP (target m.p m.i m.slot) ∷ change.Skip ∷ [])
+  jump_row = then (set_p (from_three target OfP OfI OfSlot)) skips
+
+  either : (b c : Bool) (p q : List Move) (x x' y y' : List Change) → b ≡ c → Rows p x y → Rows q x' y' → Rows (cond b p q) (cond b x x') (cond c y y')
+  either b c p q x x' y y' e where_so else_so = subst (λ c. Rows (cond b p q) (cond b x x') (cond c y y')) e (same b)
+    where
+      same : (b : Bool) → Rows (cond b p q) (cond b x x') (cond b y y')
+      same true = where_so
+      same false = else_so
+
+  read_row : (a b : Target) (reader : Reader) (k : Kind) (mvs : Flow → List Move) (xs ys : ℕ → List Change) → a ≡ b
+      → ((flow : Flow) (x y : ℕ) → Source flow x y → Rows (mvs flow) (xs x) (ys y))
+      → IsRow (read_moves a mvs) (with_kind k (followed (found a reader seen n) xs)) (with_kind k (followed (found b reader other m) ys))
+  unfolding found followed
+  read_row a b reader k mvs xs ys e rows = subst (λ b. IsRow (read_moves a mvs) (with_kind k (followed (found a reader seen n) xs)) (with_kind k (followed (found b reader other m) ys))) e (same a)
+    where
+      same : (a : Target) → IsRow (read_moves a mvs) (with_kind k (followed (found a reader seen n) xs)) (with_kind k (followed (found a reader other m) ys))
+      same (Ram cell) = (refl, rows (Same (OfRam cell)) _ _ (refl, refl))
+      same (Rom cell) = (refl, rows (Same (OfRom cell)) _ _ (refl, refl))
+      same Io = (refl, rows (Same Outside) _ _ (refl, refl))
+      same (Ports sides) = (refl, then set_wait none)
+      same Bad = (refl, then set_stop none)
+
+  write_row : (a b : Target) (k : Kind) (mvs : List Move) (xs ys : List Change) → a ≡ b → Rows mvs xs ys
+      → IsRow (write_moves a mvs) (with_kind k (followed (stored a n) (λ changes. changes ++ xs))) (with_kind k (followed (stored b m) (λ changes. changes ++ ys)))
+  unfolding stored followed
+  write_row a b k mvs xs ys e rows = subst (λ b. IsRow (write_moves a mvs) (with_kind k (followed (stored a n) (λ changes. changes ++ xs))) (with_kind k (followed (stored b m) (λ changes. changes ++ ys)))) e (same a)
+    where
+      ended : (single : Bool) (sides : ℕ) → IsRow (cond single (move.SetWait ∷ []) (move.SetStop ∷ [])) (cond single (posts_to sides) (halts 1)) (cond single (posts_to sides) (halts 1))
+      ended true sides = (refl, then set_wait none)
+      ended false sides = (refl, then set_stop none)
+
+      same : (a : Target) → IsRow (write_moves a mvs) (with_kind k (followed (stored a n) (λ changes. changes ++ xs))) (with_kind k (followed (stored a m) (λ changes. changes ++ ys)))
+      same (Ram cell) = (refl, then (set_ram (refl, refl)) rows)
+      same (Rom cell) = (refl, rows)
+      same Io = (refl, then (set_io (refl, refl)) rows)
+      same (Ports sides) = ended (is_single sides) sides
+      same Bad = (refl, then set_stop none)
+
+  effect_row : (op : Op) → choice (due.Run op) n ≡ choice (due.Run op) m → (k : Kind) → IsRow (moves op n) (with_kind k (effect op seen n)) (with_kind k (effect op other m))
+  effect_row op.Return e k = (refl, then (set_p (from_one (λ v. v % 2 ^ 10) top_return)) (then pop_return skips))
+  effect_row op.Execute e k = (refl, then (set_p (from_one (λ v. v % 2 ^ 10) top_return)) (then (set_top_return (refl, refl)) skips))
+  effect_row op.Jump e k = (refl, jump_row)
+  effect_row op.Call e k = (refl, then (push_return (refl, refl)) jump_row)
+  effect_row op.Unext e k = (refl, either (r n == 0) (r m == 0) _ _ _ _ _ _ (ap test_holds e) (then pop_return goes_on) (then (set_top_return (from_one (λ v. v - 1) top_return)) (then start_again none)))
+  effect_row op.Next e k = (refl, either (r n == 0) (r m == 0) _ _ _ _ _ _ (ap test_holds e) (then pop_return skips) (then (set_top_return (from_one (λ v. v - 1) top_return)) jump_row))
+  effect_row op.If e k = (refl, either (t n == 0) (t m == 0) _ _ _ _ _ _ (ap test_holds e) jump_row skips)
+  effect_row op.MinusIf e k = (refl, either (t n / 2 ^ 17 == 0) (t m / 2 ^ 17 == 0) _ _ _ _ _ _ (ap test_holds e) jump_row skips)
+  effect_row op.FetchP e k = read_row (classified n.p) (classified m.p) Stack k _ _ _ (ap target_of e) (λ flow x y comes. then (push_data comes) (then (set_p (from_one advanced OfP)) goes_on))
+  effect_row op.FetchPlus e k = read_row (classified n.a) (classified m.a) Stack k _ _ _ (ap target_of e) (λ flow x y comes. then (push_data comes) (then (set_a (from_one advanced OfA)) goes_on))
+  effect_row op.FetchB e k = read_row (classified n.b) (classified m.b) Stack k _ _ _ (ap target_of e) (λ flow x y comes. then (push_data comes) goes_on)
+  effect_row op.Fetch e k = read_row (classified n.a) (classified m.a) Stack k _ _ _ (ap target_of e) (λ flow x y comes. then (push_data comes) goes_on)
+  effect_row op.StoreP e k = write_row (classified n.p) (classified m.p) k _ _ _ (ap target_of e) (then pop_data (then (set_p (from_one advanced OfP)) goes_on))
+  effect_row op.StorePlus e k = write_row (classified n.a) (classified m.a) k _ _ _ (ap target_of e) (then pop_data (then (set_a (from_one advanced OfA)) goes_on))
+  effect_row op.StoreB e k = write_row (classified n.b) (classified m.b) k _ _ _ (ap target_of e) (then pop_data goes_on)
+  effect_row op.Store e k = write_row (classified n.a) (classified m.a) k _ _ _ (ap target_of e) (then pop_data goes_on)
+  effect_row op.MultiplyStep e k =
+      (refl, then (set_a (from_three (λ t s a. step_low (step_sum t s a) a) top second OfA)) (then (set_top (from_three (λ t s a. step_high (step_sum t s a)) top second OfA)) goes_on))
+  effect_row op.TwoStar e k = (refl, then (set_top (from_one doubled top)) goes_on)
+  effect_row op.TwoSlash e k = (refl, then (set_top (from_one halved top)) goes_on)
+  effect_row op.Invert e k = (refl, then (set_top (from_one (λ v. 0x3ffff - v) top)) goes_on)
+  effect_row op.Plus e k = (
+    refl,
+    either (is_extended n) (is_extended m) _ _ _ _ _ _ (ap test_holds e)
+        (then (set_carry (from_three (λ t s c. carry_value (nat_le words (t + s + c))) top second OfCarry)) (then (pop_to (from_three (λ t s c. (t + s + c) % words) top second OfCarry)) goes_on))
+        (then (pop_to (from_two (λ t s. (t + s) % words) top second)) goes_on),
+  )
+  effect_row op.And e k = (refl, then (pop_to (from_two bit_and top second)) goes_on)
+  effect_row op.Or e k = (refl, then (pop_to (from_two bit_xor top second)) goes_on)
+  effect_row op.Drop e k = (refl, then pop_data goes_on)
+  effect_row op.Dup e k = (refl, then (push_data (refl, refl)) goes_on)
+  effect_row op.Pop e k = (refl, then (push_data (refl, refl)) (then pop_return goes_on))
+  effect_row op.Over e k = (refl, then (push_data (refl, refl)) goes_on)
+  effect_row op.A e k = (refl, then (push_data (refl, refl)) goes_on)
+  effect_row op.Nop e k = (refl, goes_on)
+  effect_row op.Push e k = (refl, then (push_return (refl, refl)) (then pop_data goes_on))
+  effect_row op.BStore e k = (refl, then (set_b (from_one (λ v. v % 2 ^ 9) top)) (then pop_data goes_on))
+  effect_row op.AStore e k = (refl, then (set_a (refl, refl)) (then pop_data goes_on))
+
+  due_row : (d : Due) → choice d n ≡ choice d m → IsRow (moves_by d n) (done_by d seen n) (done_by d other m)
+  due_row due.Fetch e = read_row (classified n.p) (classified m.p) Instruction kind.Fetch _ _ _ (ap target_of e) (λ flow x y comes. then (set_i comes) (then (set_p (from_one advanced OfP)) (then start_again none)))
+  due_row (due.Run op) e = effect_row op e (kind.Run (code_of op))
+
+  own_row : DecideAlike n m → IsRow (moves_by (due_of n) n) (own_event seen n) (own_event other m)
+  unfolding own_event
+  own_row alike =
+      subst (λ d. IsRow (moves_by (due_of n) n) (done_by (due_of n) seen n) (done_by d other m)) alike.due
+      (due_row (due_of n) (alike.choice ∙ ap (λ d. choice d m) (sym alike.due)))
+
+  pub own_flows : DecideAlike n m → HasSizes n → HasSizes m → (part : Part) → IsPart part → Source (own_flow n part) (part_of (io_word seen) (own seen n).1 part) (part_of (io_word other) (own other m).1 part)
+  unfolding own own_flow
+  own_flows alike = comes_after (io_word seen) n (io_word other) m (own_row alike).1
+
+  pub own_sizes : DecideAlike n m → HasSizes n → HasSizes m → HasSizes (own seen n).1 × HasSizes (own other m).1
+  unfolding own
+  own_sizes alike = sizes_after (io_word seen) n (io_word other) m (own_row alike).1
+
+  pub own_kinds : DecideAlike n m → (own seen n).0 ≡ (own other m).0
+  unfolding own
+  own_kinds alike = (own_row alike).0
+
+-- ---- the halves of a transfer
+
+module _ (word : ℕ) (n : NodeRecord) (other : ℕ) (m : NodeRecord) where
+  pub sent_flows : HasSizes n → HasSizes m → (part : Part) → IsPart part → Comes word n other m (send_flow part) (part_of word (sent n) part) (part_of other (sent m) part)
+  unfolding sent send_flow
+  sent_flows = comes_after word n other m (then (set_wait {w = wait.Nothing}) (then pop_data (then go_on none)))
+
+  pub sent_sizes : HasSizes n → HasSizes m → HasSizes (sent n) × HasSizes (sent m)
+  unfolding sent
+  sent_sizes = sizes_after word n other m (then (set_wait {w = wait.Nothing}) (then pop_data (then go_on none)))
+
+  take_row : (w : Wait) → AreMoves word n other m (take_moves w) (taking w word) (taking w other)
+  take_row (wait.Fetch sides) = then set_wait (then (set_i (refl, refl)) (then start_again none))
+  take_row (wait.Read sides) = then set_wait (then (push_data (refl, refl)) (then go_on none))
+  take_row wait.Nothing = none
+  take_row (wait.Write side) = none
+
+  pub taken_flows : HasSizes n → HasSizes m → n.wait ≡ m.wait → (part : Part) → IsPart part → Comes word n other m (take_flow n.wait part) (part_of word (taken word n) part) (part_of other (taken other m) part)
+  unfolding taken take_flow
+  taken_flows left right same part is =
+      subst (λ w. Comes word n other m (moved_all (take_moves n.wait) Same part) (part_of word (after_changes (taking n.wait word) n) part) (part_of other (after_changes (taking w other) m) part)) same
+      (comes_after word n other m (take_row n.wait) left right part is)
+
+  pub taken_sizes : HasSizes n → HasSizes m → n.wait ≡ m.wait → HasSizes (taken word n) × HasSizes (taken other m)
+  unfolding taken
+  taken_sizes left right same =
+      subst (λ w. HasSizes (after_changes (taking n.wait word) n) × HasSizes (after_changes (taking w other) m)) same (sizes_after word n other m (take_row n.wait) left right)

@@ -1,0 +1,271 @@
+-- Following a part back through the moves of an event finds where its value comes from.
+use Rattle.std.proofs.Common.{◌≡◌, ◌==◌, ◌+◌, ◌-◌, Bool, true, false, cond, List, [], ◌∷◌, refl, sym, ap, ◌∙◌}
+use Rattle.ga_slots.specs.declared.op.Op.{Op}
+use Rattle.ga_slots.specs.declared.op.Op.TheVariants as op
+use Rattle.ga_ports.specs.Address.{is_single}
+use Rattle.ga_ports.specs.declared.address.Target.{Target}
+use Rattle.ga_ports.specs.declared.address.Target.TheVariants as target
+use Rattle.ga_node.specs.Record.{NodeRecord}
+use Rattle.ga_node.specs.Table.{due_of}
+use Rattle.ga_node.specs.declared.due.Due.{Due}
+use Rattle.ga_node.specs.declared.due.Due.TheVariants as due
+use Rattle.ga_node.specs.declared.wait.Wait.{Wait}
+use Rattle.ga_node.specs.declared.wait.Wait.TheVariants as wait
+use Rattle.ga_event.specs.declared.flow.choice.Choice.{Choice}
+use Rattle.ga_event.specs.declared.flow.part.Part.{Part}
+use Rattle.ga_event.specs.declared.flow.part.Part.TheVariants.{Data, Return, Ram, Rom, A, B, P, I, Io, Carry, Slot, Wait as WaitPart, Stop, Outside}
+use Rattle.ga_event.specs.Flow.{Flow, Same, From, Flows, Move, PushData, PopData, SetTop, PopTo, PushReturn, PopReturn, SetTopReturn, SetP, SetA, SetB, SetI, SetIo, SetCarry, SetRam, GoOn, Skip, StartAgain, SetWait, SetStop, is_same, with_flow, pushed_data, data_flows_popped, pushed_return, return_flows_popped, by, moved, moved_all, top, top_return, choice, target_of, test_holds, read_moves, write_moves, moves_where, moves_by, send_moves, take_moves, flow_where, own_flow, send_flow, take_flow}
+use Rattle.ga_event.specs.kept.{Trace, At, Found, set_at, push_data, pop_data, push_return, pop_return, before, before_all, settled, read_before, write_before}
+
+-- the flow of what stands there
+abbrev resolved : Flows → Trace → Flow
+resolved f (At part) = f part
+resolved f (Found flow) = flow
+
+by_test : (f : Flows) (b : Bool) (x y : Trace) → resolved f (cond b x y) ≡ cond b (resolved f x) (resolved f y)
+by_test f true x y = refl
+by_test f false x y = refl
+
+set_back : (at : Part) (flow : Flow) (f : Flows) (trace : Trace) → resolved f (set_at at flow trace) ≡ resolved (with_flow at flow f) trace
+set_back at flow f (At part) = by_test f (is_same part at) (Found flow) (At part)
+set_back at flow f (Found found) = refl
+
+push_data_back : (flow : Flow) (f : Flows) (trace : Trace) → resolved f (push_data flow trace) ≡ resolved (pushed_data flow f) trace
+push_data_back flow f (At (Data k)) = by_test f (k == 0) (Found flow) (At (Data (k - 1)))
+push_data_back flow f (At (Return k)) = refl
+push_data_back flow f (At (Ram k)) = refl
+push_data_back flow f (At (Rom k)) = refl
+push_data_back flow f (At A) = refl
+push_data_back flow f (At B) = refl
+push_data_back flow f (At P) = refl
+push_data_back flow f (At I) = refl
+push_data_back flow f (At Io) = refl
+push_data_back flow f (At Carry) = refl
+push_data_back flow f (At Slot) = refl
+push_data_back flow f (At WaitPart) = refl
+push_data_back flow f (At Stop) = refl
+push_data_back flow f (At Outside) = refl
+push_data_back flow f (Found found) = refl
+
+pop_data_back : (f : Flows) (trace : Trace) → resolved f (pop_data trace) ≡ resolved (data_flows_popped f) trace
+pop_data_back f (At (Data k)) = by_test f (k == 9) (At (Data 2)) (At (Data (k + 1)))
+pop_data_back f (At (Return k)) = refl
+pop_data_back f (At (Ram k)) = refl
+pop_data_back f (At (Rom k)) = refl
+pop_data_back f (At A) = refl
+pop_data_back f (At B) = refl
+pop_data_back f (At P) = refl
+pop_data_back f (At I) = refl
+pop_data_back f (At Io) = refl
+pop_data_back f (At Carry) = refl
+pop_data_back f (At Slot) = refl
+pop_data_back f (At WaitPart) = refl
+pop_data_back f (At Stop) = refl
+pop_data_back f (At Outside) = refl
+pop_data_back f (Found found) = refl
+
+push_return_back : (flow : Flow) (f : Flows) (trace : Trace) → resolved f (push_return flow trace) ≡ resolved (pushed_return flow f) trace
+push_return_back flow f (At (Data k)) = refl
+push_return_back flow f (At (Return k)) = by_test f (k == 0) (Found flow) (At (Return (k - 1)))
+push_return_back flow f (At (Ram k)) = refl
+push_return_back flow f (At (Rom k)) = refl
+push_return_back flow f (At A) = refl
+push_return_back flow f (At B) = refl
+push_return_back flow f (At P) = refl
+push_return_back flow f (At I) = refl
+push_return_back flow f (At Io) = refl
+push_return_back flow f (At Carry) = refl
+push_return_back flow f (At Slot) = refl
+push_return_back flow f (At WaitPart) = refl
+push_return_back flow f (At Stop) = refl
+push_return_back flow f (At Outside) = refl
+push_return_back flow f (Found found) = refl
+
+pop_return_back : (f : Flows) (trace : Trace) → resolved f (pop_return trace) ≡ resolved (return_flows_popped f) trace
+pop_return_back f (At (Data k)) = refl
+pop_return_back f (At (Return k)) = by_test f (k == 8) (At (Return 1)) (At (Return (k + 1)))
+pop_return_back f (At (Ram k)) = refl
+pop_return_back f (At (Rom k)) = refl
+pop_return_back f (At A) = refl
+pop_return_back f (At B) = refl
+pop_return_back f (At P) = refl
+pop_return_back f (At I) = refl
+pop_return_back f (At Io) = refl
+pop_return_back f (At Carry) = refl
+pop_return_back f (At Slot) = refl
+pop_return_back f (At WaitPart) = refl
+pop_return_back f (At Stop) = refl
+pop_return_back f (At Outside) = refl
+pop_return_back f (Found found) = refl
+
+-- a move, where the slot is still the one before the event
+move_back : (move : Move) (f : Flows) (trace : Trace) → f Slot ≡ Same Slot → resolved f (before move trace) ≡ resolved (moved move f) trace
+move_back (PushData flow) f trace slot = push_data_back flow f trace
+move_back PopData f trace slot = pop_data_back f trace
+move_back (SetTop flow) f trace slot = set_back top flow f trace
+move_back (PopTo flow) f trace slot = pop_data_back f (set_at top flow trace) ∙ set_back top flow (data_flows_popped f) trace
+move_back (PushReturn flow) f trace slot = push_return_back flow f trace
+move_back PopReturn f trace slot = pop_return_back f trace
+move_back (SetTopReturn flow) f trace slot = set_back top_return flow f trace
+move_back (SetP flow) f trace slot = set_back P flow f trace
+move_back (SetA flow) f trace slot = set_back A flow f trace
+move_back (SetB flow) f trace slot = set_back B flow f trace
+move_back (SetI flow) f trace slot = set_back I flow f trace
+move_back (SetIo flow) f trace slot = set_back Io flow f trace
+move_back (SetCarry flow) f trace slot = set_back Carry flow f trace
+move_back (SetRam cell flow) f trace slot = set_back (Ram cell) flow f trace
+move_back GoOn f trace slot = set_back Slot (From (Slot ∷ [])) f trace ∙ ap (λ flow. resolved (with_flow Slot (by flow) f) trace) (sym slot)
+move_back Skip f trace slot = set_back Slot (From []) f trace
+move_back StartAgain f trace slot = set_back Slot (From []) f trace
+move_back SetWait f trace slot = set_back WaitPart (From []) f trace
+move_back SetStop f trace slot = set_back Stop (From []) f trace
+
+-- moves of which the last alone may move the slot
+abbrev LeavesSlot : Move → Type 0
+LeavesSlot GoOn = ⊥
+LeavesSlot Skip = ⊥
+LeavesSlot StartAgain = ⊥
+LeavesSlot _ = Unit {0}
+
+abbrev SlotLast : List Move → Type 0
+SlotLast [] = Unit {0}
+SlotLast (move ∷ []) = Unit {0}
+SlotLast (move ∷ (next ∷ rest)) = LeavesSlot move × SlotLast (next ∷ rest)
+
+slot_left : (move : Move) (f : Flows) → LeavesSlot move → moved move f Slot ≡ f Slot
+slot_left (PushData flow) f leaves = refl
+slot_left PopData f leaves = refl
+slot_left (SetTop flow) f leaves = refl
+slot_left (PopTo flow) f leaves = refl
+slot_left (PushReturn flow) f leaves = refl
+slot_left PopReturn f leaves = refl
+slot_left (SetTopReturn flow) f leaves = refl
+slot_left (SetP flow) f leaves = refl
+slot_left (SetA flow) f leaves = refl
+slot_left (SetB flow) f leaves = refl
+slot_left (SetI flow) f leaves = refl
+slot_left (SetIo flow) f leaves = refl
+slot_left (SetCarry flow) f leaves = refl
+slot_left (SetRam cell flow) f leaves = refl
+slot_left GoOn f leaves = absurd leaves
+slot_left Skip f leaves = absurd leaves
+slot_left StartAgain f leaves = absurd leaves
+slot_left SetWait f leaves = refl
+slot_left SetStop f leaves = refl
+
+all_back : (moves : List Move) (f : Flows) (trace : Trace) → f Slot ≡ Same Slot → SlotLast moves → resolved f (before_all moves trace) ≡ resolved (moved_all moves f) trace
+all_back [] f trace slot last = refl
+all_back (move ∷ []) f trace slot last = move_back move f trace slot
+all_back (move ∷ (next ∷ rest)) f trace slot last =
+    move_back move f (before_all (next ∷ rest) trace) slot
+    ∙ all_back (next ∷ rest) (moved move f) trace (slot_left move f last.0 ∙ slot) last.1
+
+settled_back : (trace : Trace) → settled trace ≡ resolved Same trace
+settled_back (At part) = refl
+settled_back (Found flow) = refl
+
+pub found_flow : (moves : List Move) (part : Part) → SlotLast moves → settled (before_all moves (At part)) ≡ moved_all moves Same part
+found_flow moves part last = settled_back (before_all moves (At part)) ∙ all_back moves Same (At part) refl last
+
+-- ---- the rows
+
+either_last : (b : Bool) (x y : List Move) → SlotLast x → SlotLast y → SlotLast (cond b x y)
+either_last true x y p q = p
+either_last false x y p q = q
+
+read_last : (target : Target) (more : Flow → List Move) → ((flow : Flow) → SlotLast (more flow)) → SlotLast (read_moves target more)
+read_last (target.Ram k) more last = last _
+read_last (target.Rom k) more last = last _
+read_last target.Io more last = last _
+read_last (target.Ports sides) more last = tt
+read_last target.Bad more last = tt
+
+write_last : (target : Target) (next : Move) (rest : List Move) → SlotLast (next ∷ rest) → SlotLast (write_moves target (next ∷ rest))
+write_last (target.Ram k) next rest last = (tt, last)
+write_last (target.Rom k) next rest last = last
+write_last target.Io next rest last = (tt, last)
+write_last (target.Ports sides) next rest last = either_last (is_single sides) _ _ tt tt
+write_last target.Bad next rest last = tt
+
+op_last : (op : Op) (c : Choice) → SlotLast (moves_where (due.Run op) c)
+op_last op.Return c = (tt, (tt, tt))
+op_last op.Execute c = (tt, (tt, tt))
+op_last op.Jump c = (tt, tt)
+op_last op.Call c = (tt, (tt, tt))
+op_last op.Unext c = either_last (test_holds c) _ _ (tt, tt) (tt, tt)
+op_last op.Next c = either_last (test_holds c) _ _ (tt, tt) (tt, (tt, tt))
+op_last op.If c = either_last (test_holds c) _ _ (tt, tt) tt
+op_last op.MinusIf c = either_last (test_holds c) _ _ (tt, tt) tt
+op_last op.FetchP c = read_last (target_of c) _ (λ flow. (tt, (tt, tt)))
+op_last op.FetchPlus c = read_last (target_of c) _ (λ flow. (tt, (tt, tt)))
+op_last op.FetchB c = read_last (target_of c) _ (λ flow. (tt, tt))
+op_last op.Fetch c = read_last (target_of c) _ (λ flow. (tt, tt))
+op_last op.StoreP c = write_last (target_of c) _ _ (tt, (tt, tt))
+op_last op.StorePlus c = write_last (target_of c) _ _ (tt, (tt, tt))
+op_last op.StoreB c = write_last (target_of c) _ _ (tt, tt)
+op_last op.Store c = write_last (target_of c) _ _ (tt, tt)
+op_last op.MultiplyStep c = (tt, (tt, tt))
+op_last op.TwoStar c = (tt, tt)
+op_last op.TwoSlash c = (tt, tt)
+op_last op.Invert c = (tt, tt)
+op_last op.Plus c = either_last (test_holds c) _ _ (tt, (tt, tt)) (tt, tt)
+op_last op.And c = (tt, tt)
+op_last op.Or c = (tt, tt)
+op_last op.Drop c = (tt, tt)
+op_last op.Dup c = (tt, tt)
+op_last op.Pop c = (tt, (tt, tt))
+op_last op.Over c = (tt, tt)
+op_last op.A c = (tt, tt)
+op_last op.Nop c = tt
+op_last op.Push c = (tt, (tt, tt))
+op_last op.BStore c = (tt, (tt, tt))
+op_last op.AStore c = (tt, (tt, tt))
+
+-- what is found before what comes next in a node, and before the halves of a transfer
+due_last : (d : Due) (c : Choice) → SlotLast (moves_where d c)
+due_last due.Fetch c = read_last (target_of c) _ (λ flow. (tt, (tt, tt)))
+due_last (due.Run op) c = op_last op c
+
+pub where_found : (d : Due) (c : Choice) (part : Part) → settled (before_all (moves_where d c) (At part)) ≡ flow_where d c part
+unfolding flow_where
+where_found d c part = found_flow (moves_where d c) part (due_last d c)
+
+in_node : (d : Due) (n : NodeRecord) → moves_where d (choice d n) ≡ moves_by d n
+in_node due.Fetch n = refl
+in_node (due.Run op) n = refl
+
+pub own_found : (d : Due) (c : Choice) (n : NodeRecord) (part : Part) → d ≡ due_of n → c ≡ choice d n → flow_where d c part ≡ own_flow n part
+unfolding flow_where own_flow
+own_found d c n part is so =
+    ap (λ (moves : List Move). moved_all moves Same part) (ap (moves_where d) so ∙ in_node d n) ∙ ap (λ d. moved_all (moves_by d n) Same part) is
+
+pub send_found : (part : Part) → settled (before_all send_moves (At part)) ≡ send_flow part
+unfolding send_flow
+send_found part = found_flow send_moves part (tt, (tt, tt))
+
+pub take_found : (w : Wait) (part : Part) → settled (before_all (take_moves w) (At part)) ≡ take_flow w part
+unfolding take_flow
+take_found (wait.Fetch sides) part = found_flow (take_moves (wait.Fetch sides)) part (tt, (tt, tt))
+take_found (wait.Read sides) part = found_flow (take_moves (wait.Read sides)) part (tt, (tt, tt))
+take_found wait.Nothing part = refl
+take_found (wait.Write side) part = refl
+
+-- ---- reads and writes
+
+pub read_found : (target : Target) (part : Part) (more : List Move) → read_before target part (before_all more (At part)) ≡ before_all (read_moves target (λ word. PushData word ∷ more)) (At part)
+read_found (target.Ram k) part more = refl
+read_found (target.Rom k) part more = refl
+read_found target.Io part more = refl
+read_found (target.Ports sides) part more = refl
+read_found target.Bad part more = refl
+
+pub write_found : (target : Target) (part : Part) (more : List Move) → write_before target part (before_all more (At part)) ≡ before_all (write_moves target more) (At part)
+write_found (target.Ram k) part more = refl
+write_found (target.Rom k) part more = refl
+write_found target.Io part more = refl
+write_found (target.Ports sides) part more = by_single (is_single sides)
+  where
+    by_single : (b : Bool) → cond b (before SetWait (At part)) (before SetStop (At part)) ≡ before_all (cond b (SetWait ∷ []) (SetStop ∷ [])) (At part)
+    by_single true = refl
+    by_single false = refl
+write_found target.Bad part more = refl

@@ -1,0 +1,73 @@
+-- Which parts of the load the values of a chip come from, through stacks, memories, registers and links.
+use Rattle.std.specs.Prelude.{◌≡◌, ◌≢◌, ℕ, ◌==◌, if◌then◌else◌, List, [], ◌∷◌, ◌++◌}
+use Rattle.ga_node.specs.Record.{NodeRecord, HasSizes}
+use Rattle.ga_node.specs.Io.{io_word}
+use Rattle.ga_event.specs.declared.flow.part.Part.{Part}
+use Rattle.ga_event.specs.declared.flow.part.Part.TheVariants.{Outside}
+use Rattle.ga_event.specs.Flow.{Flow, Same, From, top, part_of, own_flow, send_flow, take_flow, DecideAlike}
+use Rattle.ga_grid.specs.Chip.{record_at}
+use Rattle.ga_event.specs.declared.event.Event.{Event}
+use Rattle.ga_event.specs.declared.event.Event.TheVariants.{Own, Pass}
+use Rattle.ga_event.specs.Apply.{seen_from, after}
+
+-- of each part of each node, the parts of the load, each with its node, from which its value comes
+abbrev pub Sources : Type 0
+Sources = ℕ → Part → List (ℕ × Part)
+
+-- at load
+abbrev pub themselves : Sources
+themselves n part = (n, part) ∷ []
+
+-- the sources of a part of a node before an event, in which a word with these comes from outside
+abbrev pub sources_in : (Part → List (ℕ × Part)) → List (ℕ × Part) → Part → List (ℕ × Part)
+sources_in node outside Outside = outside
+sources_in node outside part = node part
+
+abbrev pub sources_of_all : (Part → List (ℕ × Part)) → List (ℕ × Part) → List Part → List (ℕ × Part)
+sources_of_all node outside [] = []
+sources_of_all node outside (part ∷ rest) = sources_in node outside part ++ sources_of_all node outside rest
+
+-- and of a value that comes from there
+abbrev pub sources_by : (Part → List (ℕ × Part)) → List (ℕ × Part) → Flow → List (ℕ × Part)
+sources_by node outside (Same part) = sources_in node outside part
+sources_by node outside (From parts) = sources_of_all node outside parts
+
+-- after an event; what a read of `io` shows has none, and a word that is taken has those of the writer's T
+abbrev pub sources_after : List NodeRecord → Event → Sources → Sources
+sources_after chip (Own node) sources n part =
+    if n == node.number then sources_by (sources n) [] (own_flow (record_at chip n) part) else sources n part
+sources_after chip (Pass writer reader side) sources n part =
+    if n == reader.number then sources_by (sources n) (sources writer.number top) (take_flow (record_at chip n).wait part)
+    else if n == writer.number then sources_by (sources n) [] (send_flow part)
+    else sources n part
+
+-- after the events of a list, and the chip after them
+abbrev pub chip_after : List NodeRecord → List Event → List NodeRecord
+chip_after chip [] = chip
+chip_after chip (e ∷ es) = chip_after (after chip e).0 es
+
+abbrev pub sources_after_all : List NodeRecord → List Event → Sources → Sources
+sources_after_all chip [] sources = sources
+sources_after_all chip (e ∷ es) sources = sources_after_all (after chip e).0 es (sources_after chip e sources)
+
+-- ---- two runs
+
+-- the same is decided by the event on both chips, and its node sees the same
+abbrev pub AlikeIn : List NodeRecord → List NodeRecord → Event → Type 0
+AlikeIn c d (Own node) =
+    DecideAlike (record_at c node.number) (record_at d node.number) × (io_word (seen_from c node.number) ≡ io_word (seen_from d node.number))
+AlikeIn c d (Pass writer reader side) =
+    (writer.number ≢ reader.number) × ((record_at c reader.number).wait ≡ (record_at d reader.number).wait)
+
+-- and by each of the events in turn
+abbrev pub AlikeInAll : List NodeRecord → List NodeRecord → List Event → Type 0
+AlikeInAll c d [] = Unit {0}
+AlikeInAll c d (e ∷ es) = AlikeIn c d e × AlikeInAll (after c e).0 (after d e).0 es
+
+-- the same stands on both chips at these parts
+abbrev pub SameAt : List NodeRecord → List NodeRecord → List (ℕ × Part) → Type 0
+SameAt c d [] = Unit {0}
+SameAt c d (at ∷ rest) = (part_of 0 (record_at c at.0) at.1 ≡ part_of 0 (record_at d at.0) at.1) × SameAt c d rest
+
+abbrev pub AllHaveSizes : List NodeRecord → Type 0
+AllHaveSizes chip = (n : ℕ) → HasSizes (record_at chip n)

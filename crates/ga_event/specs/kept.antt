@@ -1,0 +1,91 @@
+-- A part followed back over the moves of one event.
+use Rattle.ga_event.specs.declared.flow.sought.Sought.TheVariants as sought
+use Rattle.ga_ports.specs.declared.address.Target.TheVariants as target
+use Rattle.std.specs.Prelude.{◌+◌, ◌-◌, ◌==◌, if◌then◌else◌, List, [], ◌∷◌}
+use Rattle.ga_event.specs.declared.flow.part.Part.{Part}
+use Rattle.ga_event.specs.declared.flow.part.Part.TheVariants.{Data, Return, Ram, Rom, A, B, P, I, Io, Carry, Slot, Wait, Stop, Outside}
+use Rattle.ga_event.specs.declared.flow.sought.Sought.{Sought}
+use Rattle.ga_ports.specs.Address.{is_single}
+use Rattle.ga_ports.specs.declared.address.Target.{Target}
+use Rattle.ga_event.specs.Flow.{Flow, Same, From, Move, PushData, PopData, SetTop, PopTo, PushReturn, PopReturn, SetTopReturn, SetP, SetA, SetB, SetI, SetIo, SetCarry, SetRam, GoOn, Skip, StartAgain, SetWait, SetStop, top, top_return, is_same, IsPart, flow_of, AreSources}
+
+-- a part before some changes, or where the value was found to come from
+pub data Trace : Type 0 where
+  At : Part → Trace
+  Found : Flow → Trace
+
+abbrev pub sought_of : Sought → Trace
+sought_of (sought.At part) = At part
+sought_of (sought.Found flow) = Found (flow_of flow)
+
+abbrev pub IsSought : Trace → Type 0
+IsSought (At part) = IsPart part
+IsSought (Found flow) = AreSources flow
+
+-- before a part got another word, and before a push and a pop
+abbrev pub set_at : Part → Flow → Trace → Trace
+set_at at flow (At part) = if is_same part at then Found flow else At part
+set_at at flow (Found found) = Found found
+
+abbrev pub push_data : Flow → Trace → Trace
+push_data flow (At (Data k)) = if k == 0 then Found flow else At (Data (k - 1))
+push_data flow trace = trace
+
+abbrev pub pop_data : Trace → Trace
+pop_data (At (Data k)) = if k == 9 then At (Data 2) else At (Data (k + 1))
+pop_data trace = trace
+
+abbrev pub push_return : Flow → Trace → Trace
+push_return flow (At (Return k)) = if k == 0 then Found flow else At (Return (k - 1))
+push_return flow trace = trace
+
+abbrev pub pop_return : Trace → Trace
+pop_return (At (Return k)) = if k == 8 then At (Return 1) else At (Return (k + 1))
+pop_return trace = trace
+
+-- before a move
+abbrev pub before : Move → Trace → Trace
+before (PushData flow) trace = push_data flow trace
+before PopData trace = pop_data trace
+before (SetTop flow) trace = set_at top flow trace
+before (PopTo flow) trace = pop_data (set_at top flow trace)
+before (PushReturn flow) trace = push_return flow trace
+before PopReturn trace = pop_return trace
+before (SetTopReturn flow) trace = set_at top_return flow trace
+before (SetP flow) trace = set_at P flow trace
+before (SetA flow) trace = set_at A flow trace
+before (SetB flow) trace = set_at B flow trace
+before (SetI flow) trace = set_at I flow trace
+before (SetIo flow) trace = set_at Io flow trace
+before (SetCarry flow) trace = set_at Carry flow trace
+before (SetRam cell flow) trace = set_at (Ram cell) flow trace
+before GoOn trace = set_at Slot (From (Slot ∷ [])) trace
+before Skip trace = set_at Slot (From []) trace
+before StartAgain trace = set_at Slot (From []) trace
+before SetWait trace = set_at Wait (From []) trace
+before SetStop trace = set_at Stop (From []) trace
+
+-- before some moves, the last of them first
+abbrev pub before_all : List Move → Trace → Trace
+before_all [] trace = trace
+before_all (move ∷ rest) trace = before move (before_all rest trace)
+
+-- before a read whose word is pushed, and before a write, where this stands before what came after
+abbrev pub read_before : Target → Part → Trace → Trace
+read_before (target.Ram k) part later = push_data (Same (Ram k)) later
+read_before (target.Rom k) part later = push_data (Same (Rom k)) later
+read_before target.Io part later = push_data (Same Outside) later
+read_before (target.Ports sides) part later = before SetWait (At part)
+read_before target.Bad part later = before SetStop (At part)
+
+abbrev pub write_before : Target → Part → Trace → Trace
+write_before (target.Ram k) part later = set_at (Ram k) (Same top) later
+write_before (target.Rom k) part later = later
+write_before target.Io part later = set_at Io (Same top) later
+write_before (target.Ports sides) part later = if is_single sides then before SetWait (At part) else before SetStop (At part)
+write_before target.Bad part later = before SetStop (At part)
+
+-- before an event
+abbrev pub settled : Trace → Flow
+settled (At part) = Same part
+settled (Found flow) = flow

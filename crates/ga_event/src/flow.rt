@@ -1,0 +1,62 @@
+//! Where the values come from that an event leaves: of a node after an event, and of a chip after a list of events.
+
+mod choice;
+mod flows;
+mod part;
+mod sought;
+
+pub use choice::Choice;
+pub use flows::{due_in, flow_where, own_flow, send_flow, take_flow};
+pub use part::Part;
+
+ghost use Rattle.std.specs.Prelude.{◌≡◌, ◌∷◌, []};
+ghost use Rattle.ga_event.specs.Flow.{From, flow_of};
+
+use arrayvec::ArrayVec;
+
+/// Where the value of a part comes from that an event leaves.
+#[derive(Drop)]
+pub enum Flow {
+    /// It is the value of this part before.
+    Same(Part),
+    /// It is computed from the values of these parts before and from nothing else, given what decides the event. The word from
+    /// outside is never among them.
+    From(ArrayVec<Part, 3>),
+}
+
+/// Computed from nothing but what decides the event.
+pub(crate) fn from_none() -> Flow
+    ensures { flow_of result ≡ From [] }
+{
+    Flow::From(ArrayVec::new())
+}
+
+/// Computed from one part.
+pub(crate) fn from_one(part: Part) -> Flow
+    ensures { flow_of result ≡ From (part ∷ []) }
+{
+    let mut parts = ArrayVec::new();
+    parts.push(part);
+    Flow::From(parts)
+}
+
+/// Computed from two parts.
+pub(crate) fn from_two(first: Part, second: Part) -> Flow
+    ensures { flow_of result ≡ From (first ∷ second ∷ []) }
+{
+    let mut parts = ArrayVec::new();
+    parts.push(first);
+    parts.push(second);
+    Flow::From(parts)
+}
+
+/// Computed from three parts.
+pub(crate) fn from_three(first: Part, second: Part, third: Part) -> Flow
+    ensures { flow_of result ≡ From (first ∷ second ∷ third ∷ []) }
+{
+    let mut parts = ArrayVec::new();
+    parts.push(first);
+    parts.push(second);
+    parts.push(third);
+    Flow::From(parts)
+}

@@ -1,0 +1,42 @@
+//! What decides an event beside its opcode.
+
+use ga_ports::Target;
+
+/// What decides an event beside its opcode (DB001, opcodes).
+#[derive(Clone, Copy, PartialEq, Eq, Debug)]
+pub enum Choice {
+    /// Nothing beside the opcode.
+    Plain,
+    /// What a test said.
+    Test(bool),
+    /// What an address names.
+    At(Target),
+}
+
+impl Choice {
+    ghost use Rattle.std.specs.Prelude.{◌≡◌};
+    ghost use Rattle.ga_ports.specs.Address.{IsTarget};
+    ghost use Rattle.ga_event.specs.Flow.{target_of, test_holds};
+
+    /// What the address names; nothing where there is none.
+    pub(crate) fn target(self) -> Target
+        requires { IsTarget (target_of self) }
+        ensures value { result ≡ target_of self }
+        ensures in_range { IsTarget result }
+    {
+        match self {
+            Choice::At(target) => target,
+            _ => Target::Bad,
+        }
+    }
+
+    /// Whether the test held.
+    pub(crate) fn holds(self) -> bool
+        ensures { result ≡ test_holds self }
+    {
+        match self {
+            Choice::Test(held) => held,
+            _ => false,
+        }
+    }
+}

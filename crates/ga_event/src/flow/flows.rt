@@ -1,0 +1,352 @@
+//! Where the values come from that an event leaves: the table of opcodes once more, its changes from the last to the first.
+
+ghost use Rattle.std.specs.Prelude.{◌≡◌, ◌≤◌, ◌∷◌, []};
+ghost use Rattle.ga_ports.specs.Address.{IsTarget};
+ghost use Rattle.ga_node.specs.Record.{record_of};
+ghost use Rattle.ga_node.specs.Table.{due_of};
+ghost use Rattle.ga_event.specs.declared.flow.part.Part.TheVariants.{P};
+ghost use Rattle.ga_event.specs.Flow.{Same, From, SetI, SetP, StartAgain, IsPart, choice, target_of, moves_where, fetch_moves, execute_moves, multiply_moves, send_moves, take_moves, flow_where, own_flow, send_flow, take_flow, flow_of, AreSources, IsSource};
+ghost use Rattle.ga_event.specs.kept.{sought_of, At, before_all, read_before, write_before, IsSought};
+
+use super::sought::Sought;
+use super::{Choice, Flow, Part, from_one, from_three, from_two};
+use ga_node::{Due, Node, Place, Wait};
+use ga_ports::{Target, classify};
+use ga_slots::{Op, opcode};
+use ga_word::Word18;
+
+// The slot that comes next, and the instruction word.
+#[tactic(auto, unfolding(ga_node::specs::Record::record_of))]
+fn slot_of(node: &Node) -> u8
+    ensures value { result ≡ (record_of node.now).slot }
+    ensures in_range { result ≤ 4 }
+{
+    node.get(Place::Slot) as u8
+}
+
+#[tactic(auto, unfolding(ga_node::specs::Record::record_of))]
+fn i_of(node: &Node) -> Word18
+    ensures { result ≡ (record_of node.now).i }
+{
+    Word18::truncated(node.get(Place::I))
+}
+
+/// What comes next in a node that runs.
+pub fn due_in(node: &Node) -> Due
+    ensures { result ≡ due_of (record_of node.now) }
+{
+    let slot = slot_of(node);
+    if slot == 4 {
+        return Due::Fetch;
+    }
+    Due::Run(opcode(i_of(node), slot))
+}
+
+// P, A and B, each as an address.
+#[tactic(auto, unfolding(ga_node::specs::Record::record_of))]
+fn p_of(node: &Node) -> u32
+    ensures { result ≡ (record_of node.now).p }
+{
+    node.get(Place::P)
+}
+
+#[tactic(auto, unfolding(ga_node::specs::Record::record_of))]
+fn a_of(node: &Node) -> u32
+    ensures { result ≡ (record_of node.now).a }
+{
+    node.get(Place::A)
+}
+
+#[tactic(auto, unfolding(ga_node::specs::Record::record_of))]
+fn b_of(node: &Node) -> u32
+    ensures { result ≡ (record_of node.now).b }
+{
+    node.get(Place::B)
+}
+
+// What decides the next event beside its opcode.
+fn choice_of(node: &Node, due: Due) -> Choice
+    ensures value { result ≡ choice due (record_of node.now) }
+    ensures in_range { IsTarget (target_of result) }
+{
+    match due {
+        Due::Fetch => Choice::At(classify(p_of(node))),
+        Due::Run(op) => choice_by(node, op),
+    }
+}
+
+// The same of an opcode.
+fn choice_by(node: &Node, op: Op) -> Choice
+    ensures value { result ≡ choice (Due.Run op) (record_of node.now) }
+    ensures in_range { IsTarget (target_of result) }
+{
+    match op {
+        Op::Unext | Op::Next => Choice::Test(node.r(0) == 0),
+        Op::If => Choice::Test(node.d(0) == 0),
+        Op::MinusIf => Choice::Test(node.d(0) / 131072 == 0),
+        Op::Plus => Choice::Test(p_of(node) / 512 % 2 == 1),
+        Op::FetchP | Op::StoreP => Choice::At(classify(p_of(node))),
+        Op::FetchPlus | Op::Fetch | Op::StorePlus | Op::Store => Choice::At(classify(a_of(node))),
+        Op::FetchB | Op::StoreB => Choice::At(classify(b_of(node))),
+        _ => Choice::Plain,
+    }
+}
+
+// Before a word was read at the address and pushed, where this stands before what came after it.
+fn before_read(choice: Choice, part: Part, later: Sought) -> Sought
+    requires choice { IsTarget (target_of choice) }
+    requires part { IsPart part }
+    requires known { IsSought (sought_of later) }
+    ensures value { sought_of result ≡ read_before (target_of choice) part (sought_of later) }
+    ensures known { IsSought (sought_of result) }
+{
+    match choice.target() {
+        Target::Ram(k) => later.push_data(Flow::Same(Part::Ram(k))),
+        Target::Rom(k) => later.push_data(Flow::Same(Part::Rom(k))),
+        Target::Io => later.push_data(Flow::Same(Part::Outside)),
+        Target::Ports(_) => Sought::At(part).set_wait(),
+        Target::Bad => Sought::At(part).set_stop(),
+    }
+}
+
+// Before T was written at the address, where this stands before what came after it.
+fn before_write(choice: Choice, part: Part, later: Sought) -> Sought
+    requires choice { IsTarget (target_of choice) }
+    requires part { IsPart part }
+    requires known { IsSought (sought_of later) }
+    ensures value { sought_of result ≡ write_before (target_of choice) part (sought_of later) }
+    ensures known { IsSought (sought_of result) }
+{
+    match choice.target() {
+        Target::Ram(k) => later.set(Part::Ram(k), Flow::Same(Part::T)),
+        Target::Rom(_) => later,
+        Target::Io => later.set(Part::Io, Flow::Same(Part::T)),
+        Target::Ports(sides) => {
+            if sides.single().is_some() {
+                Sought::At(part).set_wait()
+            } else {
+                Sought::At(part).set_stop()
+            }
+        }
+        Target::Bad => Sought::At(part).set_stop(),
+    }
+}
+
+// Before the instruction word was fetched from there.
+fn before_word(part: Part, source: Part) -> Sought
+    requires part { IsPart part }
+    requires source { IsSource source }
+    ensures value { sought_of result ≡ before_all (SetI (Same source) ∷ SetP (From (P ∷ [])) ∷ StartAgain ∷ []) (At part) }
+    ensures known { IsSought (sought_of result) }
+{
+    Sought::At(part)
+        .start_again()
+        .advance(Part::P)
+        .set(Part::I, Flow::Same(source))
+}
+
+// Before a fetch.
+fn before_fetch(choice: Choice, part: Part) -> Sought
+    requires choice { IsTarget (target_of choice) }
+    requires part { IsPart part }
+    ensures value { sought_of result ≡ before_all (fetch_moves (target_of choice)) (At part) }
+    ensures known { IsSought (sought_of result) }
+{
+    match choice.target() {
+        Target::Ram(k) => before_word(part, Part::Ram(k)),
+        Target::Rom(k) => before_word(part, Part::Rom(k)),
+        Target::Io => before_word(part, Part::Outside),
+        Target::Ports(_) => Sought::At(part).set_wait(),
+        Target::Bad => Sought::At(part).set_stop(),
+    }
+}
+
+// Before `ex`.
+fn before_execute(at: Sought) -> Sought
+    requires { IsSought (sought_of at) }
+    ensures value { sought_of result ≡ before_all execute_moves (sought_of at) }
+    ensures known { IsSought (sought_of result) }
+{
+    at.skip()
+        .set(Part::R, Flow::Same(Part::P))
+        .set(Part::P, from_one(Part::R))
+}
+
+// Before `+*`.
+fn before_multiply(at: Sought) -> Sought
+    requires { IsSought (sought_of at) }
+    ensures value { sought_of result ≡ before_all multiply_moves (sought_of at) }
+    ensures known { IsSought (sought_of result) }
+{
+    at.go_on()
+        .set(Part::T, from_three(Part::T, Part::S, Part::A))
+        .set(Part::A, from_three(Part::T, Part::S, Part::A))
+}
+
+// Before the writer's half of a transfer.
+fn before_send(part: Part) -> Sought
+    requires { IsPart part }
+    ensures value { sought_of result ≡ before_all send_moves (At part) }
+    ensures known { IsSought (sought_of result) }
+{
+    Sought::At(part).go_on().pop_data().set_wait()
+}
+
+// Before the reader's half, of a node that waited for this.
+fn before_take(wait: Wait, part: Part) -> Sought
+    requires { IsPart part }
+    ensures value { sought_of result ≡ before_all (take_moves wait) (At part) }
+    ensures known { IsSought (sought_of result) }
+{
+    match wait {
+        Wait::Nothing => Sought::At(part),
+        Wait::Fetch(_) => Sought::At(part)
+            .start_again()
+            .set(Part::I, Flow::Same(Part::Outside))
+            .set_wait(),
+        Wait::Read(_) => Sought::At(part)
+            .go_on()
+            .push_data(Flow::Same(Part::Outside))
+            .set_wait(),
+        Wait::Write(_) => Sought::At(part),
+    }
+}
+
+// Before the opcode.
+#[tactic(auto, using(crate::proofs::Following::read_found, crate::proofs::Following::write_found))]
+fn before_op(op: Op, choice: Choice, part: Part) -> Sought
+    requires choice { IsTarget (target_of choice) }
+    requires part { IsPart part }
+    ensures value { sought_of result ≡ before_all (moves_where (Due.Run op) choice) (At part) }
+    ensures known { IsSought (sought_of result) }
+{
+    let at = Sought::At(part);
+    match op {
+        Op::Return => at.skip().pop_return().set(Part::P, from_one(Part::R)),
+        Op::Execute => before_execute(at),
+        Op::Jump => at.jump(),
+        Op::Call => at.jump().push_return(Flow::Same(Part::P)),
+        Op::Unext => before_unext(choice, at),
+        Op::Next => before_next(choice, at),
+        Op::If => at.jump_where(choice.holds()),
+        Op::MinusIf => at.jump_where(choice.holds()),
+        Op::FetchP => before_read(choice, part, at.go_on().advance(Part::P)),
+        Op::FetchPlus => before_read(choice, part, at.go_on().advance(Part::A)),
+        Op::FetchB => before_read(choice, part, at.go_on()),
+        Op::Fetch => before_read(choice, part, at.go_on()),
+        Op::StoreP => before_write(choice, part, at.go_on().advance(Part::P).pop_data()),
+        Op::StorePlus => before_write(choice, part, at.go_on().advance(Part::A).pop_data()),
+        Op::StoreB => before_write(choice, part, at.go_on().pop_data()),
+        Op::Store => before_write(choice, part, at.go_on().pop_data()),
+        Op::MultiplyStep => before_multiply(at),
+        Op::TwoStar => at.go_on().set(Part::T, from_one(Part::T)),
+        Op::TwoSlash => at.go_on().set(Part::T, from_one(Part::T)),
+        Op::Invert => at.go_on().set(Part::T, from_one(Part::T)),
+        Op::Plus => before_plus(choice, at),
+        Op::And => at.go_on().pop_to(from_two(Part::T, Part::S)),
+        Op::Or => at.go_on().pop_to(from_two(Part::T, Part::S)),
+        Op::Drop => at.go_on().pop_data(),
+        Op::Dup => at.go_on().push_data(Flow::Same(Part::T)),
+        Op::Pop => at.go_on().pop_return().push_data(Flow::Same(Part::R)),
+        Op::Over => at.go_on().push_data(Flow::Same(Part::S)),
+        Op::A => at.go_on().push_data(Flow::Same(Part::A)),
+        Op::Nop => at.go_on(),
+        Op::Push => at.go_on().pop_data().push_return(Flow::Same(Part::T)),
+        Op::BStore => at.go_on().pop_data().set(Part::B, from_one(Part::T)),
+        Op::AStore => at.go_on().pop_data().set(Part::A, Flow::Same(Part::T)),
+    }
+}
+
+// Before `unext`.
+fn before_unext(choice: Choice, at: Sought) -> Sought
+    requires { IsSought (sought_of at) }
+    ensures value { sought_of result ≡ before_all (moves_where (Due.Run Op.Unext) choice) (sought_of at) }
+    ensures known { IsSought (sought_of result) }
+{
+    if choice.holds() {
+        at.go_on().pop_return()
+    } else {
+        at.start_again().count_down()
+    }
+}
+
+// Before `next`.
+fn before_next(choice: Choice, at: Sought) -> Sought
+    requires { IsSought (sought_of at) }
+    ensures value { sought_of result ≡ before_all (moves_where (Due.Run Op.Next) choice) (sought_of at) }
+    ensures known { IsSought (sought_of result) }
+{
+    if choice.holds() {
+        at.skip().pop_return()
+    } else {
+        at.jump().count_down()
+    }
+}
+
+// Before `+`.
+fn before_plus(choice: Choice, at: Sought) -> Sought
+    requires { IsSought (sought_of at) }
+    ensures value { sought_of result ≡ before_all (moves_where (Due.Run Op.Plus) choice) (sought_of at) }
+    ensures known { IsSought (sought_of result) }
+{
+    if choice.holds() {
+        at.go_on()
+            .pop_to(from_three(Part::T, Part::S, Part::Carry))
+            .set(Part::Carry, from_three(Part::T, Part::S, Part::Carry))
+    } else {
+        at.go_on().pop_to(from_two(Part::T, Part::S))
+    }
+}
+
+// Before what comes next.
+fn before_due(due: Due, choice: Choice, part: Part) -> Sought
+    requires choice { IsTarget (target_of choice) }
+    requires part { IsPart part }
+    ensures value { sought_of result ≡ before_all (moves_where due choice) (At part) }
+    ensures known { IsSought (sought_of result) }
+{
+    match due {
+        Due::Fetch => before_fetch(choice, part),
+        Due::Run(op) => before_op(op, choice, part),
+    }
+}
+
+/// Where the value of a part comes from after the node's next event of its own, where it makes one (DB001, opcodes): from which
+/// parts of the node before. In two nodes in which the same is decided, as the opcode, its test and what its address names,
+/// and which hold the same in these parts, the event leaves the same value ([`crate::laws::flows`]).
+pub fn own_flow(node: &Node, part: Part) -> Flow
+    requires { IsPart part }
+    ensures value { flow_of result ≡ own_flow (record_of node.now) part }
+    ensures sources { AreSources (flow_of result) }
+{
+    let due = due_in(node);
+    flow_where(due, choice_of(node, due), part)
+}
+
+/// The same of what comes next, where this decides it: by the opcode and the choice alone, whatever else stands in the node.
+pub fn flow_where(due: Due, choice: Choice, part: Part) -> Flow
+    requires choice { IsTarget (target_of choice) }
+    requires part { IsPart part }
+    ensures value { flow_of result ≡ flow_where due choice part }
+    ensures sources { AreSources (flow_of result) }
+{
+    before_due(due, choice, part).settle()
+}
+
+/// The same of the writer's half of a transfer.
+pub fn send_flow(part: Part) -> Flow
+    requires { IsPart part }
+    ensures value { flow_of result ≡ send_flow part }
+    ensures sources { AreSources (flow_of result) }
+{
+    before_send(part).settle()
+}
+
+/// The same of the reader's half, of a node that waits for this.
+pub fn take_flow(wait: Wait, part: Part) -> Flow
+    requires { IsPart part }
+    ensures value { flow_of result ≡ take_flow wait part }
+    ensures sources { AreSources (flow_of result) }
+{
+    before_take(wait, part).settle()
+}

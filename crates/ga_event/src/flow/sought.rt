@@ -1,0 +1,201 @@
+//! A part followed back through the changes of an event.
+
+use super::{Flow, Part, from_none, from_one, from_three};
+
+/// A part followed back through the changes of an event, the last of them first.
+#[derive(Drop)]
+pub(crate) enum Sought {
+    /// Its value is the one that this part has before the changes so far.
+    At(Part),
+    /// Its value comes from there.
+    Found(Flow),
+}
+
+impl Sought {
+    ghost use Rattle.std.specs.Prelude.{◌≡◌, ◌∷◌, [], if◌then◌else◌};
+    ghost use Rattle.ga_event.specs.Flow.{From, GoOn, Skip, StartAgain, SetWait, SetStop, jump_moves, top_return, IsPart, flow_of, AreSources};
+    ghost use Rattle.ga_event.specs.Flow as move;
+    ghost use Rattle.ga_event.specs.kept.{sought_of, set_at, push_data, pop_data, push_return, pop_return, before, before_all, settled, IsSought};
+
+    /// Before a part got a word that comes from there.
+    pub(crate) fn set(self, at: Part, flow: Flow) -> Sought
+        requires known { IsSought (sought_of self) }
+        requires sources { AreSources (flow_of flow) }
+        ensures value { sought_of result ≡ set_at at (flow_of flow) (sought_of self) }
+        ensures known { IsSought (sought_of result) }
+    {
+        match self {
+            Sought::At(part) => {
+                if part.is_same(at) {
+                    Sought::Found(flow)
+                } else {
+                    Sought::At(part)
+                }
+            }
+            Sought::Found(found) => Sought::Found(found),
+        }
+    }
+
+    /// Before a word that comes from there was pushed on the data stack.
+    pub(crate) fn push_data(self, flow: Flow) -> Sought
+        requires known { IsSought (sought_of self) }
+        requires sources { AreSources (flow_of flow) }
+        ensures value { sought_of result ≡ push_data (flow_of flow) (sought_of self) }
+        ensures known { IsSought (sought_of result) }
+    {
+        match self {
+            Sought::At(Part::Data(0)) => Sought::Found(flow),
+            Sought::At(Part::Data(k)) => Sought::At(Part::Data(k - 1)),
+            Sought::At(part) => Sought::At(part),
+            Sought::Found(found) => Sought::Found(found),
+        }
+    }
+
+    /// Before the data stack was popped.
+    pub(crate) fn pop_data(self) -> Sought
+        requires known { IsSought (sought_of self) }
+        ensures value { sought_of result ≡ pop_data (sought_of self) }
+        ensures known { IsSought (sought_of result) }
+    {
+        match self {
+            Sought::At(Part::Data(9)) => Sought::At(Part::Data(2)),
+            Sought::At(Part::Data(k)) => Sought::At(Part::Data(k + 1)),
+            Sought::At(part) => Sought::At(part),
+            Sought::Found(found) => Sought::Found(found),
+        }
+    }
+
+    /// Before a word that comes from there was pushed on the return stack.
+    pub(crate) fn push_return(self, flow: Flow) -> Sought
+        requires known { IsSought (sought_of self) }
+        requires sources { AreSources (flow_of flow) }
+        ensures value { sought_of result ≡ push_return (flow_of flow) (sought_of self) }
+        ensures known { IsSought (sought_of result) }
+    {
+        match self {
+            Sought::At(Part::Return(0)) => Sought::Found(flow),
+            Sought::At(Part::Return(k)) => Sought::At(Part::Return(k - 1)),
+            Sought::At(part) => Sought::At(part),
+            Sought::Found(found) => Sought::Found(found),
+        }
+    }
+
+    /// Before the return stack was popped.
+    pub(crate) fn pop_return(self) -> Sought
+        requires known { IsSought (sought_of self) }
+        ensures value { sought_of result ≡ pop_return (sought_of self) }
+        ensures known { IsSought (sought_of result) }
+    {
+        match self {
+            Sought::At(Part::Return(8)) => Sought::At(Part::Return(1)),
+            Sought::At(Part::Return(k)) => Sought::At(Part::Return(k + 1)),
+            Sought::At(part) => Sought::At(part),
+            Sought::Found(found) => Sought::Found(found),
+        }
+    }
+
+    /// Before all changes.
+    pub(crate) fn settle(self) -> Flow
+        requires known { IsSought (sought_of self) }
+        ensures value { flow_of result ≡ settled (sought_of self) }
+        ensures sources { AreSources (flow_of result) }
+    {
+        match self {
+            Sought::At(part) => Flow::Same(part),
+            Sought::Found(flow) => flow,
+        }
+    }
+
+    /// Before the next slot came.
+    pub(crate) fn go_on(self) -> Sought
+        requires { IsSought (sought_of self) }
+        ensures value { sought_of result ≡ before GoOn (sought_of self) }
+        ensures known { IsSought (sought_of result) }
+    {
+        self.set(Part::Slot, from_one(Part::Slot))
+    }
+
+    /// Before the rest of the word was passed over.
+    pub(crate) fn skip(self) -> Sought
+        requires { IsSought (sought_of self) }
+        ensures value { sought_of result ≡ before Skip (sought_of self) }
+        ensures known { IsSought (sought_of result) }
+    {
+        self.set(Part::Slot, from_none())
+    }
+
+    /// Before the first slot came.
+    pub(crate) fn start_again(self) -> Sought
+        requires { IsSought (sought_of self) }
+        ensures value { sought_of result ≡ before StartAgain (sought_of self) }
+        ensures known { IsSought (sought_of result) }
+    {
+        self.set(Part::Slot, from_none())
+    }
+
+    /// Before a wait began or ended.
+    pub(crate) fn set_wait(self) -> Sought
+        requires { IsSought (sought_of self) }
+        ensures value { sought_of result ≡ before SetWait (sought_of self) }
+        ensures known { IsSought (sought_of result) }
+    {
+        self.set(Part::Wait, from_none())
+    }
+
+    /// Before the node stopped.
+    pub(crate) fn set_stop(self) -> Sought
+        requires { IsSought (sought_of self) }
+        ensures value { sought_of result ≡ before SetStop (sought_of self) }
+        ensures known { IsSought (sought_of result) }
+    {
+        self.set(Part::Stop, from_none())
+    }
+
+    /// Before the data stack was popped and its top got a word that comes from there.
+    pub(crate) fn pop_to(self, flow: Flow) -> Sought
+        requires known { IsSought (sought_of self) }
+        requires sources { AreSources (flow_of flow) }
+        ensures value { sought_of result ≡ before (move.PopTo (flow_of flow)) (sought_of self) }
+        ensures known { IsSought (sought_of result) }
+    {
+        self.set(Part::T, flow).pop_data()
+    }
+
+    /// Before the address in a register advanced.
+    pub(crate) fn advance(self, register: Part) -> Sought
+        requires known { IsSought (sought_of self) }
+        requires part { IsPart register }
+        ensures value { sought_of result ≡ set_at register (From (register ∷ [])) (sought_of self) }
+        ensures known { IsSought (sought_of result) }
+    {
+        self.set(register, from_one(register))
+    }
+
+    /// Before R counted down.
+    pub(crate) fn count_down(self) -> Sought
+        requires { IsSought (sought_of self) }
+        ensures value { sought_of result ≡ set_at top_return (From (top_return ∷ [])) (sought_of self) }
+        ensures known { IsSought (sought_of result) }
+    {
+        self.set(Part::R, from_one(Part::R))
+    }
+
+    /// Before a jump where a condition holds; else the rest of the word was passed over.
+    pub(crate) fn jump_where(self, is_so: bool) -> Sought
+        requires { IsSought (sought_of self) }
+        ensures value { sought_of result ≡ before_all (if is_so then jump_moves else Skip ∷ []) (sought_of self) }
+        ensures known { IsSought (sought_of result) }
+    {
+        if is_so { self.jump() } else { self.skip() }
+    }
+
+    /// Before a jump to the address that the slot names.
+    pub(crate) fn jump(self) -> Sought
+        requires { IsSought (sought_of self) }
+        ensures value { sought_of result ≡ before_all jump_moves (sought_of self) }
+        ensures known { IsSought (sought_of result) }
+    {
+        self.skip()
+            .set(Part::P, from_three(Part::P, Part::I, Part::Slot))
+    }
+}

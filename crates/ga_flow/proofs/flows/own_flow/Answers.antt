@@ -1,9 +1,0 @@
-use Rattle.std.proofs.Common.{◌∙◌}
-use Rattle.ga_node.specs.Record.{record_of}
-use Rattle.ga_flow.proofs.Following.{own_found}
-use Rattle.ga_flow.proofs.flows.own_flow.Goals as goal
-
-pub returns-clause-value : goal.returns-clause-value
-returns-clause-value c =
-    c.flow_where.ensures.value
-    ∙ own_found c.due_in-due.result c.choice_of.result (record_of c.args.node.now) c.args.part c.due_in-due.ensures c.choice_of.ensures.value

@@ -1,7 +1,0 @@
-use Rattle.std.proofs.Common.{◌∙◌, ap}
-use Rattle.ga_flow.specs.kept.{settled}
-use Rattle.ga_flow.proofs.Following.{take_found}
-use Rattle.ga_flow.proofs.flows.take_flow.Goals as goal
-
-pub returns-clause-value : goal.returns-clause-value
-returns-clause-value c = c.settle.ensures.value ∙ ap settled c.before_take.ensures.value ∙ take_found c.args.wait c.args.part

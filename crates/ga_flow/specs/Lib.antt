@@ -1,4 +1,0 @@
-pub mod Flow
-pub mod Following
-pub mod Sources
-pub mod kept
