@@ -1,7 +1,7 @@
 -- What flows into each part of a node in an event.
 use Rattle.std.proofs.Common.{◌≡◌, ℕ, ◌+◌, ◌-◌, ◌/◌, ◌%◌, ◌^◌, ◌==◌, Bool, true, false, cond, List, [], ◌∷◌, ◌++◌, nat_le, refl, sym, ap, ◌∙◌, subst, bit_and, bit_xor}
 use Rattle.ga_word.specs.Word.{words, carry_value, doubled, halved, step_sum, step_high, step_low}
-use Rattle.ga_slots.specs.Slots.{target}
+use Rattle.ga_slots.specs.Slots.{target, opcode}
 use Rattle.ga_slots.specs.Codes.{code_of}
 use Rattle.ga_slots.specs.declared.op.Op.{Op}
 use Rattle.ga_slots.specs.declared.op.Op.TheVariants as op
@@ -13,7 +13,7 @@ use Rattle.ga_node.specs.Io.{io_word}
 use Rattle.ga_node.specs.Changes.{Change, after_changes}
 use Rattle.ga_node.specs.Changes as change
 use Rattle.ga_node.specs.Table.{t, r, posts, halts, found, stored, followed, with_kind, effect, is_extended, due_of, done_by, own_event, own, sent, taken, taking}
-use Rattle.ga_event.specs.Flow.{Flow, Same, From, Move, top, second, top_return, part_of, IsPart, moved_all, from, read_moves, write_moves, moves, moves_by, take_moves, own_flow, send_flow, take_flow, choice, target_of, test_holds, DecideAlike, Comes}
+use Rattle.ga_event.specs.Flow.{Flow, Same, From, Move, top, second, top_return, part_of, IsPart, moved_all, from, read_moves, write_moves, moves, moves_by, take_moves, own_flow, send_flow, take_flow, choice, target_of, test_holds, DecideAlike, Comes, chosen_by, AgreeAtParts}
 use Rattle.ga_event.specs.declared.flow.part.Part.{Part}
 use Rattle.ga_event.specs.declared.flow.part.Part.TheVariants.{Ram as OfRam, Rom as OfRom, A as OfA, P as OfP, I as OfI, Carry as OfCarry, Slot as OfSlot, Outside}
 use Rattle.ga_event.specs.Flow as move
@@ -27,6 +27,7 @@ use Rattle.ga_node.specs.declared.wait.Wait.TheVariants as wait
 use Rattle.ga_node.specs.declared.wait.Reader.{Reader}
 use Rattle.ga_node.specs.declared.wait.Reader.TheVariants.{Instruction, Stack}
 use Rattle.ga_event.proofs.Tracks.{push_data, pop_data, set_top, pop_to, push_return, pop_return, set_top_return, set_p, set_a, set_b, set_i, set_io, set_carry, set_ram, go_on, skip, start_again, set_wait, set_stop, AreMoves, none, then, comes_after, sizes_after}
+use Rattle.ga_event.specs.declared.flow.choice.Choice.TheVariants.{Test, At}
 
 abbrev posts_to : ℕ → Kind × List Change
 posts_to sides = posts (wait.Write (side_of sides))
@@ -194,3 +195,53 @@ module _ (word : ℕ) (n : NodeRecord) (other : ℕ) (m : NodeRecord) where
   unfolding taken
   taken_sizes left right same =
       subst (λ w. HasSizes (after_changes (taking n.wait word) n) × HasSizes (after_changes (taking w other) m)) same (sizes_after word n other m (take_row n.wait) left right)
+
+-- ---- the same is decided in two nodes that hold the same in the parts by which an event is decided
+
+module _ (n m : NodeRecord) where
+  due_same : n.i ≡ m.i → n.slot ≡ m.slot → due_of n ≡ due_of m
+  due_same word slot = ap (λ i. by_slot i n.slot) word ∙ ap (by_slot m.i) slot
+    where
+      by_slot : ℕ → ℕ → Due
+      by_slot i slot = cond (slot == 4) due.Fetch (due.Run (opcode i slot))
+
+  chosen : (d : Due) → AgreeAtParts 0 n 0 m (chosen_by d) → choice d n ≡ choice d m
+  chosen due.Fetch agree = ap (λ p. At (classified p)) agree.0
+  chosen (due.Run op.Unext) agree = ap (λ v. Test (v == 0)) agree.0
+  chosen (due.Run op.Next) agree = ap (λ v. Test (v == 0)) agree.0
+  chosen (due.Run op.If) agree = ap (λ v. Test (v == 0)) agree.0
+  chosen (due.Run op.MinusIf) agree = ap (λ v. Test (v / 2 ^ 17 == 0)) agree.0
+  chosen (due.Run op.Plus) agree = ap (λ p. Test (p / 2 ^ 9 % 2 == 1)) agree.0
+  chosen (due.Run op.FetchP) agree = ap (λ v. At (classified v)) agree.0
+  chosen (due.Run op.FetchPlus) agree = ap (λ v. At (classified v)) agree.0
+  chosen (due.Run op.FetchB) agree = ap (λ v. At (classified v)) agree.0
+  chosen (due.Run op.Fetch) agree = ap (λ v. At (classified v)) agree.0
+  chosen (due.Run op.StoreP) agree = ap (λ v. At (classified v)) agree.0
+  chosen (due.Run op.StorePlus) agree = ap (λ v. At (classified v)) agree.0
+  chosen (due.Run op.StoreB) agree = ap (λ v. At (classified v)) agree.0
+  chosen (due.Run op.Store) agree = ap (λ v. At (classified v)) agree.0
+  chosen (due.Run op.Return) agree = refl
+  chosen (due.Run op.Execute) agree = refl
+  chosen (due.Run op.Jump) agree = refl
+  chosen (due.Run op.Call) agree = refl
+  chosen (due.Run op.MultiplyStep) agree = refl
+  chosen (due.Run op.TwoStar) agree = refl
+  chosen (due.Run op.TwoSlash) agree = refl
+  chosen (due.Run op.Invert) agree = refl
+  chosen (due.Run op.And) agree = refl
+  chosen (due.Run op.Or) agree = refl
+  chosen (due.Run op.Drop) agree = refl
+  chosen (due.Run op.Dup) agree = refl
+  chosen (due.Run op.Pop) agree = refl
+  chosen (due.Run op.Over) agree = refl
+  chosen (due.Run op.A) agree = refl
+  chosen (due.Run op.Nop) agree = refl
+  chosen (due.Run op.Push) agree = refl
+  chosen (due.Run op.BStore) agree = refl
+  chosen (due.Run op.AStore) agree = refl
+
+  pub alike : AgreeAtParts 0 n 0 m (OfI ∷ OfSlot ∷ []) → AgreeAtParts 0 n 0 m (chosen_by (due_of n)) → DecideAlike n m
+  alike word by = record {
+    due = due_same word.0 word.1.0;
+    choice = chosen (due_of n) by ∙ ap (λ d. choice d m) (due_same word.0 word.1.0);
+  }

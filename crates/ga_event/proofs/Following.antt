@@ -1,5 +1,5 @@
 -- Following a part back through the moves of an event finds where its value comes from.
-use Rattle.std.proofs.Common.{◌≡◌, ◌==◌, ◌+◌, ◌-◌, Bool, true, false, cond, List, [], ◌∷◌, refl, sym, ap, ◌∙◌}
+use Rattle.std.proofs.Common.{◌≡◌, ◌==◌, ◌+◌, ◌-◌, Bool, true, false, cond, List, [], ◌∷◌, refl, sym, ap, ◌∙◌, ℕ, zero, suc, ◌&&◌}
 use Rattle.ga_slots.specs.declared.op.Op.{Op}
 use Rattle.ga_slots.specs.declared.op.Op.TheVariants as op
 use Rattle.ga_ports.specs.Address.{is_single}
@@ -14,8 +14,10 @@ use Rattle.ga_node.specs.declared.wait.Wait.TheVariants as wait
 use Rattle.ga_event.specs.declared.flow.choice.Choice.{Choice}
 use Rattle.ga_event.specs.declared.flow.part.Part.{Part}
 use Rattle.ga_event.specs.declared.flow.part.Part.TheVariants.{Data, Return, Ram, Rom, A, B, P, I, Io, Carry, Slot, Wait as WaitPart, Stop, Outside}
-use Rattle.ga_event.specs.Flow.{Flow, Same, From, Flows, Move, PushData, PopData, SetTop, PopTo, PushReturn, PopReturn, SetTopReturn, SetP, SetA, SetB, SetI, SetIo, SetCarry, SetRam, GoOn, Skip, StartAgain, SetWait, SetStop, is_same, with_flow, pushed_data, data_flows_popped, pushed_return, return_flows_popped, by, moved, moved_all, top, top_return, choice, target_of, test_holds, read_moves, write_moves, moves_where, moves_by, send_moves, take_moves, flow_where, own_flow, send_flow, take_flow}
-use Rattle.ga_event.specs.kept.{Trace, At, Found, set_at, push_data, pop_data, push_return, pop_return, before, before_all, settled, read_before, write_before}
+use Rattle.ga_event.specs.Flow.{Flow, Same, From, Flows, Move, PushData, PopData, SetTop, PopTo, PushReturn, PopReturn, SetTopReturn, SetP, SetA, SetB, SetI, SetIo, SetCarry, SetRam, GoOn, Skip, StartAgain, SetWait, SetStop, is_same, with_flow, pushed_data, data_flows_popped, pushed_return, return_flows_popped, by, moved, moved_all, top, top_return, choice, target_of, test_holds, read_moves, write_moves, moves_where, moves_by, send_moves, take_moves, flow_where, own_flow, send_flow, take_flow, kind_of, index_of}
+use Rattle.ga_event.specs.kept.{Trace, At, Found, set_at, push_data, pop_data, push_return, pop_return, before, before_all, settled, read_before, write_before, count_before}
+use Rattle.std.specs.Prelude.{◌↔◌, IsTrue}
+use Rattle.std.proofs.lemmas.Bool.{eq-eqb, eqb-true}
 
 -- the flow of what stands there
 abbrev resolved : Flows → Trace → Flow
@@ -269,3 +271,72 @@ write_found (target.Ports sides) part more = by_single (is_single sides)
     by_single true = refl
     by_single false = refl
 write_found target.Bad part more = refl
+
+pub count_found : (ends : Bool) (part : Part) (last again : List Move) → count_before ends (before_all last (At part)) (before_all again (At part)) ≡ before_all (cond ends (PopReturn ∷ last) (SetTopReturn (From (top_return ∷ [])) ∷ again)) (At part)
+count_found true part last again = refl
+count_found false part last again = refl
+
+-- ---- parts of one kind and index are one part
+
+-- the part of a kind at an index
+part_at : ℕ → ℕ → Part
+part_at zero k = Data k
+part_at (suc zero) k = Return k
+part_at (suc (suc zero)) k = Ram k
+part_at (suc (suc (suc zero))) k = Rom k
+part_at (suc (suc (suc (suc zero)))) k = A
+part_at (suc (suc (suc (suc (suc zero))))) k = B
+part_at (suc (suc (suc (suc (suc (suc zero)))))) k = P
+part_at (suc (suc (suc (suc (suc (suc (suc zero))))))) k = I
+part_at (suc (suc (suc (suc (suc (suc (suc (suc zero)))))))) k = Io
+part_at (suc (suc (suc (suc (suc (suc (suc (suc (suc zero))))))))) k = Carry
+part_at (suc (suc (suc (suc (suc (suc (suc (suc (suc (suc zero)))))))))) k = Slot
+part_at (suc (suc (suc (suc (suc (suc (suc (suc (suc (suc (suc zero))))))))))) k = WaitPart
+part_at (suc (suc (suc (suc (suc (suc (suc (suc (suc (suc (suc (suc zero)))))))))))) k = Stop
+part_at (suc (suc (suc (suc (suc (suc (suc (suc (suc (suc (suc (suc (suc n))))))))))))) k = Outside
+
+decoded : (p : Part) → part_at (kind_of p) (index_of p) ≡ p
+unfolding part_at
+decoded (Data k) = refl
+decoded (Return k) = refl
+decoded (Ram k) = refl
+decoded (Rom k) = refl
+decoded A = refl
+decoded B = refl
+decoded P = refl
+decoded I = refl
+decoded Io = refl
+decoded Carry = refl
+decoded Slot = refl
+decoded WaitPart = refl
+decoded Stop = refl
+decoded Outside = refl
+
+both : (a b : Bool) → (a && b) ≡ true → (a ≡ true) × (b ≡ true)
+both true b h = (refl, h)
+both false b h = absurd (cc)
+
+pub same_part : (p q : Part) → is_same p q ≡ true → p ≡ q
+same_part p q h =
+    let tests = both (kind_of p == kind_of q) (index_of p == index_of q) h in
+    sym (decoded p)
+    ∙ ap (λ (k : ℕ). part_at k (index_of p)) (eqb-true (kind_of p) (kind_of q) tests.0)
+    ∙ ap (part_at (kind_of q)) (eqb-true (index_of p) (index_of q) tests.1)
+    ∙ decoded q
+
+and_true : (a b : Bool) → a ≡ true → b ≡ true → (a && b) ≡ true
+and_true true b p q = q
+and_true false b p q = p
+
+-- the test of the indices, where the kinds are the same, and that of the kinds, where they aren't
+pub then_same : (p q : Part) (i j : ℕ) → kind_of p ≡ kind_of q → i ≡ index_of p → j ≡ index_of q → IsTrue (i == j) ↔ (p ≡ q)
+then_same p q i j kinds left right = (
+  λ h. same_part p q (and_true (kind_of p == kind_of q) (index_of p == index_of q) (eq-eqb (kind_of p) (kind_of q) kinds) (eq-eqb (index_of p) (index_of q) (sym left ∙ eqb-true i j h ∙ right))),
+  λ e. eq-eqb i j (left ∙ ap index_of e ∙ sym right),
+)
+
+pub else_same : (p q : Part) (a b : ℕ) → (a ≡ b → ⊥) → a ≡ kind_of p → b ≡ kind_of q → IsTrue (a == b) ↔ (p ≡ q)
+else_same p q a b differ left right = (
+  λ h. absurd (differ (eqb-true a b h)),
+  λ e. absurd (differ (left ∙ ap kind_of e ∙ sym right)),
+)

@@ -1,11 +1,8 @@
 pub mod Applied
-pub mod Passes
 pub mod Locality
 pub mod Steadiness
 pub mod Nexts
-pub mod Deciding
 pub mod Flowing
 pub mod Following
-pub mod Same
 pub mod Sources
 pub mod Tracks

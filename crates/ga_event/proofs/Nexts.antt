@@ -1,5 +1,5 @@
 -- The event that a node has next can be made.
-use Rattle.std.proofs.Common.{◌≡◌, ℕ, ◌<◌, ◌==◌, true, ◌&&◌, List, [], ◌∷◌, refl, sym, ◌∙◌, ap, subst, arith, ⊎_elim, eq-eqb}
+use Rattle.std.proofs.Common.{◌≡◌, ℕ, ◌<◌, ◌==◌, true, ◌&&◌, List, [], ◌∷◌, refl, sym, ◌∙◌, ap, subst, arith, ⊎_elim, eq-eqb, ◌+◌, length, get_or, drop, drop-cons, add-one, suc}
 use Rattle.std.specs.Prelude.{Option, Some, None, Result, Ok, Err, option_map}
 use Rattle.std.proofs.lemmas.Bool.{cases_Bool, cond-true, cond-false, and_from}
 use Rattle.std.proofs.lemmas.Option.{same_Some}
@@ -105,3 +105,13 @@ by_wait chip n e (Write side) is h =
 
 pub next_can : (chip : List NodeRecord) (n : NodeId) (e : Event) → next chip n ≡ Ok e → refusal_of chip e ≡ None
 next_can chip n e h = by_wait chip n e (record_at chip n.number).wait refl h
+
+-- ---- the sides that a reader tries in turn
+
+-- a side over which no pass is ready is left out
+pub first_over-skip : (chip : List NodeRecord) (reader : NodeId) (sides : ℕ) (order : List Side) (i : ℕ) → i < length order → pass_over chip reader sides (get_or order i Right) ≡ None
+    → first_over chip reader sides (drop i order) ≡ first_over chip reader sides (drop (i + 1) order)
+first_over-skip chip reader sides order i l none =
+    ap (λ z. first_over chip reader sides z) (drop-cons order i Right l)
+    ∙ ap (λ z. or_else z (first_over chip reader sides (drop (suc i) order))) none
+    ∙ ap (λ z. first_over chip reader sides (drop z order)) (sym (add-one i))

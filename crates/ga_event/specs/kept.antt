@@ -1,13 +1,24 @@
--- A part followed back over the moves of one event.
+-- What private contracts alone name: a node's own event before it is made, and a part followed back over the moves of one event.
 use Rattle.ga_event.specs.declared.flow.sought.Sought.TheVariants as sought
 use Rattle.ga_ports.specs.declared.address.Target.TheVariants as target
-use Rattle.std.specs.Prelude.{◌+◌, ◌-◌, ◌==◌, if◌then◌else◌, List, [], ◌∷◌}
+use Rattle.std.specs.Prelude.{◌≡◌, ◌+◌, ◌-◌, ◌==◌, Bool, None, if◌then◌else◌, List, [], ◌∷◌}
 use Rattle.ga_event.specs.declared.flow.part.Part.{Part}
 use Rattle.ga_event.specs.declared.flow.part.Part.TheVariants.{Data, Return, Ram, Rom, A, B, P, I, Io, Carry, Slot, Wait, Stop, Outside}
 use Rattle.ga_event.specs.declared.flow.sought.Sought.{Sought}
 use Rattle.ga_ports.specs.Address.{is_single}
+use Rattle.ga_node.specs.Record.{NodeRecord}
+use Rattle.ga_node.specs.Table.{refusal, due_of, looks_by}
+use Rattle.ga_node.specs.Ready.{CanDo}
+use Rattle.ga_node.specs.declared.due.Due.{Due}
 use Rattle.ga_ports.specs.declared.address.Target.{Target}
 use Rattle.ga_event.specs.Flow.{Flow, Same, From, Move, PushData, PopData, SetTop, PopTo, PushReturn, PopReturn, SetTopReturn, SetP, SetA, SetB, SetI, SetIo, SetCarry, SetRam, GoOn, Skip, StartAgain, SetWait, SetStop, top, top_return, is_same, IsPart, flow_of, AreSources}
+
+-- the node makes this next, looking at its neighbours or not
+pub record IsNextOwn (due : Due) (looks : Bool) (n : NodeRecord) : Type 0 where
+  pub ready : refusal n ≡ None
+  pub due_is : due ≡ due_of n
+  pub can : CanDo due n
+  pub looks_is : looks_by due n ≡ looks
 
 -- a part before some changes, or where the value was found to come from
 pub data Trace : Type 0 where
@@ -84,6 +95,10 @@ write_before (target.Rom k) part later = later
 write_before target.Io part later = set_at Io (Same top) later
 write_before (target.Ports sides) part later = if is_single sides then before SetWait (At part) else before SetStop (At part)
 write_before target.Bad part later = before SetStop (At part)
+
+-- before R was popped or counted down, where these stand before what came after each
+abbrev pub count_before : Bool → Trace → Trace → Trace
+count_before ends last again = if ends then pop_return last else set_at top_return (From (top_return ∷ [])) again
 
 -- before an event
 abbrev pub settled : Trace → Flow

@@ -5,14 +5,13 @@ mod flows;
 mod part;
 mod sought;
 
-pub use choice::Choice;
-pub use flows::{due_in, flow_where, own_flow, send_flow, take_flow};
-pub use part::Part;
-
 ghost use Rattle.std.specs.Prelude.{◌≡◌, ◌∷◌, []};
 ghost use Rattle.ga_event.specs.Flow.{From, flow_of};
 
 use arrayvec::ArrayVec;
+pub use choice::Choice;
+pub use flows::{due_in, flow_where, own_flow, send_flow, take_flow};
+pub use part::Part;
 
 /// Where the value of a part comes from that an event leaves.
 #[derive(Drop)]

@@ -6,7 +6,7 @@ ghost use Rattle.ga_node.specs.Record.{record_of};
 ghost use Rattle.ga_node.specs.Table.{due_of};
 ghost use Rattle.ga_event.specs.declared.flow.part.Part.TheVariants.{P};
 ghost use Rattle.ga_event.specs.Flow.{Same, From, SetI, SetP, StartAgain, IsPart, choice, target_of, moves_where, fetch_moves, execute_moves, multiply_moves, send_moves, take_moves, flow_where, own_flow, send_flow, take_flow, flow_of, AreSources, IsSource};
-ghost use Rattle.ga_event.specs.kept.{sought_of, At, before_all, read_before, write_before, IsSought};
+ghost use Rattle.ga_event.specs.kept.{sought_of, At, before_all, read_before, write_before, count_before, IsSought};
 
 use super::sought::Sought;
 use super::{Choice, Flow, Part, from_one, from_three, from_two};
@@ -42,40 +42,20 @@ pub fn due_in(node: &Node) -> Due
     Due::Run(opcode(i_of(node), slot))
 }
 
-// P, A and B, each as an address.
-#[tactic(auto, unfolding(ga_node::specs::Record::record_of))]
-fn p_of(node: &Node) -> u32
-    ensures { result ≡ (record_of node.now).p }
-{
-    node.get(Place::P)
-}
-
-#[tactic(auto, unfolding(ga_node::specs::Record::record_of))]
-fn a_of(node: &Node) -> u32
-    ensures { result ≡ (record_of node.now).a }
-{
-    node.get(Place::A)
-}
-
-#[tactic(auto, unfolding(ga_node::specs::Record::record_of))]
-fn b_of(node: &Node) -> u32
-    ensures { result ≡ (record_of node.now).b }
-{
-    node.get(Place::B)
-}
-
 // What decides the next event beside its opcode.
+#[tactic(auto, unfolding(ga_node::specs::Record::record_of))]
 fn choice_of(node: &Node, due: Due) -> Choice
     ensures value { result ≡ choice due (record_of node.now) }
     ensures in_range { IsTarget (target_of result) }
 {
     match due {
-        Due::Fetch => Choice::At(classify(p_of(node))),
+        Due::Fetch => Choice::At(classify(node.get(Place::P))),
         Due::Run(op) => choice_by(node, op),
     }
 }
 
 // The same of an opcode.
+#[tactic(auto, unfolding(ga_node::specs::Record::record_of))]
 fn choice_by(node: &Node, op: Op) -> Choice
     ensures value { result ≡ choice (Due.Run op) (record_of node.now) }
     ensures in_range { IsTarget (target_of result) }
@@ -84,10 +64,12 @@ fn choice_by(node: &Node, op: Op) -> Choice
         Op::Unext | Op::Next => Choice::Test(node.r(0) == 0),
         Op::If => Choice::Test(node.d(0) == 0),
         Op::MinusIf => Choice::Test(node.d(0) / 131072 == 0),
-        Op::Plus => Choice::Test(p_of(node) / 512 % 2 == 1),
-        Op::FetchP | Op::StoreP => Choice::At(classify(p_of(node))),
-        Op::FetchPlus | Op::Fetch | Op::StorePlus | Op::Store => Choice::At(classify(a_of(node))),
-        Op::FetchB | Op::StoreB => Choice::At(classify(b_of(node))),
+        Op::Plus => Choice::Test(node.get(Place::P) / 512 % 2 == 1),
+        Op::FetchP | Op::StoreP => Choice::At(classify(node.get(Place::P))),
+        Op::FetchPlus | Op::Fetch | Op::StorePlus | Op::Store => Choice::At(classify(node.get(
+            Place::A,
+        ))),
+        Op::FetchB | Op::StoreB => Choice::At(classify(node.get(Place::B))),
         _ => Choice::Plain,
     }
 }
@@ -213,7 +195,7 @@ fn before_take(wait: Wait, part: Part) -> Sought
 }
 
 // Before the opcode.
-#[tactic(auto, using(crate::proofs::Following::read_found, crate::proofs::Following::write_found))]
+#[tactic(auto, using(crate::proofs::Following::read_found, crate::proofs::Following::write_found, crate::proofs::Following::count_found))]
 fn before_op(op: Op, choice: Choice, part: Part) -> Sought
     requires choice { IsTarget (target_of choice) }
     requires part { IsPart part }
@@ -226,8 +208,8 @@ fn before_op(op: Op, choice: Choice, part: Part) -> Sought
         Op::Execute => before_execute(at),
         Op::Jump => at.jump(),
         Op::Call => at.jump().push_return(Flow::Same(Part::P)),
-        Op::Unext => before_unext(choice, at),
-        Op::Next => before_next(choice, at),
+        Op::Unext => before_count(choice.holds(), at.go_on(), Sought::At(part).start_again()),
+        Op::Next => before_count(choice.holds(), at.skip(), Sought::At(part).jump()),
         Op::If => at.jump_where(choice.holds()),
         Op::MinusIf => at.jump_where(choice.holds()),
         Op::FetchP => before_read(choice, part, at.go_on().advance(Part::P)),
@@ -257,29 +239,17 @@ fn before_op(op: Op, choice: Choice, part: Part) -> Sought
     }
 }
 
-// Before `unext`.
-fn before_unext(choice: Choice, at: Sought) -> Sought
-    requires { IsSought (sought_of at) }
-    ensures value { sought_of result ≡ before_all (moves_where (Due.Run Op.Unext) choice) (sought_of at) }
+// Before R was popped, where it had ended, or else counted down, where these stand before what came after each.
+fn before_count(ends: bool, last: Sought, again: Sought) -> Sought
+    requires last { IsSought (sought_of last) }
+    requires again { IsSought (sought_of again) }
+    ensures value { sought_of result ≡ count_before ends (sought_of last) (sought_of again) }
     ensures known { IsSought (sought_of result) }
 {
-    if choice.holds() {
-        at.go_on().pop_return()
+    if ends {
+        last.pop_return()
     } else {
-        at.start_again().count_down()
-    }
-}
-
-// Before `next`.
-fn before_next(choice: Choice, at: Sought) -> Sought
-    requires { IsSought (sought_of at) }
-    ensures value { sought_of result ≡ before_all (moves_where (Due.Run Op.Next) choice) (sought_of at) }
-    ensures known { IsSought (sought_of result) }
-{
-    if choice.holds() {
-        at.skip().pop_return()
-    } else {
-        at.jump().count_down()
+        again.count_down()
     }
 }
 

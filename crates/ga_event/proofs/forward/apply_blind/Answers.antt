@@ -7,4 +7,4 @@ pub returns : goal.returns
 returns c =
     let size : length c.args.chip.now ≡ 144 = c.node_mut.ensures.size in
     due_applied c.args.chip.now c.args.node c.node_mut.result.now c.do_into.new.self c.do_into.result c.do_into.new.saved c.nobody.result c.args.due false (omega arith) c.node_mut.ensures.value
-    c.requires.ready c.requires.due c.requires.looks (λ yes. absurd (both_ways false refl yes)) c.do_into.ensures.event c.do_into.ensures.saves
+    c.requires.next.ready c.requires.next.due_is c.requires.next.looks_is (λ yes. absurd (both_ways false refl yes)) c.do_into.ensures.event c.do_into.ensures.saves

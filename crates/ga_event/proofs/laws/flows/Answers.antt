@@ -1,5 +1,4 @@
-use Rattle.ga_event.proofs.Deciding.{alike}
-use Rattle.ga_event.proofs.Flowing.{own_flows, own_kinds, sent_flows, taken_flows}
+use Rattle.ga_event.proofs.Flowing.{alike, own_flows, own_kinds, sent_flows, taken_flows}
 use Rattle.ga_event.proofs.laws.flows.Goals as goal
 
 pub returns-clause-own : goal.returns-clause-own

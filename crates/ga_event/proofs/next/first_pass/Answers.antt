@@ -1,6 +1,6 @@
 use Rattle.std.proofs.Common.{sym, ◌∙◌}
 use Rattle.ga_grid.specs.Chip.{records_of}
-use Rattle.ga_event.proofs.Passes.{first_over-skip}
+use Rattle.ga_event.proofs.Nexts.{first_over-skip}
 use Rattle.ga_event.proofs.next.first_pass.Goals as goal
 
 pub loop-side-preserved : goal.loop-side-preserved

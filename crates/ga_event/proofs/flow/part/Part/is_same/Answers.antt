@@ -1,5 +1,5 @@
 use Rattle.std.proofs.Common.{◌∙◌, sym}
-use Rattle.ga_event.proofs.Same.{then_same, else_same}
+use Rattle.ga_event.proofs.Following.{then_same, else_same}
 use Rattle.ga_event.proofs.flow.part.Part.is_same.Goals as goal
 
 pub returns-then-kind-clause-same : goal.returns-then-kind-clause-same
