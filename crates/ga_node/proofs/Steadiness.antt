@@ -20,7 +20,7 @@ use Rattle.ga_node.specs.declared.wait.Reader.TheVariants.{Instruction, Stack}
 use Rattle.ga_node.specs.declared.kind.Kind.{Kind}
 use Rattle.ga_node.specs.declared.kind.Kind.TheVariants as kind
 use Rattle.ga_node.specs.declared.kind.NotReady.TheVariants.{Stopped}
-use Rattle.ga_node.proofs.Outcomes.{own_fetched, own_ran}
+use Rattle.ga_node.proofs.Saving.{own_fetched, own_ran}
 
 -- a node that doesn't wait
 steady_without : (n : NodeRecord) → n.wait ≡ wait.Nothing → IsSteady n

@@ -56,6 +56,7 @@ impl Saved {
     }
 
     /// Whether there are seven: the free bits of the sixth word then say so.
+    #[tactic(auto, using(std::proofs::lemmas::Bool::ne_eqb, crate::proofs::Packing::some_spare, crate::proofs::Packing::no_spare, crate::proofs::Packing::count_none, crate::proofs::Packing::count_one, crate::proofs::Packing::few_pairs))]
     #[inline(always)]
     pub(crate) fn is_full(&self) -> bool
         ensures yes { OnTrue result (length self.now ≡ 7) }
@@ -65,6 +66,7 @@ impl Saved {
     }
 
     /// How many of the first six there are.
+    #[tactic(auto, using(crate::proofs::Packing::first_six))]
     #[inline(always)]
     pub(crate) fn six(&self) -> usize
         ensures { result ≡ length (take 6 self.now) }
@@ -82,6 +84,7 @@ impl Saved {
     }
 
     /// Adds a place and its old value, where there are fewer than six.
+    #[tactic(auto, using(crate::proofs::Packing::packed_word, crate::proofs::Packing::few_words, crate::proofs::Packing::kept_push, crate::proofs::Packing::pairs_push))]
     #[inline(always)]
     pub(crate) fn add(&mut self, place: Place, value: u32)
         requires place { IsPlace place }
@@ -93,6 +96,7 @@ impl Saved {
     }
 
     /// Adds a place and its old value.
+    #[tactic(auto, using(crate::proofs::Packing::packed_word, crate::proofs::Packing::count_none, crate::proofs::Packing::full_free, crate::proofs::Packing::kept_spread, crate::proofs::Packing::pairs_spread))]
     #[inline(always)]
     pub fn push(&mut self, place: Place, value: u32)
         requires place { IsPlace place }
@@ -234,6 +238,7 @@ pub(crate) fn unpack(word: u32) -> (Place, u32)
 }
 
 /// The six words with a seventh in their free bits, behind a bit that says so.
+#[tactic(auto, using(std::proofs::Common::append_assoc, std::proofs::lemmas::List::drop_all, crate::proofs::Packing::with_spare_past, crate::proofs::Packing::words_at))]
 #[inline(never)]
 fn spread(words: &ArrayVec<u32, 6>, word: u32) -> ArrayVec<u32, 6>
     requires { AreWords words.now.items }

@@ -18,8 +18,7 @@ use Rattle.ga_rollback.specs.Rolled.{left}
 use Rattle.ga_rollback.specs.Rewound.{WouldGo}
 use Rattle.ga_rollback.specs.kept.{staying, IsMarked, IsUnseen, counted_in, counted_of, counted_staying, one_counted, IsRaising, AreCounted}
 use Rattle.ga_rollback.proofs.Counted.{sum_none, counted_next, counted_fewer, counted_log}
-use Rattle.ga_rollback.proofs.Looks.{staying_lost, length-staying, staying_at, staying_set, staying_none}
-use Rattle.ga_rollback.proofs.Lowering.{node_within}
+use Rattle.ga_rollback.proofs.Lowering.{staying_lost, length-staying, staying_at, staying_set, staying_none, node_within}
 use Rattle.ga_rollback.proofs.Link.{gone, left_cut, left_log}
 use Rattle.ga_rollback.proofs.Causes.{length_older, steps_older}
 use Rattle.ga_rollback.proofs.Rewinding.{IsCut, is_cut, causes_log, number_log, same_length}

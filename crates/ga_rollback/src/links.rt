@@ -53,6 +53,7 @@ fn place_of(side: Side) -> usize
 }
 
 /// The number of the node at the other end of the link on this side, or 144.
+#[tactic(auto, using(crate::proofs::Linked::link_of))]
 #[inline(always)]
 fn number_beside(node: NodeId, side: Side) -> u8
     ensures { is_link node.number side result (neighbour_of node.number side) ≡ true }
@@ -63,6 +64,7 @@ fn number_beside(node: NodeId, side: Side) -> u8
 }
 
 /// The node at the other end of the link on this side, as [`ga_grid::neighbour`] tells, without working it out.
+#[tactic(auto, using(crate::proofs::Linked::some_beside, crate::proofs::Linked::none_beside))]
 #[inline(always)]
 pub(crate) fn node_beside(node: NodeId, side: Side) -> Option<NodeId>
     ensures value { number_where_any result ≡ neighbour_of node.number side }

@@ -79,7 +79,7 @@ impl Node {
     }
 
     /// Writes T at an address, or answers the kind of the event that this has become.
-    #[tactic(auto, unfolding(crate::specs::Table::stored))]
+    #[tactic(auto, using(crate::proofs::Saving::made_nothing), unfolding(crate::specs::Table::stored))]
     #[inline(always)]
     pub(super) fn write(&mut self, saved: &mut Saved, address: u32) -> Result<(), Kind>
         requires running { IsRunning (record_of self.old) }

@@ -12,6 +12,7 @@ use ga_stacks::Overwritten;
 use ga_word::Word18;
 
 /// Adds the values that a change of the data stack overwrote.
+#[tactic(auto, using(crate::proofs::Saving::word_in, crate::proofs::Saving::data_place_in))]
 #[inline(always)]
 fn save_data(saved: &mut Saved, overwritten: &Overwritten)
     requires fit { AreStackChanges 2 overwritten.now.items }
@@ -24,6 +25,7 @@ fn save_data(saved: &mut Saved, overwritten: &Overwritten)
 }
 
 /// Adds the values that a change of the return stack overwrote.
+#[tactic(auto, using(crate::proofs::Saving::word_in, crate::proofs::Saving::return_place_in))]
 #[inline(always)]
 fn save_return(saved: &mut Saved, overwritten: &Overwritten)
     requires fit { AreStackChanges 1 overwritten.now.items }

@@ -13,6 +13,7 @@ impl Node {
     ghost use Rattle.ga_node.specs.Table.{does, jumps, jumps_where};
 
     /// P := the address that the slot names, and the rest of the word is passed over.
+    #[tactic(auto, using(crate::proofs::Saving::saves_as))]
     #[inline(always)]
     fn jump(&mut self, saved: &mut Saved)
         requires slot { (record_of self.old).slot < 3 }

@@ -11,6 +11,7 @@ impl Node {
     ghost use Rattle.ga_node.specs.State.{with_value, restored, with_aside, IsInRange, AreFit, IsApart, IsCleared};
 
     /// Writes one old value back, of a node whose wait and stop are set aside.
+    #[tactic(auto, using(crate::proofs::Restoring::stays_apart))]
     #[inline(always)]
     pub(crate) fn put_back(&mut self, aside: &mut Aside, place: Place, old: u32)
         requires fit { IsInRange place old }

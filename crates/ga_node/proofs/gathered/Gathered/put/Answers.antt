@@ -1,7 +1,7 @@
 use Rattle.std.proofs.Common.{◌∙◌, ◌/◌, ◌+◌, ap, sym, subst, length-set, slice_set, arith}
 use Rattle.ga_node.specs.State.{with_value, restored, AreFit}
 use Rattle.ga_node.specs.kept.Packed.{unpacked, pairs_of, AreAt}
-use Rattle.ga_node.proofs.Gathering.{put_last, at_put, fit_put}
+use Rattle.ga_node.proofs.Restoring.{put_last, at_put, fit_put}
 use Rattle.ga_node.proofs.gathered.Gathered.put.Goals as goal
 
 pub invariant_of-self : goal.invariant_of-self

@@ -3,7 +3,7 @@ use Rattle.ga_node.specs.Record.{record_of}
 use Rattle.ga_node.specs.Table.{fetched, effect}
 use Rattle.ga_node.specs.declared.due.Due.TheVariants as due
 use Rattle.ga_node.specs.declared.kind.Kind.TheVariants as kind
-use Rattle.ga_node.proofs.Outcomes.{own_done, is_named, event_is, event_saves}
+use Rattle.ga_node.proofs.Saving.{own_done, is_named, event_is, event_saves}
 use Rattle.ga_node.proofs.node.Node.do_into.Goals as goal
 
 -- the event of a fetch, and of an opcode

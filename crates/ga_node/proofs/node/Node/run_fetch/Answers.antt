@@ -4,8 +4,7 @@ use Rattle.ga_node.specs.Table.{effect}
 use Rattle.ga_node.specs.kept.Saving.{IsEnded}
 use Rattle.ga_slots.specs.declared.op.Op.TheVariants.{Fetch}
 use Rattle.ga_node.specs.State.{restored}
-use Rattle.ga_node.proofs.Saving.{made, saves_then, saves_from}
-use Rattle.ga_node.proofs.Outcomes.{ended_followed, done_followed}
+use Rattle.ga_node.proofs.Saving.{made, saves_then, saves_from, ended_followed, done_followed}
 use Rattle.ga_node.proofs.node.Node.run_fetch.Goals as goal
 
 pub returns-in_err-word-clause-ended : goal.returns-in_err-word-clause-ended

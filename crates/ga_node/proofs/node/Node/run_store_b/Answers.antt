@@ -4,8 +4,7 @@ use Rattle.ga_node.specs.Table.{does}
 use Rattle.ga_node.specs.kept.Saving.{IsEndedBy}
 use Rattle.ga_slots.specs.declared.op.Op.TheVariants.{StoreB}
 use Rattle.ga_node.specs.State.{restored}
-use Rattle.ga_node.proofs.Saving.{saves_as, saves_then}
-use Rattle.ga_node.proofs.Outcomes.{ended_followed, done_stored}
+use Rattle.ga_node.proofs.Saving.{saves_as, saves_then, ended_followed, done_stored}
 use Rattle.ga_node.proofs.node.Node.run_store_b.Goals as goal
 
 pub returns-in_err-write-clause-ended : goal.returns-in_err-write-clause-ended
