@@ -21,7 +21,7 @@ use Rattle.ga_lab.specs.Calls.{AreEquivalentStates}
 use Rattle.ga_lab.proofs.Alike.{Both, both_run, alike_is, equivalent_steps, same_rewind}
 use Rattle.ga_lab.proofs.Called.{with_kept, causes_is, runs_some}
 use Rattle.ga_lab.proofs.Reasoned.{replayed, takes_what_it_explains}
-use Rattle.ga_lab.proofs.Reasons.{no_cause, no_effect}
+use Rattle.ga_lab.proofs.Explaining.{no_cause, no_effect}
 
 -- a step stands in both or in neither
 stands_alike : (s z : State) (n k : ℕ) → AreEquivalentStates s z → stands s n k ≡ stands z n k
