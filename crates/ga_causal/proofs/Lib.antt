@@ -13,7 +13,6 @@ pub mod Consistent
 pub mod Rolled
 pub mod Accounts
 pub mod Taken
-pub mod Moved
 pub mod Words
 pub mod Received
 pub mod Tails

@@ -178,7 +178,7 @@ pub fn taken_last()
 
 /// A chain in one of two equivalent lists is one in the other too: the same steps, each of which depends directly on the one before
 /// it by the same rule. Both lists must run, so that they have chains.
-#[tactic(auto, using(crate::proofs::Moved::equivalent_chains))]
+#[tactic(auto, using(crate::proofs::Rolled::equivalent_chains))]
 pub fn equivalent_chains()
     ensures { (chip last now : List NodeRecord) (events others : List Event) (steps made : List (Cause × Told)) (links : List Link) →
         run chip events ≡ Some (last, steps) → run chip others ≡ Some (now, made) → AreEquivalent chip events others →

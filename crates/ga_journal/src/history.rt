@@ -172,6 +172,7 @@ impl History {
     }
 
     /// The last entry's stamp, and the node that it hints at.
+    #[tactic(auto, using(crate::proofs::Storing::none_bound, crate::proofs::Storing::last_bound))]
     #[inline(always)]
     pub fn last(&self) -> Option<(u64, NodeId)>
         ensures some { IfSome result (λ last. last.0 + 1 ≡ bound_of self.now.items) }
@@ -220,6 +221,7 @@ impl History {
     }
 
     /// The position of the newest look among the first entries.
+    #[tactic(auto, using(crate::proofs::Looking::past_none, crate::proofs::Looking::past_some))]
     pub fn newest_look(&self, mark: u32) -> Option<u32>
         requires { mark ≤ length self.now.items }
         ensures some { IfSome result (λ at. IsNewestLook self.now.items mark at) }

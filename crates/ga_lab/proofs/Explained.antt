@@ -11,7 +11,7 @@ use Rattle.ga_causal.specs.Equivalence.{AreEquivalent}
 use Rattle.ga_causal.specs.Dependence.{place_of}
 use Rattle.ga_causal.proofs.ChainOf.{chain_chain, chain_found}
 use Rattle.ga_causal.proofs.Consistent.{shuffled_by}
-use Rattle.ga_causal.proofs.Moved.{Again, chain_again}
+use Rattle.ga_causal.proofs.Rolled.{Again, chain_again}
 use Rattle.ga_causal.proofs.Refusals.{touching}
 use Rattle.ga_causal.proofs.Runs.{causes}
 use Rattle.ga_lab.specs.declared.fault.LabFault.{LabFault}
@@ -21,7 +21,7 @@ use Rattle.ga_lab.specs.Calls.{AreEquivalentStates}
 use Rattle.ga_lab.proofs.Alike.{Both, both_run, alike_is, equivalent_steps, same_rewind}
 use Rattle.ga_lab.proofs.Called.{with_kept, causes_is, runs_some}
 use Rattle.ga_lab.proofs.Reasoned.{replayed, takes_what_it_explains}
-use Rattle.ga_lab.proofs.Reasons.{no_cause, no_effect}
+use Rattle.ga_lab.proofs.Explaining.{no_cause, no_effect}
 
 -- a step stands in both or in neither
 stands_alike : (s z : State) (n k : ℕ) → AreEquivalentStates s z → stands s n k ≡ stands z n k

@@ -1,24 +1,31 @@
 -- A chain of causes, told.
-use Rattle.std.proofs.Common.{◌≡◌, ℕ, zero, suc, ◌+◌, ◌<◌, List, [], ◌∷◌, length, map, All, Some, None, Ok, Err, refl, sym, ◌∙◌, ap, subst, arith, ◌⊎◌, inl, inr}
-use Rattle.std.specs.Prelude.{Option, slice_index, IsOk}
+use Rattle.std.proofs.Common.{◌≡◌, ℕ, zero, suc, ◌+◌, ◌<◌, List, [], ◌∷◌, length, map, All, Some, None, Ok, Err, refl, sym, ◌∙◌, ap, subst, arith, ◌⊎◌, inl, inr, ◌≤◌, true, false, ◌&&◌, ◌↔◌, ⊎_elim, ◌-◌, ◌++◌, drop, length-drop}
+use Rattle.std.specs.Prelude.{Option, slice_index, IsOk, Result, is_some, is_ok, nat_le, nat_lt}
 use Rattle.std.specs.List.Sorted.{IsStrictlyIncreasing}
-use Rattle.std.proofs.lemmas.List.{length-map}
+use Rattle.std.proofs.lemmas.List.{length-map, length-append}
 use Rattle.std.proofs.lemmas.List.Elements.{All-nil, All-cons}
 use Rattle.ga_event.specs.declared.event.Cause.{Cause}
 use Rattle.ga_node.specs.Record.{NodeState}
 use Rattle.ga_event.specs.Apply.{Told}
-use Rattle.ga_event.specs.Told.{made_in}
+use Rattle.ga_event.specs.Told.{made_in, steps_of}
 use Rattle.ga_causal.specs.declared.chain.Link.{Link}
 use Rattle.ga_causal.specs.Dependence.{place_of}
 use Rattle.ga_causal.specs.Chains.{IsFound, IsLinked, IsChain, chain_of}
-use Rattle.ga_causal.proofs.ChainOf.{chain_chain, chain_found}
-use Rattle.ga_causal.proofs.Places.{place_step}
+use Rattle.ga_causal.proofs.ChainOf.{chain_chain, chain_found, chain_is}
+use Rattle.ga_causal.proofs.Places.{place_step, place_stands, place-zero, touching_in, on_by, place_split, place_more}
 use Rattle.ga_journal.specs.Histories.{Book}
-use Rattle.ga_journal.specs.Events.{kept_of}
-use Rattle.ga_lab.specs.declared.fault.LabFault.TheVariants.{Memory}
+use Rattle.ga_journal.specs.Events.{kept_of, events_of}
+use Rattle.ga_lab.specs.declared.fault.LabFault.TheVariants.{Memory, NoStep}
 use Rattle.ga_lab.specs.kept.Tied.{IsTied, state_of}
-use Rattle.ga_lab.proofs.Replays.{told_tied, causes_tied}
-use Rattle.ga_lab.specs.Machine.{State, told_of_kept, causes_of, why_between}
+use Rattle.ga_lab.proofs.Replays.{told_tied, causes_tied, IsReplayed}
+use Rattle.ga_lab.specs.Machine.{State, told_of_kept, causes_of, why_between, stands, why_answer}
+use Rattle.std.proofs.lemmas.Bool.{cases_lt, leb-true, le-leb, lt-leb, lt-ltb, le-ltb, cases_Bool, both_ways, and_from, and_right, and_parts, and_cases}
+use Rattle.ga_causal.specs.Steps.{touching}
+use Rattle.ga_lab.specs.declared.fault.LabFault.{LabFault}
+use Rattle.std.proofs.Math.Seq.{drop-append_seam}
+use Rattle.ga_journal.specs.Logs.{IsSince}
+use Rattle.ga_causal.proofs.Oldest.{DependsOn-order}
+use Rattle.ga_causal.proofs.Tails.{place_later}
 
 abbrev pub places : List Link → List ℕ
 places links = map (λ (link : Link). link.place) links
@@ -80,3 +87,175 @@ pub told_links : (chip : List NodeState) (book : Book) (s : State) (links : List
 told_links chip book s links tied is =
     ap (λ t. map (made_in t) (places links)) (sym (told_tied chip book tied)) ∙ ap (λ (z : State). map (made_in (told_of_kept z)) (places links)) is
     ∙ told_places (told_of_kept s) links
+
+-- ---- why a step came about
+
+-- a step stands exactly where it has a place
+stands_suc : (n k steps : ℕ) → nat_lt k steps ≡ (nat_le 1 (suc k) && nat_le (suc k) steps)
+stands_suc n k steps = ⊎_elim
+    (λ l. lt-ltb k steps l ∙ sym (and_from (nat_le 1 (suc k)) (nat_le (suc k) steps) (le-leb 1 (suc k) (omega arith)) (le-leb (suc k) steps (omega arith))))
+    (λ l. le-ltb k steps l ∙ sym (and_right (nat_le 1 (suc k)) (nat_le (suc k) steps) (lt-leb (suc k) steps (omega arith))))
+    (cases_lt k steps)
+
+pub stands_place : (s : State) (n k : ℕ) → IsReplayed s → is_some (place_of (causes_of s) n k) ≡ stands s n k
+stands_place s n zero same = ap is_some (place-zero (causes_of s) n)
+stands_place s n (suc k) same =
+    place_stands (causes_of s) n k ∙ stands_suc n k (touching n (causes_of s))
+    ∙ ap (λ z. nat_le 1 (suc k) && nat_le (suc k) z) (touching_in n (causes_of s) ∙ ap (steps_of n) same)
+
+no_place : (o : Option ℕ) → is_some o ≡ false → o ≡ None
+no_place None h = refl
+no_place (Some i) h = absurd (cc)
+
+pub place_none : (s : State) (n k : ℕ) → IsReplayed s → stands s n k ≡ false → place_of (causes_of s) n k ≡ None
+place_none s n k same h = no_place (place_of (causes_of s) n k) (stands_place s n k same ∙ h)
+
+-- what the journal counts
+pub stands_read : (chip : List NodeState) (book : Book) (n k steps : ℕ) → 1 ≤ k → steps ≡ steps_of n (events_of book) → nat_le k steps ≡ stands (state_of chip book) n k
+unfolding state_of
+stands_read chip book n k steps some is =
+    ap (nat_le k) is ∙ ap (λ z. z && nat_le k (steps_of n (events_of book))) (sym (le-leb 1 k some))
+
+-- where one of the steps doesn't stand
+pub no_cause : (s : State) (n k m j : ℕ) → IsReplayed s → stands s n k ≡ false → why_answer s n k m j ≡ Err NoStep
+no_cause s n k m j same h = ap (λ (o : Option ℕ). why_between (causes_of s) o (place_of (causes_of s) m j)) (place_none s n k same h)
+
+to_none : (causes : List Cause) (o : Option ℕ) → why_between causes o None ≡ Err NoStep
+to_none causes None = refl
+to_none causes (Some i) = refl
+
+pub no_effect : (s : State) (n k m j : ℕ) → IsReplayed s → stands s m j ≡ false → why_answer s n k m j ≡ Err NoStep
+no_effect s n k m j same h =
+    ap (why_between (causes_of s) (place_of (causes_of s) n k)) (place_none s m j same h) ∙ to_none (causes_of s) (place_of (causes_of s) n k)
+
+-- where both stand
+ok_between : (causes : List Cause) (a b : Option ℕ) → is_some a ≡ true → is_some b ≡ true → IsOk (why_between causes a b)
+ok_between causes None b h k = absurd (cc)
+ok_between causes (Some i) None h k = absurd (cc)
+ok_between causes (Some i) (Some q) h k = refl
+
+pub reasoned : (s : State) (n k m j : ℕ) → IsReplayed s → stands s n k ≡ true → stands s m j ≡ true → IsOk (why_answer s n k m j)
+reasoned s n k m j same h g =
+    ok_between (causes_of s) (place_of (causes_of s) n k) (place_of (causes_of s) m j) (stands_place s n k same ∙ h) (stands_place s m j same ∙ g)
+
+-- it is refused exactly where one doesn't
+pub unreasoned : (s : State) (n k m j : ℕ) → IsReplayed s → (stands s n k && stands s m j) ≡ false → why_answer s n k m j ≡ Err NoStep
+unreasoned s n k m j same f = ⊎_elim (no_cause s n k m j same) (no_effect s n k m j same) (and_cases (stands s n k) (stands s m j) f)
+
+abbrev pub Answers : State → ℕ → ℕ → ℕ → ℕ → Result (Option (List Link)) LabFault → Type 0
+Answers s n k m j result = (result ≡ why_answer s n k m j) ⊎ ((result ≡ Err Memory) × IsOk (why_answer s n k m j))
+
+fails : (s : State) (n k m j : ℕ) (result : Result (Option (List Link)) LabFault) → Answers s n k m j result → result ≡ Err NoStep → IsOk (why_answer s n k m j) → ⊥
+fails s n k m j result (inl w) e o = let q : is_ok (why_answer s n k m j) ≡ false = ap is_ok (sym w ∙ e) in both_ways (is_ok (why_answer s n k m j)) q o
+fails s n k m j result (inr w) e o = let q : Err Memory ≡ Err NoStep = sym (w.0) ∙ e in absurd (cc)
+
+refuses : (s : State) (n k m j : ℕ) (result : Result (Option (List Link)) LabFault) → IsReplayed s → Answers s n k m j result → (stands s n k && stands s m j) ≡ false → result ≡ Err NoStep
+refuses s n k m j result same (inl w) f = w ∙ unreasoned s n k m j same f
+refuses s n k m j result same (inr w) f =
+    absurd (both_ways (is_ok (why_answer s n k m j)) (let q : is_ok (why_answer s n k m j) ≡ false = ap is_ok (unreasoned s n k m j same f) in q) w.1)
+
+pub why_refused : (s : State) (n k m j : ℕ) (result : Result (Option (List Link)) LabFault) → IsReplayed s → Answers s n k m j result → (result ≡ Err NoStep) ↔ ((stands s n k && stands s m j) ≡ false)
+why_refused s n k m j result same h = (
+  λ e. ⊎_elim
+      (λ t. let p = and_parts (stands s n k) (stands s m j) t in absurd (fails s n k m j result h e (reasoned s n k m j same p.0 p.1)))
+      (λ f. f)
+      (cases_Bool (stands s n k && stands s m j)),
+  λ f. refuses s n k m j result same h f,
+)
+
+-- a step that stands is counted from 1 on, and its node has made so many
+pub stands_counted : (s : State) (n k : ℕ) → stands s n k ≡ true → 0 < k
+stands_counted s n k h = leb-true 1 k (and_parts (nat_le 1 k) (nat_le k (steps_of n s.kept)) h).0
+
+pub stands_kept : (chip : List NodeState) (book : Book) (n k : ℕ) → stands (state_of chip book) n k ≡ true → k ≤ steps_of n (events_of book)
+unfolding state_of
+stands_kept chip book n k h = leb-true k (steps_of n (events_of book)) (and_parts (nat_le 1 k) (nat_le k (steps_of n (events_of book))) h).1
+
+-- ---- the chain from a step, read off the events from there on
+
+-- the last events of the list, and how many there are of all
+pub tail_is : (all : List Cause) (n k m : ℕ) (causes : List Cause) (before steps : ℕ) → IsSince all n k m causes before steps → drop before all ≡ causes
+tail_is all n k m causes before steps s =
+    ap (λ z. drop before z) (sym s.parts) ∙ ap (λ (z : ℕ). drop z (s.earlier ++ causes)) (sym s.count) ∙ drop-append_seam s.earlier causes
+
+some_more : (all : List Cause) (n k m : ℕ) (causes : List Cause) (before steps : ℕ) → IsSince all n k m causes before steps → before < length all
+some_more all n k m causes before steps s =
+    let a : length (s.earlier ++ causes) ≡ length all = ap length s.parts in
+    let b : length (s.earlier ++ causes) ≡ length s.earlier + length causes = length-append s.earlier causes in
+    let d : length causes ≡ suc (length s.later) = ap length s.begins in
+    let e : length s.earlier ≡ before = s.count in
+    omega (arith, a, b, d, e)
+
+-- the place of the first
+cause_place : (all : List Cause) (n k m : ℕ) (causes : List Cause) (before steps : ℕ) → IsSince all n k m causes before steps → place_of all n k ≡ Some before
+cause_place all n k m causes before steps s =
+    let t = touching_in n s.earlier in
+    let q = s.number in
+    subst (λ z. place_of z n k ≡ Some before) (ap (λ z. s.earlier ++ z) (sym s.begins) ∙ s.parts)
+    (subst (λ (z : ℕ). place_of (s.earlier ++ s.first ∷ s.later) n z ≡ Some before) (numbered (touching n s.earlier) k (ap (λ (z : ℕ). z + 1) t ∙ q))
+    (place_split n (touching n s.earlier) s.earlier s.first s.later refl s.is_step ∙ ap Some s.count))
+  where
+    numbered : (a b : ℕ) → a + 1 ≡ b → suc a ≡ b
+    numbered a b h = omega arith
+
+-- a step that stands among the last events
+effect_later : (all : List Cause) (n k m j : ℕ) (causes : List Cause) (before steps : ℕ) → IsSince all n k m causes before steps → steps < j → place_of all m j ≡ on_by before (place_of causes m (j - steps))
+effect_later all n k m j causes before steps s l =
+    let t : touching m s.earlier ≡ steps = touching_in m s.earlier ∙ s.others in
+    ap (λ z. place_of z m j) (sym s.parts) ∙ place_later m j s.earlier causes (subst (λ (z : ℕ). z < j) (sym t) l)
+    ∙ ap (λ (z : ℕ). on_by (length s.earlier) (place_of causes m (j - z))) t ∙ ap (λ (z : ℕ). on_by z (place_of causes m (j - steps))) s.count
+
+-- one that stands before them
+record IsEarlier (all : List Cause) (m j before : ℕ) : Type 0 where
+  place : ℕ
+  is : place_of all m j ≡ Some place
+  early : place < before
+
+found_at : (all earlier : List Cause) (m j : ℕ) (o : Option ℕ) → is_some o ≡ true → place_of earlier m j ≡ o → place_of all m j ≡ o → IsEarlier all m j (length earlier)
+found_at all earlier m j None h p q = absurd (cc)
+found_at all earlier m j (Some i) h p q = record { place = i; is = q; early = (place_step earlier m j i p).within }
+
+effect_earlier : (all : List Cause) (n k m j : ℕ) (causes : List Cause) (before steps : ℕ) → IsSince all n k m causes before steps → 0 < j → j ≤ steps → IsEarlier all m j before
+effect_earlier all n k m zero causes before steps s some l = absurd (omega (arith, some))
+effect_earlier all n k m (suc j) causes before steps s some l =
+    let t : touching m s.earlier ≡ steps = touching_in m s.earlier ∙ s.others in
+    let below : j < touching m s.earlier = subst (λ (z : ℕ). j < z) (sym t) (omega (arith, l)) in
+    subst (IsEarlier all m (suc j)) s.count
+    (found_at all s.earlier m (suc j) (place_of s.earlier m (suc j)) (place_stands s.earlier m j ∙ lt-ltb j (touching m s.earlier) below) refl
+    (ap (λ z. place_of z m (suc j)) (sym s.parts) ∙ place_more m j s.earlier causes below))
+
+-- it does not depend on the first
+pub before_none : (all : List Cause) (n k m j : ℕ) (causes : List Cause) (before steps : ℕ) → IsSince all n k m causes before steps → 0 < j → j ≤ steps
+    → Ok None ≡ why_between all (place_of all n k) (place_of all m j)
+before_none all n k m j causes before steps s some l =
+    let e : IsEarlier all m j before = effect_earlier all n k m j causes before steps s some l in
+    let early : e.place < before = e.early in
+    let more : before < length all = some_more all n k m causes before steps s in
+    let none : None ≡ chain_of all before e.place = chain_is all before e.place None more (λ d. let o : before ≤ e.place = DependsOn-order all before e.place d in absurd (omega (arith, o, early))) in
+    sym (ap (λ (o : Option ℕ). why_between all o (place_of all m j)) (cause_place all n k m causes before steps s) ∙ ap (λ (o : Option ℕ). why_between all (Some before) o) e.is ∙ ap Ok (sym none))
+
+-- the answer where the second step has a place among the last events, and where it has none
+pub there : (all : List Cause) (n k m j : ℕ) (causes : List Cause) (before steps effect : ℕ) (result : Result (Option (List Link)) LabFault) → IsSince all n k m causes before steps → steps < j → Some effect ≡ place_of causes m (j - steps)
+    → (result ≡ why_between all (Some before) (Some (before + effect))) ⊎ (result ≡ Err Memory)
+    → (result ≡ why_between all (place_of all n k) (place_of all m j)) ⊎ ((result ≡ Err Memory) × IsOk (why_between all (place_of all n k) (place_of all m j)))
+there all n k m j causes before steps effect result s l at h = ⊎_elim
+    (λ w. inl (w ∙ sym is))
+    (λ w. inr (w, subst IsOk (sym is) refl))
+    h
+  where
+    is : why_between all (place_of all n k) (place_of all m j) ≡ why_between all (Some before) (Some (before + effect))
+    is = ap (λ (o : Option ℕ). why_between all o (place_of all m j)) (cause_place all n k m causes before steps s)
+        ∙ ap (λ (o : Option ℕ). why_between all (Some before) o) (effect_later all n k m j causes before steps s l ∙ ap (on_by before) (sym at))
+
+pub nowhere : (all : List Cause) (n k m j : ℕ) (causes : List Cause) (before steps : ℕ) → IsSince all n k m causes before steps → steps < j → None ≡ place_of causes m (j - steps)
+    → Err NoStep ≡ why_between all (place_of all n k) (place_of all m j)
+nowhere all n k m j causes before steps s l at = sym (
+    ap (λ (o : Option ℕ). why_between all o (place_of all m j)) (cause_place all n k m causes before steps s)
+    ∙ ap (λ (o : Option ℕ). why_between all (Some before) o) (effect_later all n k m j causes before steps s l ∙ ap (on_by before) (sym at)))
+
+-- the chain that is found in the last events
+pub found_chain : (all causes : List Cause) (before effect : ℕ) (found : Option (List Link)) → drop before all ≡ causes → effect < length causes → IsFound all (before + 0) (before + effect) found
+    → Ok found ≡ why_between all (Some before) (Some (before + effect))
+found_chain all causes before effect found is l f =
+    let n : length causes ≡ length all - before = ap length (sym is) ∙ length-drop before all in
+    ap Ok (chain_is all before (before + effect) found (omega (arith, n, l)) (subst (λ (z : ℕ). IsFound all z (before + effect) found) (let h : before + 0 ≡ before = omega arith in h) f))

@@ -1,29 +1,31 @@
 -- What a node's history and the words that its looks read make of it.
-use Rattle.std.proofs.Common.{◌≡◌, ℕ, ◌<◌, Bool, true, false, cond, inl, inr, List, [], ◌∷◌, ◌++◌, length, Option, Some, None, refl, sym, ◌∙◌, ap, subst, arith, ext_get_or}
+use Rattle.std.proofs.Common.{◌≡◌, ℕ, ◌<◌, Bool, true, false, cond, inl, inr, List, [], ◌∷◌, ◌++◌, length, Option, Some, None, refl, sym, ◌∙◌, ap, subst, arith, ext_get_or, ◌≤◌, ◌==◌, eqb-true}
 use Rattle.std.specs.Prelude.{option_to_list}
 use Rattle.std.specs.List.{flat_map}
-use Rattle.std.proofs.lemmas.Bool.{cases_lt}
+use Rattle.std.proofs.lemmas.Bool.{cases_lt, or_cases, both_ways, cond-false}
 use Rattle.std.proofs.lemmas.List.{get_or_past}
 use Rattle.std.proofs.lemmas.Option.{same_Some}
 use Rattle.ga_ports.specs.declared.side.Side.TheVariants.{Right}
 use Rattle.ga_node.specs.Io.{io_word}
-use Rattle.ga_node.specs.Record.{NodeRecord, record_of}
+use Rattle.ga_node.specs.Record.{NodeRecord, record_of, fresh_node}
 use Rattle.ga_node.specs.Table.{looks}
 use Rattle.ga_grid.specs.Chip.{nowhere, record_at}
 use Rattle.ga_event.specs.declared.event.Event.{Event}
-use Rattle.ga_event.specs.declared.event.Event.TheVariants as event
 use Rattle.ga_event.specs.declared.event.Cause.{Cause}
 use Rattle.ga_event.specs.Touches.{touches}
-use Rattle.ga_event.specs.Apply.{Told, after, apply, cause_of, run}
+use Rattle.ga_event.specs.Apply.{Told, after, apply, cause_of, run, seen_from, is_look}
 use Rattle.ga_causal.specs.Words.{word_of, account_read, look_word, words_read}
-use Rattle.ga_causal.proofs.Runs.{first_of_run, keeps_of}
+use Rattle.ga_causal.proofs.Runs.{first_of_run, keeps_of, causes}
 use Rattle.ga_causal.proofs.Words.{Becomes, becomes_one, becomes_of, after_is, same_size}
 use Rattle.ga_event.specs.declared.made.Made.{Made}
-use Rattle.ga_event.specs.declared.made.Made.TheVariants as made
 use Rattle.ga_event.specs.Told.{made_after, mades_after, mades_of}
-use Rattle.ga_lab.specs.Machine.{State, first, chip_of, history_of}
+use Rattle.ga_lab.specs.Machine.{State, first, chip_of, history_of, causes_of}
 use Rattle.ga_lab.specs.Calls.{MachineCall, called_all}
-use Rattle.ga_lab.proofs.Called.{Runs, told_is, chip_is, first_runs, calls_load}
+use Rattle.ga_lab.proofs.Called.{Runs, told_is, chip_is, first_runs, calls_load, causes_is}
+use Rattle.ga_causal.specs.Dependence.{NoneLooks}
+use Rattle.ga_causal.proofs.Shuffles.{touched_of}
+use Rattle.ga_event.specs.declared.event.Event.TheVariants as event
+use Rattle.ga_event.specs.declared.made.Made.TheVariants as made
 
 -- the event of which this is told, but for the side of a pass, which shows in neither of its nodes
 abbrev pub event_in : Made → Event
@@ -141,3 +143,125 @@ same_chip load limit bound calls others told words =
     let here : length load ≡ length (chip_of s) = ap length (sym (calls_load (first load limit) calls)) ∙ same_size s.load r.last s.kept r.told r.run_is ∙ ap length (sym (chip_is s r)) in
     let there : length load ≡ length (chip_of z) = ap length (sym (calls_load (first load bound) others)) ∙ same_size z.load q.last z.kept q.told q.run_is ∙ ap length (sym (chip_is z q)) in
     ext_get_or (record_of nowhere) (chip_of s) (chip_of z) (sym here ∙ there) (λ n l. same_node load limit bound calls others n (told n) (words n))
+
+-- ---- where no event of a machine looks, none does in another of which the same is told
+
+-- where the same history goes with no words, no words go with it
+Silent : Option ℕ → Option ℕ → List ℕ → List ℕ → List ℕ → Type 0
+Silent word other vs ws us = (word ≡ other) × (vs ≡ []) × (ws ≡ us)
+
+own_silent : (b : Bool) (i j : ℕ) (word other : Option ℕ) (vs ws us : List ℕ) → word ≡ cond b (Some i) None → other ≡ cond b (Some j) None
+    → [] ≡ option_to_list word ++ vs → ws ≡ option_to_list other ++ us → Silent word other vs ws us
+unfolding Silent
+own_silent true i j word other vs ws us p q t u =
+    let h : ◌≡◌ {A = List ℕ} [] (i ∷ vs) = t ∙ ap (λ o. option_to_list o ++ vs) p in
+    absurd (cc)
+own_silent false i j word other vs ws us p q t u =
+    (p ∙ sym q, sym (t ∙ ap (λ o. option_to_list o ++ vs) p), u ∙ ap (λ o. option_to_list o ++ us) q)
+
+takes_silent : (m : Made) (n : ℕ) (x y z : NodeRecord) (word other : Option ℕ) (vs ws us : List ℕ) → Becomes n x (event_in m) word y → Becomes n x (event_in m) other z
+    → Takes m [] word vs → Takes m ws other us → Silent word other vs ws us
+unfolding Silent
+takes_silent (made.Own node k kind) n x y z word other vs ws us (seen, p, q) (scene, u, v) t w = own_silent (looks x) (io_word seen) (io_word scene) word other vs ws us q v t w
+takes_silent (made.Pass w k r j told) n x y z word other vs ws us p q (t, a) (u, b) = (t ∙ sym u, sym a, b)
+
+traced_silent : (n : ℕ) (x : NodeRecord) (ms : List Made) (ws : List ℕ) (y z : NodeRecord) → Traced n x ms [] y → Traced n x ms ws z → ws ≡ []
+unfolding Silent
+traced_silent n x [] ws y z p q = q.1
+traced_silent n x (m ∷ ms) ws y z (u, word, vs, b, t, l) (v, other, us, c, w, k) =
+    let same = takes_silent m n x u v word other vs ws us b c t w in
+    let at : u ≡ v = becomes_one n x (event_in m) other u v (subst (λ o. Becomes n x (event_in m) o u) same.0 b) c in
+    same.2 ∙ traced_silent n v ms us y z (subst (λ o. Traced n v ms o y) same.1 (subst (λ o. Traced n o ms vs y) at l)) k
+
+-- past the end of a chip nobody looks
+blind_nowhere : looks (record_of nowhere) ≡ false
+unfolding looks record_of fresh_node
+blind_nowhere = refl
+
+blind_past : (c : List NodeRecord) (n : ℕ) → length c ≤ n → looks (record_at c n) ≡ false
+blind_past c n l = ap (λ z. looks z) (get_or_past c n (record_of nowhere) l) ∙ blind_nowhere
+
+no_word : (c : List NodeRecord) (e : Event) → is_look c e ≡ false → look_word e (word_of c e) ≡ []
+no_word c (event.Own node) h = ap option_to_list (cond-false (looks (record_at c node.number)) (Some (io_word (seen_from c node.number))) None h)
+no_word c (event.Pass w r side) h = refl
+
+no_look : (c : List NodeRecord) (e : Event) → look_word e (word_of c e) ≡ [] → is_look c e ≡ false
+no_look c (event.Own node) h = go (looks (record_at c node.number)) h
+  where
+    go : (b : Bool) → option_to_list (cond b (Some (io_word (seen_from c node.number))) None) ≡ [] → b ≡ false
+    go true k = absurd (cc)
+    go false k = refl
+no_look c (event.Pass w r side) h = refl
+
+abbrev read : List (Event × Option ℕ) → List ℕ
+read xs = flat_map (λ x. look_word x.0 x.1) xs
+
+one_less : (b : Bool) (x : Event × Option ℕ) (xs : List (Event × Option ℕ)) → (b ≡ true → look_word x.0 x.1 ≡ []) → read xs ≡ [] → read (cond b (x ∷ xs) xs) ≡ []
+one_less true x xs h k = ap (λ z. z ++ read xs) (h refl) ∙ k
+one_less false x xs h k = k
+
+-- no words where nobody looks
+words_blind : (n : ℕ) (c last : List NodeRecord) (es : List Event) (ts : List (Cause × Told)) → run c es ≡ Some (last, ts) → NoneLooks (causes ts) → words_read n c es ≡ []
+words_blind n c last [] ts h none = refl
+words_blind n c last (e ∷ es) ts h none =
+    let m = first_of_run c e es last ts h in
+    let look : NoneLooks (cause_of c e ∷ causes m.others) = subst (λ (z : List (Cause × Told)). NoneLooks (causes z)) m.all none in
+    one_less (touches e n) (e, word_of c e) (account_read n (after c e).0 es) (λ t. no_word c e look.0)
+    (ap (λ (q : List NodeRecord × Told). words_read n q.0 es) (after_is c m.mid e m.told m.first) ∙ words_blind n m.mid last es m.others m.then look.1)
+
+past_word : (c : List NodeRecord) (e : Event) (n : ℕ) → length c ≤ n → touches e n ≡ true → look_word e (word_of c e) ≡ []
+past_word c (event.Own node) n l t =
+    let at : node.number ≡ n = elim (or_cases (node.number == n) false t) [ inl q ↦ eqb-true node.number n q | inr q ↦ absurd (both_ways false refl q) ] in
+    no_word c (event.Own node) (blind_past c node.number (omega (arith, l, at)))
+past_word c (event.Pass w r side) n l t = refl
+
+words_past : (n : ℕ) (c last : List NodeRecord) (es : List Event) (ts : List (Cause × Told)) → length c ≤ n → run c es ≡ Some (last, ts) → words_read n c es ≡ []
+words_past n c last [] ts l h = refl
+words_past n c last (e ∷ es) ts l h =
+    let m = first_of_run c e es last ts h in
+    let size : length c ≡ length m.mid = (keeps_of c e m.mid m.told m.first).size in
+    one_less (touches e n) (e, word_of c e) (account_read n (after c e).0 es) (λ t. past_word c e n l t)
+    (ap (λ (q : List NodeRecord × Told). words_read n q.0 es) (after_is c m.mid e m.told m.first) ∙ words_past n m.mid last es m.others (omega (arith, l, size)) m.then)
+
+first_none : (b : Bool) (x : Event × Option ℕ) (xs : List (Event × Option ℕ)) → b ≡ true → read (cond b (x ∷ xs) xs) ≡ [] → look_word x.0 x.1 ≡ []
+first_none true x xs t h = go (look_word x.0 x.1) h
+  where
+    go : (ws : List ℕ) → ws ++ read xs ≡ [] → ws ≡ []
+    go [] k = refl
+    go (w ∷ ws) k = absurd (cc)
+first_none false x xs t h = absurd (cc)
+
+rest_none : (b : Bool) (x : Event × Option ℕ) (xs : List (Event × Option ℕ)) → read (cond b (x ∷ xs) xs) ≡ [] → read xs ≡ []
+rest_none true x xs h = go (look_word x.0 x.1) h
+  where
+    go : (ws : List ℕ) → ws ++ read xs ≡ [] → read xs ≡ []
+    go [] k = k
+    go (w ∷ ws) k = absurd (cc)
+rest_none false x xs h = h
+
+-- nobody looks where there are no words
+blind_words : (c last : List NodeRecord) (es : List Event) (ts : List (Cause × Told)) → run c es ≡ Some (last, ts) → ((n : ℕ) → words_read n c es ≡ []) → NoneLooks (causes ts)
+blind_words c last [] ts h none = subst (λ (z : List NodeRecord × List (Cause × Told)). NoneLooks (causes z.1)) (same_Some (c, []) (last, ts) h) tt
+blind_words c last (e ∷ es) ts h none =
+    let m = first_of_run c e es last ts h in
+    let t = touched_of e in
+    subst (λ (z : List (Cause × Told)). NoneLooks (causes z)) (sym m.all) (
+      no_look c e (first_none (touches e t.node) (e, word_of c e) (account_read t.node (after c e).0 es) t.is (none t.node)),
+      blind_words m.mid last es m.others m.then (λ n. sym (ap (λ (q : List NodeRecord × Told). words_read n q.0 es) (after_is c m.mid e m.told m.first)) ∙ rest_none (touches e n) (e, word_of c e) (account_read n (after c e).0 es) (none n)),
+    )
+
+pub none_looks : (s z : State) → Runs s → Runs z → s.load ≡ z.load → NoneLooks (causes_of s) → ((n : ℕ) → history_of s n ≡ history_of z n) → NoneLooks (causes_of z)
+none_looks s z r q load none told = subst NoneLooks (sym (causes_is z q)) (blind_words z.load q.last z.kept q.told q.run_is (λ n. each n))
+  where
+    each : (n : ℕ) → words_read n z.load z.kept ≡ []
+    each n = elim (cases_lt n (length z.load)) [
+      | inl l ↦ (let size : length s.load ≡ length z.load = ap length load in
+          let same : mades_of r.told n ≡ mades_of q.told n = ap (λ x. mades_of x n) (sym (told_is s r)) ∙ told n ∙ ap (λ x. mades_of x n) (told_is z q) in
+          traced_silent n (record_at z.load n) (mades_of q.told n) (words_read n z.load z.kept) (record_at r.last n) (record_at q.last n)
+          (subst (λ c. Traced n (record_at c n) (mades_of q.told n) [] (record_at r.last n)) load
+          (subst (λ x. Traced n (record_at s.load n) x [] (record_at r.last n)) same
+          (subst (λ x. Traced n (record_at s.load n) (mades_of r.told n) x (record_at r.last n)) (words_blind n s.load r.last s.kept r.told r.run_is (subst NoneLooks (causes_is s r) none))
+          (traced n s.load r.last s.kept r.told [] (omega (arith, l, size)) r.run_is))))
+          (traced n z.load q.last z.kept q.told [] l q.run_is))
+      | inr l ↦ words_past n z.load q.last z.kept q.told l q.run_is
+    ]

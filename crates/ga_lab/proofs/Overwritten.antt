@@ -9,7 +9,7 @@ use Rattle.ga_journal.specs.Walked.{walked, CanWalk, held_before, among, before_
 use Rattle.ga_journal.proofs.Logs.{steps_log}
 use Rattle.ga_lab.specs.kept.Tied.{IsTied, state_of}
 use Rattle.ga_lab.proofs.Stepping.{whole_of}
-use Rattle.ga_lab.proofs.Peeking.{kept_steps, peeked, steps_front, can_peek}
+use Rattle.ga_lab.proofs.Replays.{kept_steps, peeked, steps_front, can_peek}
 use Rattle.ga_rollback.proofs.Link.{walked-append}
 use Rattle.std.specs.Prelude.{IfSome, IfNone, slice_index, slice_set}
 use Rattle.std.proofs.lemmas.Bool.{eqb-true, eqb-false}

@@ -16,7 +16,7 @@ use Rattle.ga_causal.proofs.Refusals.{touching, refused_exactly}
 use Rattle.ga_lab.specs.declared.fault.LabFault.{LabFault}
 use Rattle.ga_lab.specs.Machine.{State, told_by, causes_of, stands, rewound, why_between, why_answer}
 use Rattle.ga_lab.proofs.Replays.{IsReplayed}
-use Rattle.ga_lab.proofs.Reasons.{stands_place}
+use Rattle.ga_lab.proofs.Explaining.{stands_place}
 use Rattle.ga_lab.proofs.Called.{events_run, Runs, runs_of}
 
 abbrev pub causes : List (Cause × Told) → List Cause

@@ -32,7 +32,7 @@ use Rattle.ga_lab.specs.Calls.{MachineCall, called_all}
 use Rattle.ga_lab.proofs.Told.{made_of, history_accounted}
 use Rattle.ga_lab.proofs.Called.{Runs, told_is, causes_is, first_runs, calls_load}
 use Rattle.ga_lab.proofs.Alike.{consistent}
-use Rattle.ga_lab.proofs.Silent.{none_looks}
+use Rattle.ga_lab.proofs.Heard.{none_looks}
 
 -- the side on which a neighbour stands
 side_of : ℕ → ℕ → Side

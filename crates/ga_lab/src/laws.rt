@@ -25,7 +25,7 @@ use ga_event::laws;
 
 /// Where each node of the load has a wait that fits its slot and its stop, so has each node of the machine's chip, whatever is
 /// kept.
-#[tactic(auto, using(crate::proofs::Steady::chip_steady))]
+#[tactic(auto, using(crate::proofs::Replays::chip_steady))]
 pub fn machine_stays_steady()
     ensures { (s : State) → AreSteady s.load → AreSteady (chip_of s) }
 {

@@ -30,7 +30,7 @@ pub(crate) fn chain_since(since: &Since, to: (NodeId, u32)) -> Result<Option<Cha
 }
 
 /// The chain from the first of these events to another of them.
-#[tactic(auto, using(crate::proofs::SinceLemmas::found_chain))]
+#[tactic(auto, using(crate::proofs::Explaining::found_chain))]
 fn chain(since: &Since, effect: u32) -> Result<Option<Chain>, LabFault>
     requires effect { effect < length since.now.causes.items }
     requires short { since.now.before + length since.now.causes.items < 2 ^ 32 }

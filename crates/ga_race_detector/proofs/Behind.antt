@@ -25,7 +25,7 @@ use Rattle.ga_causal.proofs.Runs.{kept, causes, FirstOf, first_of_run, keeps_of}
 use Rattle.ga_causal.proofs.Swaps.{replay-cons}
 use Rattle.ga_lab.specs.Machine.{State, chip_of, causes_of, history_of, told_by, earlier, rewound, stands}
 use Rattle.ga_lab.proofs.Called.{Runs, told_is, runs_some}
-use Rattle.ga_lab.proofs.Reasons.{stands_place}
+use Rattle.ga_lab.proofs.Explaining.{stands_place}
 use Rattle.ga_lab.proofs.Reasoned.{replayed}
 use Rattle.ga_races.specs.Orders.{CanBe}
 use Rattle.ga_race_detector.proofs.Standing.{Ran, marked_ran, steps-cons, no_step}

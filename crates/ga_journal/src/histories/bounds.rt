@@ -57,6 +57,7 @@ impl<'a> Bounds for Firsts<'a> {
 }
 
 /// The node whose last entry has the greatest stamp of all.
+#[tactic(auto, using(std::proofs::lemmas::Bool::cases_lt, crate::proofs::Cutting::bound_past))]
 #[inline(never)]
 fn scan<B: Bounds>(histories: &B, top: u64) -> NodeId
     requires rise { AllRise (B.seen histories.now) top }
@@ -77,6 +78,7 @@ fn scan<B: Bounds>(histories: &B, top: u64) -> NodeId
 
 /// A node that had a part in the newest event, where there is one. Where the hint's last stamp is just below the top, no other
 /// node is looked at.
+#[tactic(auto, using(crate::proofs::Heads::bound_le))]
 #[inline(always)]
 pub(crate) fn newest<B: Bounds>(histories: &B, top: u64, hint: NodeId) -> NodeId
     requires rise { AllRise (B.seen histories.now) top }

@@ -38,6 +38,7 @@ impl History {
     ghost use Rattle.ga_journal.specs.Walked.{overwritten};
 
     /// What a place held before the event of the entry at a position; none where the event left it, or past the entries.
+    #[tactic(auto, using(std::proofs::lemmas::Option::slice_get_past, crate::proofs::Storing::pasts_at))]
     pub fn overwritten(&self, at: usize, what: Place) -> Option<u32>
         ensures { result ≡ overwritten self.now.items at what }
     {

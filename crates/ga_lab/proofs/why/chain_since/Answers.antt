@@ -1,6 +1,6 @@
 use Rattle.std.proofs.Common.{◌-◌, ◌∙◌, ap, inl}
 use Rattle.ga_causal.specs.Dependence.{place_of}
-use Rattle.ga_lab.proofs.SinceLemmas.{tail_is, before_none, there, nowhere}
+use Rattle.ga_lab.proofs.Explaining.{tail_is, before_none, there, nowhere}
 use Rattle.ga_lab.proofs.why.chain_since.Goals as goal
 
 pub returns-then-to-since : goal.returns-then-to-since

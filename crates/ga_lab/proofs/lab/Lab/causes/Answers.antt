@@ -3,7 +3,7 @@ use Rattle.std.proofs.lemmas.List.{length-map}
 use Rattle.ga_event.specs.declared.event.Cause.{Cause}
 use Rattle.ga_lab.specs.Machine.{State, causes_of}
 use Rattle.ga_lab.proofs.Replays.{IsReplayed, causes_tied, replayed_tied}
-use Rattle.ga_lab.proofs.Reasons.{stands_place}
+use Rattle.ga_lab.proofs.Explaining.{stands_place}
 use Rattle.ga_lab.proofs.lab.Lab.causes.Goals as goal
 
 pub returns-in-Ok-clause-ok : goal.returns-in-Ok-clause-ok

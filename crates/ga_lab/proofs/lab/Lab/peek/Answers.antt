@@ -11,7 +11,7 @@ use Rattle.ga_journal.specs.Walked.{walked, CanWalk}
 use Rattle.ga_lab.specs.Machine.{State, chip_of, earlier}
 use Rattle.ga_lab.specs.kept.Tied.{state_of}
 use Rattle.ga_lab.proofs.Stepping.{whole_of}
-use Rattle.ga_lab.proofs.Peeking.{can_peek, replays_earlier, peeked, kept_steps, none_past, some_within}
+use Rattle.ga_lab.proofs.Replays.{can_peek, replays_earlier, peeked, kept_steps, none_past, some_within}
 use Rattle.ga_lab.proofs.lab.Lab.peek.Goals as goal
 
 pub walk_back-requires-clause-can : goal.walk_back-requires-clause-can

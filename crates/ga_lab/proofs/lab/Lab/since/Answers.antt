@@ -1,7 +1,7 @@
 use Rattle.std.proofs.Common.{sym, ◌∙◌, ap, subst}
 use Rattle.ga_journal.specs.Logs.{IsSince}
 use Rattle.ga_lab.specs.Machine.{State, stands, causes_of}
-use Rattle.ga_lab.proofs.Reasons.{stands_counted, stands_kept}
+use Rattle.ga_lab.proofs.Explaining.{stands_counted, stands_kept}
 use Rattle.ga_lab.proofs.Replays.{causes_tied}
 use Rattle.ga_lab.proofs.lab.Lab.since.Goals as goal
 

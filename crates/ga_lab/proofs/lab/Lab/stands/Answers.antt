@@ -2,7 +2,7 @@ use Rattle.std.proofs.Common.{◌∙◌, ap, subst}
 use Rattle.ga_lab.specs.Machine.{State, stands}
 use Rattle.ga_lab.proofs.Stepping.{whole_of}
 use Rattle.ga_lab.proofs.Replays.{IsReplayed, replayed_tied}
-use Rattle.ga_lab.proofs.Reasons.{stands_read}
+use Rattle.ga_lab.proofs.Explaining.{stands_read}
 use Rattle.ga_lab.proofs.lab.Lab.stands.Goals as goal
 
 pub returns-then-step-ge1-clause-value : goal.returns-then-step-ge1-clause-value

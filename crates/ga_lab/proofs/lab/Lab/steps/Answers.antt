@@ -5,8 +5,7 @@ use Rattle.ga_journal.proofs.Telling.{mades_log, entries_long}
 use Rattle.ga_lab.specs.Machine.{State, history_of}
 use Rattle.ga_lab.specs.kept.Tied.{state_of}
 use Rattle.ga_lab.proofs.Stepping.{whole_of}
-use Rattle.ga_lab.proofs.Peeking.{kept_steps}
-use Rattle.ga_lab.proofs.Replays.{told_tied}
+use Rattle.ga_lab.proofs.Replays.{kept_steps, told_tied}
 use Rattle.ga_lab.proofs.lab.Lab.steps.Goals as goal
 
 pub returns-clause-steps : goal.returns-clause-steps

@@ -7,7 +7,7 @@ use Rattle.ga_journal.specs.Histories.{history}
 use Rattle.ga_journal.specs.Walked.{walked, CanWalk}
 use Rattle.ga_lab.specs.Machine.{State, standing}
 use Rattle.ga_lab.proofs.Stepping.{whole_of}
-use Rattle.ga_lab.proofs.Peeking.{can_peek, kept_steps}
+use Rattle.ga_lab.proofs.Replays.{can_peek, kept_steps}
 use Rattle.ga_lab.proofs.lab.Lab.walk.Goals as goal
 
 pub walk_back-requires-clause-order : goal.walk_back-requires-clause-order

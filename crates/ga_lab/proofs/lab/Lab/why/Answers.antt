@@ -3,7 +3,7 @@ use Rattle.std.specs.Prelude.{Result, Option, List}
 use Rattle.ga_causal.specs.declared.chain.Link.{Link}
 use Rattle.ga_lab.specs.declared.fault.LabFault.{LabFault}
 use Rattle.ga_lab.specs.Machine.{causes_of}
-use Rattle.ga_lab.proofs.Reasons.{no_cause, no_effect, reasoned, why_refused, stands_counted}
+use Rattle.ga_lab.proofs.Explaining.{no_cause, no_effect, reasoned, why_refused, stands_counted}
 use Rattle.ga_lab.proofs.lab.Lab.why.Goals.{then-not-stands-via-then-not-stands, then-not-stands-via-else-not-stands+then-not-stands-2}
 use Rattle.ga_lab.proofs.lab.Lab.why.Goals as goal
 

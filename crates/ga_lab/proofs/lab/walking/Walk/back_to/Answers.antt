@@ -2,7 +2,7 @@ use Rattle.std.proofs.Common.{ap, arith}
 use Rattle.ga_grid.specs.Chip.{node_at}
 use Rattle.ga_journal.specs.Histories.{history}
 use Rattle.ga_lab.specs.Machine.{Standing}
-use Rattle.ga_lab.proofs.Peeking.{can_peek}
+use Rattle.ga_lab.proofs.Replays.{can_peek}
 use Rattle.ga_lab.proofs.Overwritten.{can_between, walked_between}
 use Rattle.ga_lab.proofs.lab.walking.Walk.back_to.Goals as goal
 

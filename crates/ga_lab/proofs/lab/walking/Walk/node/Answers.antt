@@ -3,7 +3,7 @@ use Rattle.ga_node.specs.Record.{record_of}
 use Rattle.ga_grid.specs.Chip.{record_at}
 use Rattle.ga_event.specs.Told.{steps_of}
 use Rattle.ga_lab.specs.Machine.{Standing, chip_of, earlier}
-use Rattle.ga_lab.proofs.Peeking.{peeked}
+use Rattle.ga_lab.proofs.Replays.{peeked}
 use Rattle.ga_lab.proofs.lab.walking.Walk.node.Goals as goal
 
 pub returns : goal.returns
