@@ -10,10 +10,9 @@ use Rattle.ga_causal.specs.declared.chain.Link.{Link}
 use Rattle.ga_causal.specs.Chains.{IsFound, chain_of}
 use Rattle.ga_causal.specs.Steps.{touching}
 use Rattle.ga_causal.specs.Dependence.{place_of}
-use Rattle.ga_causal.proofs.ChainOf.{chain_is}
+use Rattle.ga_causal.proofs.ChainOf.{chain_is, place_later}
 use Rattle.ga_causal.proofs.Oldest.{DependsOn-order}
 use Rattle.ga_causal.proofs.Places.{on_by, touching_in, place_split, place_more, place_stands, place_step}
-use Rattle.ga_causal.proofs.Tails.{place_later}
 use Rattle.ga_lab.specs.declared.fault.LabFault.{LabFault}
 use Rattle.ga_lab.specs.declared.fault.LabFault.TheVariants.{Memory, NoStep}
 use Rattle.ga_lab.specs.Machine.{why_between}

@@ -30,8 +30,7 @@ use Rattle.ga_races.proofs.Rivals.{alike-sym, near_alike, open_of, number_of, at
 use Rattle.ga_lab.specs.Machine.{State, chip_of, causes_of, rest_answer, rewind_answer, earlier, rewound, stands}
 use Rattle.ga_lab.specs.declared.fault.LabFault.{LabFault}
 use Rattle.ga_lab.proofs.Called.{Runs, runs_of, causes_is, events_run}
-use Rattle.ga_lab.proofs.Reasons.{stands_place}
-use Rattle.ga_lab.proofs.Reasoned.{replayed}
+use Rattle.ga_lab.proofs.Reasoned.{stands_place, replayed}
 use Rattle.ga_race_detector.specs.Races.{looks_next, has_look}
 use Rattle.ga_race_detector.specs.Readings.{back_of, IsOtherwise, IsNearReading, IsTold}
 use Rattle.ga_race_detector.specs.kept.Glances.{part_beside, IsAtNear, IsGlance, AreGlanced, IsShownBy, AreRead}

@@ -15,7 +15,7 @@ use Rattle.ga_race_detector.specs.Races.{offered_by, offered, race_from, races_o
 use Rattle.ga_node.specs.State.{wait_of}
 use Rattle.ga_grid.specs.declared.node_id.NodeId.{NodeId}
 use Rattle.ga_lab.proofs.Called.{Runs}
-use Rattle.ga_lab.proofs.Reasons.{stands_counted}
+use Rattle.ga_lab.proofs.Reasoned.{stands_counted}
 use Rattle.ga_race_detector.proofs.Standing.{stands_somewhere, steps-cons}
 use Rattle.ga_race_detector.proofs.Behind.{TakenBack, taken_back, stands_many}
 

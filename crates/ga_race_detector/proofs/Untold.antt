@@ -30,8 +30,7 @@ use Rattle.ga_causal.proofs.Runs.{causes}
 use Rattle.ga_lab.specs.Machine.{State, first, chip_of, causes_of, history_of, told_by, rewound, stands}
 use Rattle.ga_lab.specs.Calls.{MachineCall, called_all}
 use Rattle.ga_lab.proofs.Called.{Runs, chip_is, told_is, runs_some, first_runs, calls_load}
-use Rattle.ga_lab.proofs.Reasons.{stands_place}
-use Rattle.ga_lab.proofs.Reasoned.{replayed}
+use Rattle.ga_lab.proofs.Reasoned.{stands_place, replayed}
 use Rattle.ga_races.specs.Orders.{CanBe, AreOrders, IsAtEnd, HasNoRace, can_go}
 use Rattle.ga_races.proofs.Orders.{beginning_within}
 use Rattle.ga_races.proofs.Rivals.{Open, open_of, one_side, one_way}
