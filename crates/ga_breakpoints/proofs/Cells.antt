@@ -14,8 +14,7 @@ use Rattle.ga_event.specs.declared.event.Cause.{Cause}
 use Rattle.ga_event.specs.Touches.{touches}
 use Rattle.ga_event.specs.Apply.{Told, run, replay, apply, after, unless, refusal_of}
 use Rattle.ga_event.specs.Told.{steps_of, made_after, mades_after, mades_of}
-use Rattle.ga_causal.proofs.Runs.{FirstOf, first_of_run, keeps_of}
-use Rattle.ga_causal.proofs.Swaps.{replay-cons}
+use Rattle.ga_causal.proofs.Runs.{FirstOf, first_of_run, keeps_of, replay-cons}
 use Rattle.ga_lab.specs.Machine.{State, chip_of, history_of, step_answer, stepped, told_next}
 use Rattle.ga_origin.proofs.Made.{none_past}
 use Rattle.ga_lab.proofs.Called.{Runs, runs_of, chip_is, told_is}

@@ -13,8 +13,7 @@ use Rattle.ga_node.specs.Record.{NodeRecord}
 use Rattle.ga_event.proofs.Locality.{Agree-sym, cause_alike}
 use Rattle.ga_causal.specs.Equivalence.{AreApart, AreEquivalent, same, swapped, later, joined, recorded, account, account_told}
 use Rattle.ga_causal.specs.Steps.{counted, numbered_seen}
-use Rattle.ga_causal.proofs.Runs.{causes, run_more, first_of_run, keeps_of, same_of}
-use Rattle.ga_causal.proofs.Swaps.{same_chip}
+use Rattle.ga_causal.proofs.Runs.{causes, run_more, first_of_run, keeps_of, same_of, same_chip}
 use Rattle.ga_causal.proofs.Shuffles.{Shuffled, stays, flipped, after, chained, AreApart-sym, apart_free, numbers, entries, entries_flipped, sees_touched, In, shuffled_of, touched_of}
 
 -- the same two events in the other order

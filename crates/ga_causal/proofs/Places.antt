@@ -12,7 +12,7 @@ use Rattle.ga_event.specs.Touches.{touches as event_touches, meets}
 use Rattle.ga_causal.specs.Dependence.{cause_touches, event_at, place_of, cause_nodes, DependsOn, itself, through}
 use Rattle.ga_event.specs.Told.{events_in}
 use Rattle.ga_causal.specs.Steps.{touching, IsStep}
-use Rattle.ga_causal.proofs.Refusals.{place-first, place-touched, place-other, some-shift, shifted_of}
+use Rattle.ga_causal.proofs.Accounts.{place-first, place-touched, place-other, some-shift, shifted_of}
 use Rattle.ga_event.proofs.Locality.{meets-touched}
 use Rattle.ga_causal.proofs.Exact.{meets_rule, any-mono}
 

@@ -7,12 +7,11 @@ use Rattle.ga_event.proofs.Locality.{touched_free, meets-touched}
 use Rattle.ga_causal.specs.Dependence.{cause_nodes, cause_touches, dependents_after, dependents, without, rest}
 use Rattle.ga_event.specs.Touches.{seen_by, meets, touches as event_touches}
 use Rattle.ga_causal.specs.Steps.{counted, numbered_by, numbered, numbered_seen}
-use Rattle.ga_causal.proofs.Runs.{kept}
+use Rattle.ga_causal.proofs.Runs.{kept, apart_meets}
 use mathlib.Core.Path.{fun_ext}
 use Rattle.ga_event.specs.declared.event.Event.{Event}
 use Rattle.ga_event.specs.declared.event.Event.TheVariants.{Own, Pass}
 use Rattle.ga_causal.specs.Equivalence.{sees, AreApart}
-use Rattle.ga_causal.proofs.Swaps.{apart_meets}
 use Rattle.ga_causal.proofs.Largest.{counted-least}
 use Rattle.ga_causal.proofs.Rollbacks.{counted-other}
 

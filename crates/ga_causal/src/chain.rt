@@ -124,28 +124,6 @@ fn chain_back(
     Ok(Chain { links })
 }
 
-// The chain from one event to a later one.
-fn chain_between(
-    alloc: Global,
-    events: &[Cause],
-    skipped: u32,
-    from: u32,
-    to: u32,
-) -> Result<Option<Chain>, Memory>
-    requires order { from < to }
-    requires within { to < length events.now }
-    requires fits { skipped + to < 2 ^ 32 }
-    ensures { IfOk result (λ answer. (all : List Cause) → drop skipped all ≡ events.now →
-        IsFound all (skipped + from) (skipped + to) answer) }
-{
-    let firsts = Firsts::of(events, from, to);
-    if firsts.oldest(&events[to as usize]) == to {
-        return Ok(None);
-    }
-    let chain = chain_back(alloc, events, skipped, &firsts, from, to)?;
-    Ok(Some(chain))
-}
-
 // The chain from an event to itself.
 fn chain_alone(alloc: Global, place: u32) -> Result<Chain, Memory>
     ensures { IfOk result (λ chain. chain ≡ record { place = place; rule = 0 } ∷ []) }
@@ -193,7 +171,12 @@ pub fn find_later_chain(
         let chain = chain_alone(alloc, skipped + from)?;
         return Ok(Some(chain));
     }
-    chain_between(alloc, events, skipped, from, to)
+    let firsts = Firsts::of(events, from, to);
+    if firsts.oldest(&events[to as usize]) == to {
+        return Ok(None);
+    }
+    let chain = chain_back(alloc, events, skipped, &firsts, from, to)?;
+    Ok(Some(chain))
 }
 
 // Whether the link may follow the event at the place before.

@@ -17,7 +17,7 @@ ghost use Rattle.ga_causal.specs.Words.{account_read};
 
 /// Two events can be swapped that touch no common node, and of which neither looks at a node that the other touches: in either
 /// order they lead to the same chip, and each looks alike and the same is told of it, or neither order can be.
-#[tactic(auto, using(crate::proofs::Swaps::replay_swapped, crate::proofs::Swaps::run_swapped))]
+#[tactic(auto, using(crate::proofs::Runs::replay_swapped, crate::proofs::Runs::run_swapped))]
 pub fn swap()
     ensures chip { (chip : List NodeRecord) (e f : Event) → AreApart (cause_of chip e) (cause_of chip f) →
         replay chip (e ∷ f ∷ []) ≡ replay chip (f ∷ e ∷ []) }
@@ -74,7 +74,7 @@ pub fn steps()
 {}
 
 /// Rollbacks leave the same list in any order. Of two, the second is refused exactly where its step depends on the first.
-#[tactic(auto, using(crate::proofs::Rollbacks::rewound_twice, crate::proofs::Rollbacks::rewound_any_order, crate::proofs::Refusals::refused_exactly))]
+#[tactic(auto, using(crate::proofs::Rollbacks::rewound_twice, crate::proofs::Rollbacks::rewound_any_order, crate::proofs::Accounts::refused_exactly))]
 pub fn two_rollbacks()
     ensures either { (events : List Cause) (n k m j : ℕ) → rewound_list (rewound_list events n k) m j ≡ rewound_list (rewound_list events m j) n k }
     ensures refused { (events : List Cause) (n k m j i q : ℕ) → place_of events n k ≡ Some i → place_of events m j ≡ Some q →
@@ -84,7 +84,7 @@ pub fn two_rollbacks()
 {}
 
 /// Equivalent lists, which differ by swaps of independent neighbours, lead to the same chip.
-#[tactic(auto, using(crate::proofs::Swaps::replay_equivalent))]
+#[tactic(auto, using(crate::proofs::Runs::replay_equivalent))]
 pub fn equivalent()
     ensures { (chip : List NodeRecord) (events others : List Event) → AreEquivalent chip events others →
         replay chip events ≡ replay chip others }
@@ -126,7 +126,7 @@ pub fn causal_consistency()
 /// do. So lists that run from one chip leave the same chip where each node has the same account with the same words. They need not
 /// be equivalent: a look can read the same word before and after a step of a neighbour. Lists that are equivalent have the same.
 /// Both lists must run, since what can't be made leaves no chip.
-#[tactic(auto, using(crate::proofs::Words::same_node, crate::proofs::Words::same_chip, crate::proofs::Received::same_received))]
+#[tactic(auto, using(crate::proofs::Words::same_node, crate::proofs::Words::same_chip, crate::proofs::Words::same_received))]
 pub fn accounts_determine()
     ensures node { (chip other last now : List NodeRecord) (events others : List Event) (n : ℕ) →
         replay chip events ≡ Some last → replay other others ≡ Some now → length chip ≡ length other →
@@ -141,7 +141,7 @@ pub fn accounts_determine()
 {}
 
 /// Rollbacks of equivalent lists, to the same steps, leave equivalent lists. Both must run, so that there are steps to roll back.
-#[tactic(auto, using(crate::proofs::Rolled::rolled_back))]
+#[tactic(auto, using(crate::proofs::Moved::rolled_back))]
 pub fn equivalent_rollbacks()
     ensures { (chip last now : List NodeRecord) (events others : List Event) (steps made : List (Cause × Told)) →
         run chip events ≡ Some (last, steps) → run chip others ≡ Some (now, made) → AreEquivalent chip events others →
@@ -178,7 +178,7 @@ pub fn taken_last()
 
 /// A chain in one of two equivalent lists is one in the other too: the same steps, each of which depends directly on the one before
 /// it by the same rule. Both lists must run, so that they have chains.
-#[tactic(auto, using(crate::proofs::Rolled::equivalent_chains))]
+#[tactic(auto, using(crate::proofs::Moved::equivalent_chains))]
 pub fn equivalent_chains()
     ensures { (chip last now : List NodeRecord) (events others : List Event) (steps made : List (Cause × Told)) (links : List Link) →
         run chip events ≡ Some (last, steps) → run chip others ≡ Some (now, made) → AreEquivalent chip events others →

@@ -1,7 +1,7 @@
 -- Walking back down to a step.
-use Rattle.std.proofs.Common.{◌≡◌, ℕ, zero, suc, ◌+◌, ◌-◌, ◌<◌, ◌≤◌, Bool, true, false, cond, List, [], ◌∷◌, ◌++◌, length, map, drop, take, refl, sym, ◌∙◌, ap, subst, arith, append_assoc, Result, Ok, Err, IfOk, ◌^◌}
+use Rattle.std.proofs.Common.{◌≡◌, ℕ, zero, suc, ◌+◌, ◌-◌, ◌<◌, ◌≤◌, Bool, true, false, cond, List, [], ◌∷◌, ◌++◌, length, map, drop, take, refl, sym, ◌∙◌, ap, subst, arith, append_assoc, Result, Ok, Err, IfOk, ◌^◌, Some, get_or, drop-drop, length-drop, Vec, Global, All}
 use Rattle.std.specs.Prelude.{slice_index, reverse}
-use Rattle.std.proofs.lemmas.List.{reverse-append, length-take-le, length-drop, length-map}
+use Rattle.std.proofs.lemmas.List.{reverse-append, length-take-le, length-map, take_all, take-append-le, length_push, drop_all}
 use Rattle.std.proofs.lemmas.List.Sums.{sum_by-append}
 use Rattle.ga_event.specs.declared.event.Event.{Event}
 use Rattle.ga_event.specs.declared.event.Cause.{Cause}
@@ -9,14 +9,17 @@ use Rattle.ga_event.specs.Touches.{touches}
 use Rattle.ga_event.specs.Apply.{Told}
 use Rattle.ga_journal.specs.declared.fault.JournalFault.{JournalFault}
 use Rattle.ga_journal.specs.declared.since.Since.{Since}
-use Rattle.ga_journal.specs.Histories.{Past, history}
-use Rattle.ga_journal.specs.kept.Histories.{Held, lists_of, Keeps, cut, older_causes, older_events, WalksBack, IsFirst, IsWalked}
-use Rattle.ga_event.specs.Told.{steps_of, events_in}
-use Rattle.ga_journal.specs.Logs.{Stamped, Records, IsSince}
+use Rattle.ga_journal.specs.Histories.{Past, history, Book}
+use Rattle.ga_journal.specs.kept.Histories.{Held, lists_of, Keeps, cut, older_causes, older_events, WalksBack, IsFirst, IsWalked, pasts_of, IsUntold, IsToldAt, AreTold}
+use Rattle.ga_event.specs.Told.{steps_of, events_in, events_told, made_in}
+use Rattle.ga_journal.specs.Logs.{Stamped, Records, IsSince, IsWhole}
 use Rattle.ga_event.specs.declared.made.Made.{Made}
 use Rattle.ga_journal.proofs.Cutting.{history-cut}
-use Rattle.ga_journal.proofs.Logs.{length-tellings, tellings}
-use Rattle.ga_journal.proofs.Recalling.{older_are, older_causes_are, steps_older, walk_whole, cause_at, walked_drop, first_drop}
+use Rattle.ga_journal.proofs.Logs.{length-tellings, tellings, kept_log, length-built}
+use Rattle.ga_journal.proofs.Recalling.{older_are, older_causes_are, steps_older, walk_whole, cause_at, walked_drop, first_drop, log_lower, at_place, WalkOf}
+use Rattle.ga_journal.specs.Events.{kept_of, events_of, kept_before}
+use Rattle.std.proofs.Math.Seq.{drop-cons}
+use Rattle.std.proofs.lemmas.List.Elements.{All-head, All-tail}
 
 -- how many steps of a node are left is what is not walked of its history
 pub left_steps : (hs : List (List Past)) (lengths : List ℕ) (top n : ℕ) (log : List Stamped) → length hs ≡ 144 → length lengths ≡ 144 → n < 144 → WalksBack hs lengths top log
@@ -168,3 +171,128 @@ tested_not lengths at n k is l = subst (λ (z : ℕ). slice_index lengths z < k)
 
 pub some_of : (log : List Stamped) (i : ℕ) → i < length log → 0 < length (drop i log)
 some_of log i l = let n : length (drop i log) ≡ length log - i = length-drop i log in omega (arith, n, l)
+
+-- ---- Telling the kept events one by one from the newest back.
+
+length-older_events : (log : List Stamped) → length (older_events log) ≡ length log
+length-older_events [] = refl
+length-older_events (x ∷ older) = length_push (older_events older) x.event ∙ (let h = length-older_events older in omega (arith, h))
+
+-- the events before a place
+older_dropped : (log : List Stamped) (j place : ℕ) → j + place ≡ length log → older_events (drop j log) ≡ take place (older_events log)
+older_dropped [] zero zero q = refl
+older_dropped [] zero (suc place) q = absurd (omega (arith, q))
+older_dropped [] (suc j) place q = absurd (omega (arith, q))
+older_dropped (x ∷ older) zero place q =
+    let n : length (older_events (x ∷ older)) ≡ length (x ∷ older) = length-older_events (x ∷ older) in
+    sym (take_all place (older_events (x ∷ older)) (omega (arith, n, q)))
+older_dropped (x ∷ older) (suc j) place q =
+    let n : length (older_events older) ≡ length older = length-older_events older in
+    older_dropped older j place (omega (arith, q)) ∙ sym (take-append-le place (older_events older) (x.event ∷ []) (omega (arith, n, q)))
+
+-- at first none is told
+pub none_told : (vecs : List Held) (lengths : List ℕ) (top kept : ℕ) (book : Book) → book.histories ≡ lists_of vecs → (kept_is : kept ≡ length (kept_of book)) → Keeps vecs top book.made kept book.limit → IsWhole book.histories book.made
+    → length vecs ≡ 144 → length lengths ≡ 144 → ((n : ℕ) → n < 144 → slice_index lengths n ≡ length (history (lists_of vecs) n)) → IsUntold book lengths top kept
+none_told vecs lengths top kept book is kept_is k whole size all same =
+    let log : List Stamped = whole.log in
+    let many : kept ≡ length log = kept_is ∙ ap length (kept_log log book whole.records) ∙ length-tellings log in
+    let none : 0 ≡ length log - kept = omega (arith, many) in
+    record {
+      log = log;
+      records = whole.records;
+      within = omega (arith, many);
+      walks = subst (λ (n : ℕ). WalksBack book.histories lengths top (drop n log)) none
+          (subst (λ hs. WalksBack hs lengths top log) (sym is)
+          (walk_whole (lists_of vecs) lengths top log (length-map vecs pasts_of ∙ size) all same
+          (log_lower log (lists_of vecs) book.made top (subst (λ hs. Records log hs book.made) is whole.records) k.rise)));
+      size = all;
+    }
+
+-- what it tells, and where it stands then
+pub told_next : (book : Book) (lengths : List ℕ) (top place : ℕ) (cause : Cause) (made : Made) → 0 < place → (u : IsUntold book lengths top place)
+    → ((log : List Stamped) → WalksBack book.histories lengths top log → IsFirst log cause made) → made_in (kept_of book) (place - 1) ≡ Some made
+told_next book lengths top place cause made some u first =
+    let w = u.within in
+    let q : length u.log - place + (place - 1) + 1 ≡ length u.log = omega (arith, w, some) in
+    ap (λ kept. made_in kept (place - 1)) (kept_log u.log book u.records)
+    ∙ (at_place u.log (length u.log - place) (place - 1) cause made q (first (drop (length u.log - place) u.log) u.walks)).made
+
+pub left_next : (book : Book) (lengths more : List ℕ) (top now place : ℕ) → 0 < place → length more ≡ 144 → (u : IsUntold book lengths top place)
+    → ((log : List Stamped) → WalksBack book.histories lengths top log → IsWalked book.histories more now log) → IsUntold book more now (place - 1)
+left_next book lengths more top now place some all u left =
+    let w = u.within in
+    let next : suc (length u.log - place) ≡ length u.log - (place - 1) = omega (arith, w, some) in
+    record {
+      log = u.log;
+      records = u.records;
+      within = omega (arith, w);
+      walks = subst (λ (n : ℕ). WalksBack book.histories more now (drop n u.log)) next
+          (walked_drop book.histories more now u.log (length u.log - place) (omega (arith, w, some)) (left (drop (length u.log - place) u.log) u.walks));
+      size = all;
+    }
+
+-- how many steps of a node are left
+pub steps_left : (book : Book) (lengths : List ℕ) (top place n : ℕ) → n < 144 → (u : IsUntold book lengths top place) → slice_index lengths n ≡ steps_of n (take place (events_of book))
+steps_left book lengths top place n at u =
+    let w = u.within in
+    left_steps book.histories lengths top n (drop (length u.log - place) u.log) (ap length u.records.histories ∙ length-built u.log) u.size at u.walks
+    ∙ ap (steps_of n) (older_dropped u.log (length u.log - place) place (omega (arith, w)))
+    ∙ ap (λ events. steps_of n (take place events)) (older_are u.log ∙ ap events_told (sym (kept_log u.log book u.records)))
+
+pub place_within : (book : Book) (lengths : List ℕ) (top place : ℕ) → (u : IsUntold book lengths top place) → place ≤ length (kept_of book)
+place_within book lengths top place u =
+    let w = u.within in
+    let n : length (kept_of book) ≡ length u.log = ap length (kept_log u.log book u.records) ∙ length-tellings u.log in
+    omega (arith, w, n)
+
+-- ---- What one walk back tells of several places.
+
+-- walking on from where the walk stands
+pub left_long : (log : List Stamped) (kept left place : ℕ) → kept ≡ length log → left ≤ kept → left - place ≤ length (drop (kept - left) log)
+left_long log kept left place long within = let n : length (drop (kept - left) log) ≡ length log - (kept - left) = length-drop (kept - left) log in omega (arith, n)
+
+pub walked_on : (hs : List (List Past)) (lengths : List ℕ) (top : ℕ) (log : List Stamped) (kept left place : ℕ) → left ≤ kept → place < left
+    → WalksBack hs lengths top (drop (left - place) (drop (kept - left) log)) → WalksBack hs lengths top (drop (kept - place) log)
+walked_on hs lengths top log kept left place within l w =
+    subst (λ n. WalksBack hs lengths top (drop n log)) (let q : kept - left + (left - place) ≡ kept - place = omega arith in q)
+    (subst (λ z. WalksBack hs lengths top z) (drop-drop (left - place) (kept - left) log) w)
+
+pub told_on : (log : List Stamped) (kept left place : ℕ) (cause : Cause) (told : Made) → kept ≡ length log → left ≤ kept → place < left
+    → IsFirst (drop (left - place - 1) (drop (kept - left) log)) cause told → IsToldAt log place told
+told_on log kept left place cause told long within l f = (
+  cause,
+  subst (λ n. IsFirst (drop n log) cause told) (let q : kept - left + (left - place - 1) ≡ length log - place - 1 = omega arith in q)
+      (subst (λ z. IsFirst z cause told) (drop-drop (left - place - 1) (kept - left) log) f),
+)
+
+-- no place yet, and one more
+pub told_none : (log : List Stamped) (places : List ℕ) (items : List Made) → items ≡ [] → AreTold log (drop (length places) places) (reverse items)
+told_none log places items none =
+    subst (λ z. AreTold log (drop (length places) places) (reverse z)) (sym none)
+    (subst (λ z. AreTold log z []) (sym (drop_all (length places) places (omega arith))) tt)
+
+pub told_more : (log : List Stamped) (places : List ℕ) (at place : ℕ) (told : Made) (items : List Made) → at < length places → place ≡ get_or places at 0
+    → IsToldAt log place told → AreTold log (drop (suc at) places) (reverse items) → AreTold log (drop at places) (reverse (items ++ told ∷ []))
+told_more log places at place told items l is t rest =
+    subst (λ z. AreTold log z (reverse (items ++ told ∷ []))) (sym (drop-cons places at 0 l))
+    (subst (λ z. AreTold log (get_or places at 0 ∷ drop (suc at) places) z) (sym (reverse-append items (told ∷ [])))
+    (subst (λ (z : ℕ). IsToldAt log z told) is t, rest))
+
+-- what a journal tells of them
+mades_told : (log : List Stamped) (places : List ℕ) (mades : List Made) → All (λ (place : ℕ). place < length log) places → AreTold log places mades
+    → map Some mades ≡ map (made_in (tellings log)) places
+mades_told log [] [] a t = refl
+mades_told log [] (told ∷ more) a t = absurd t
+mades_told log (place ∷ places) [] a t = absurd t
+mades_told log (place ∷ places) (told ∷ more) a t =
+    let l : place < length log = All-head (λ (z : ℕ). z < length log) place places a in
+    let at = at_place log (length log - place - 1) place t.0.0 told (omega arith) t.0.1 in
+    ap (λ z. z ∷ map Some more) (sym at.made) ∙ ap (λ z. made_in (tellings log) place ∷ z) (mades_told log places more (All-tail (λ (z : ℕ). z < length log) place places a) t.1)
+
+pub placed : (r : Result (Vec Made Global) JournalFault) (vecs : List Held) (top made kept : ℕ) (places : List ℕ) (w : WalkOf vecs top made kept) → All (λ (place : ℕ). place < kept) places
+    → IfOk r (λ list. (log : List Stamped) → kept ≡ length log → Records log (lists_of vecs) top → AreTold log places list.items)
+    → IfOk r (λ list. map Some list.items ≡ map (made_in (kept_before (lists_of vecs) made)) places)
+placed (Ok list) vecs top made kept places w a f =
+    mades_told w.log places list.items (subst (λ (n : ℕ). All (λ (place : ℕ). place < n) places) w.long a) (f w.log w.long w.below)
+    ∙ ap (λ z. map (made_in z) places) (sym w.kept_is)
+placed (Err why) vecs top made kept places w a f = tt

@@ -17,8 +17,7 @@ use Rattle.ga_event.specs.declared.event.Cause.{Cause}
 use Rattle.ga_causal.specs.Dependence.{NoneLooks, dependents, without, rest, place_of, rest_from}
 use Rattle.ga_event.specs.Told.{events_in}
 use Rattle.ga_causal.specs.Equivalence.{AreEquivalent}
-use Rattle.ga_causal.proofs.Runs.{first_of_run}
-use Rattle.ga_causal.proofs.Swaps.{replay_equivalent}
+use Rattle.ga_causal.proofs.Runs.{first_of_run, replay_equivalent}
 use Rattle.ga_causal.proofs.Words.{after_is}
 use Rattle.ga_rollback.proofs.Rewinding.{run_snoc}
 use Rattle.ga_lab.specs.Sequences.{taken_from}

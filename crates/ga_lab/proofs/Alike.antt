@@ -17,11 +17,10 @@ use Rattle.ga_event.specs.Next.{next}
 use Rattle.ga_causal.specs.Dependence.{rest, place_of, rest_from, rewound_list}
 use Rattle.ga_event.specs.Told.{events_in}
 use Rattle.ga_causal.specs.Equivalence.{AreEquivalent, same, swapped, later, joined, account}
-use Rattle.ga_causal.proofs.Runs.{causes}
-use Rattle.ga_causal.proofs.Swaps.{replay_equivalent}
+use Rattle.ga_causal.proofs.Runs.{causes, replay_equivalent}
 use Rattle.ga_causal.proofs.Shuffles.{Shuffled}
 use Rattle.ga_causal.proofs.Consistent.{kept_alike, same_accounts, shuffled_by, equivalent-append}
-use Rattle.ga_causal.proofs.Rolled.{rolled_back, rewound_shuffled, length_shuffled, place_shuffled}
+use Rattle.ga_causal.proofs.Moved.{rolled_back, rewound_shuffled, length_shuffled, place_shuffled}
 use Rattle.ga_event.specs.declared.made.Made.{Made}
 use Rattle.ga_event.specs.declared.made.Made.TheVariants as made
 use Rattle.ga_event.specs.Told.{steps_of, mades_of}

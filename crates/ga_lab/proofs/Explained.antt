@@ -11,8 +11,8 @@ use Rattle.ga_causal.specs.Equivalence.{AreEquivalent}
 use Rattle.ga_causal.specs.Dependence.{place_of}
 use Rattle.ga_causal.proofs.ChainOf.{chain_chain, chain_found}
 use Rattle.ga_causal.proofs.Consistent.{shuffled_by}
-use Rattle.ga_causal.proofs.Rolled.{Again, chain_again}
-use Rattle.ga_causal.proofs.Refusals.{touching}
+use Rattle.ga_causal.proofs.Moved.{Again, chain_again}
+use Rattle.ga_causal.proofs.Accounts.{touching}
 use Rattle.ga_causal.proofs.Runs.{causes}
 use Rattle.ga_lab.specs.declared.fault.LabFault.{LabFault}
 use Rattle.ga_lab.specs.declared.fault.LabFault.TheVariants.{NoStep}

@@ -11,7 +11,7 @@ use Rattle.ga_event.specs.Told.{made_in, steps_of}
 use Rattle.ga_causal.specs.declared.chain.Link.{Link}
 use Rattle.ga_causal.specs.Dependence.{place_of}
 use Rattle.ga_causal.specs.Chains.{IsFound, IsLinked, IsChain, chain_of}
-use Rattle.ga_causal.proofs.ChainOf.{chain_chain, chain_found, chain_is}
+use Rattle.ga_causal.proofs.ChainOf.{chain_chain, chain_found, chain_is, place_later}
 use Rattle.ga_causal.proofs.Places.{place_step, place_stands, place-zero, touching_in, on_by, place_split, place_more}
 use Rattle.ga_journal.specs.Histories.{Book}
 use Rattle.ga_journal.specs.Events.{kept_of, events_of}
@@ -25,7 +25,6 @@ use Rattle.ga_lab.specs.declared.fault.LabFault.{LabFault}
 use Rattle.std.proofs.Math.Seq.{drop-append_seam}
 use Rattle.ga_journal.specs.Logs.{IsSince}
 use Rattle.ga_causal.proofs.Oldest.{DependsOn-order}
-use Rattle.ga_causal.proofs.Tails.{place_later}
 
 abbrev pub places : List Link → List ℕ
 places links = map (λ (link : Link). link.place) links

@@ -9,7 +9,7 @@ use Rattle.ga_event.specs.Apply.{Told, refusal_of, apply, after, unless, cause_o
 use Rattle.ga_causal.specs.Dependence.{dependents, without, rest, NoneLooks, place_of, rest_from}
 use Rattle.ga_event.specs.Told.{events_in}
 use Rattle.ga_causal.specs.Equivalence.{AreApart, AreEquivalent, same, swapped, later, joined}
-use Rattle.ga_causal.proofs.Swaps.{replay_equivalent}
+use Rattle.ga_causal.proofs.Runs.{replay_equivalent}
 use Rattle.ga_causal.proofs.Taken.{taken_last}
 use Rattle.ga_lab.specs.Machine.{State, first, chip_of, causes_of, with_event, step_answer, stepped, rewound, actor_of, stepped_all}
 use Rattle.ga_lab.specs.Calls.{MachineCall, step, undo, rewind, called, called_all, AreEquivalentStates}
@@ -115,7 +115,7 @@ front_some load (x ∷ xs) ys h =
     let a : Applied load x (xs ++ ys) = applied load x (xs ++ ys) h in
     let b : IsSome (replay (after load x).0 xs) = front_some (after load x).0 xs ys a.others in
     let c : apply load x ≡ Some (after load x) = ap (λ o. unless o (after load x)) a.can in
-    ap is_some (Rattle.ga_causal.proofs.Swaps.replay-cons load x xs) ∙ ap (λ (o : Option (List NodeRecord × Told)). is_some (Rattle.std.specs.Prelude.option_and_then (λ (first : List NodeRecord × Told). replay first.0 xs) o)) c ∙ b
+    ap is_some (Rattle.ga_causal.proofs.Runs.replay-cons load x xs) ∙ ap (λ (o : Option (List NodeRecord × Told)). is_some (Rattle.std.specs.Prelude.option_and_then (λ (first : List NodeRecord × Told). replay first.0 xs) o)) c ∙ b
 
 Fits-front : (s : State) (xs : List Event) (e : Event) → s.kept ≡ xs ++ e ∷ [] → Fits s → Fits (with_kept s xs)
 Fits-front s xs e is f =

@@ -12,7 +12,7 @@ use Rattle.ga_causal.proofs.Rollbacks.{rewound_twice}
 use Rattle.ga_event.specs.declared.event.Event.{Event}
 use Rattle.ga_causal.proofs.Runs.{run_rest}
 use Rattle.ga_causal.proofs.Exact.{DependsOn_from_flag, flag_from_DependsOn}
-use Rattle.ga_causal.proofs.Refusals.{touching, refused_exactly}
+use Rattle.ga_causal.proofs.Accounts.{touching, refused_exactly}
 use Rattle.ga_lab.specs.declared.fault.LabFault.{LabFault}
 use Rattle.ga_lab.specs.Machine.{State, told_by, causes_of, stands, rewound, why_between, why_answer}
 use Rattle.ga_lab.proofs.Replays.{IsReplayed}

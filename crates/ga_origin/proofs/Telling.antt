@@ -17,7 +17,7 @@ use Rattle.ga_event.specs.Apply.{Told, Did, Carried, after, refusal_of, cause_of
 use Rattle.ga_event.specs.Touches.{touches}
 use Rattle.ga_event.specs.Told.{causes_told, steps_of, made_after, mades_after}
 use Rattle.ga_causal.specs.Dependence.{cause_touches, place_of}
-use Rattle.ga_causal.proofs.Refusals.{place-first, place-touched, place-other}
+use Rattle.ga_causal.proofs.Accounts.{place-first, place-touched, place-other}
 use Rattle.ga_lab.specs.Machine.{State, told_by, told_of_kept, causes_of, history_of}
 use Rattle.ga_origin.proofs.Ran.{empty_some}
 

@@ -21,8 +21,7 @@ use Rattle.ga_event.specs.Apply.{Told, apply, after, unless, refusal_of, cause_o
 use Rattle.ga_event.specs.Told.{steps_of, made_after, mades_after, mades_of, events_in}
 use Rattle.ga_event.proofs.Locality.{Agree-sym}
 use Rattle.ga_causal.specs.Dependence.{cause_touches, rest, rest_from, place_of}
-use Rattle.ga_causal.proofs.Runs.{kept, causes, FirstOf, first_of_run, keeps_of}
-use Rattle.ga_causal.proofs.Swaps.{replay-cons}
+use Rattle.ga_causal.proofs.Runs.{kept, causes, FirstOf, first_of_run, keeps_of, replay-cons}
 use Rattle.ga_lab.specs.Machine.{State, chip_of, causes_of, history_of, told_by, earlier, rewound, stands}
 use Rattle.ga_lab.proofs.Called.{Runs, told_is, runs_some}
 use Rattle.ga_lab.proofs.Explaining.{stands_place}

@@ -13,7 +13,7 @@ use Rattle.ga_event.specs.Touches.{with_some, neighbours, seen_by, meets}
 use Rattle.ga_causal.specs.Dependence.{cause_touches, rest_from, place_of, rewound_list}
 use Rattle.ga_causal.specs.Steps.{touching}
 use Rattle.ga_causal.proofs.Runs.{kept}
-use Rattle.ga_causal.proofs.Refusals.{place-first, place-touched, place-other}
+use Rattle.ga_causal.proofs.Accounts.{place-first, place-touched, place-other}
 use Rattle.ga_causal.proofs.Places.{touching-cons, touching_no}
 use Rattle.ga_races.proofs.Blind.{no_touch}
 use Rattle.ga_race_detector.specs.kept.Writers.{greatest, greater_with, depth, AreLeft, IsFilled, IsTaken}

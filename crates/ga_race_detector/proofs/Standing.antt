@@ -13,8 +13,7 @@ use Rattle.ga_event.specs.Apply.{Told, apply, cause_of, run, replay, Agree}
 use Rattle.ga_event.proofs.Locality.{Agree-sym}
 use Rattle.ga_event.specs.Told.{steps_of, events_in}
 use Rattle.ga_causal.specs.Dependence.{cause_touches, rest, place_of, rest_from}
-use Rattle.ga_causal.proofs.Runs.{kept, causes, FirstOf, first_of_run, keeps_of, Agree-marked, same_of}
-use Rattle.ga_causal.proofs.Swaps.{replay-cons}
+use Rattle.ga_causal.proofs.Runs.{kept, causes, FirstOf, first_of_run, keeps_of, Agree-marked, same_of, replay-cons}
 use Rattle.ga_races.proofs.Blind.{no_touch}
 use Rattle.ga_lab.specs.Machine.{State, chip_of, causes_of, told_by, earlier, rewound}
 use Rattle.ga_lab.proofs.Called.{Runs, runs_of}

@@ -26,9 +26,8 @@ use Rattle.ga_causal.proofs.Accounts.{marked-stays}
 use Rattle.ga_causal.proofs.Taken.{seen_blind}
 use Rattle.ga_causal.proofs.Consistent.{made_of}
 use Rattle.ga_causal.proofs.Places.{place_split, touching_in}
-use Rattle.ga_causal.proofs.Rolled.{rolled_back}
-use Rattle.ga_causal.proofs.Runs.{causes, kept, keeps_of, run_more, run_kept, first_of_run}
-use Rattle.ga_causal.proofs.Swaps.{replay_equivalent}
+use Rattle.ga_causal.proofs.Moved.{rolled_back}
+use Rattle.ga_causal.proofs.Runs.{causes, kept, keeps_of, run_more, run_kept, first_of_run, replay_equivalent}
 use Rattle.ga_causal.proofs.Words.{after_is, ran}
 use Rattle.ga_races.specs.Orders.{CanBe, IsAtEnd, AreFree, AreOrders, same, swapped, later, joined, IsRace, HasNoRace, AreRivals}
 use Rattle.ga_races.proofs.Frees.{apply_is, first_of, stays, touches_own, touches_writer, touches_reader, can_still, any_at, any_of, apart_of, apart-sym, free_chip}

@@ -14,9 +14,8 @@ use Rattle.ga_races.specs.Orders.{CanBe, AreOrders, IsRace, HasNoRace, same, swa
 use Rattle.ga_races.proofs.Frees.{replay_more, first_of, can_still, apart-sym, any_of, apart_of, can_back}
 use Rattle.ga_races.proofs.Orders.{order_replay, order_read, Completed, is_some_of, can_behind, some_of}
 use Rattle.ga_causal.specs.Equivalence.{AreApart, AreEquivalent}
-use Rattle.ga_causal.proofs.Received.{same_received}
-use Rattle.ga_causal.proofs.Swaps.{replay_equivalent}
-use Rattle.ga_causal.proofs.Words.{after_is}
+use Rattle.ga_causal.proofs.Words.{same_received, after_is}
+use Rattle.ga_causal.proofs.Runs.{replay_equivalent}
 
 -- what stands behind a list
 

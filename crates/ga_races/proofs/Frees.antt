@@ -15,8 +15,7 @@ use Rattle.ga_event.specs.declared.event.Event.TheVariants.{Own, Pass}
 use Rattle.ga_event.specs.Touches.{nodes_of, touches}
 use Rattle.ga_event.specs.Apply.{Told, refusal_of, unmatched, is_open, unless, after, apply, replay, Agree}
 use Rattle.ga_causal.specs.Words.{word_of, with_words, account_read}
-use Rattle.ga_causal.proofs.Runs.{keeps_of}
-use Rattle.ga_causal.proofs.Swaps.{replay-cons}
+use Rattle.ga_causal.proofs.Runs.{keeps_of, replay-cons}
 use Rattle.ga_causal.proofs.Consistent.{swap_filter}
 use Rattle.ga_causal.proofs.Words.{same_chip}
 use Rattle.ga_races.specs.Orders.{CanBe, AreFree}

@@ -31,6 +31,31 @@ fn effect_of(deed: Deed, saved: Saved) -> Effect
     }
 }
 
+/// A pass from the first of the nodes to the other, with what it did: the old values of both.
+#[inline(always)]
+fn pass_with(
+    ends: (NodeId, NodeId),
+    side: Side,
+    word: Word18,
+    saved: (Saved, Saved),
+) -> (Event, Effect)
+    ensures { result ≡ (Event.Pass ends.0 ends.1 side, Effect.Pass word saved.0 saved.1) }
+{
+    let (writer, reader) = ends;
+    let (sent, taken) = saved;
+    let event = Event::Pass {
+        writer,
+        reader,
+        side,
+    };
+    let effect = Effect::Pass {
+        word,
+        writer: sent,
+        reader: taken,
+    };
+    (event, effect)
+}
+
 impl Histories {
     ghost use Rattle.std.specs.Prelude.{◌≡◌, ◌≢◌, ◌+◌, ◌<◌, ◌^◌, List, ◌∷◌, [], ◌++◌, ℕ, length, slice_set, true, None};
     ghost use Rattle.ga_node.specs.Record.{record_of};
@@ -122,17 +147,7 @@ impl Histories {
             Act::Own(deed) => (Event::Own(node), effect_of(deed, saved)),
             Act::Sent { to, side, word, .. } => {
                 let other = self.take_last(to);
-                let event = Event::Pass {
-                    writer: node,
-                    reader: to,
-                    side,
-                };
-                let effect = Effect::Pass {
-                    word,
-                    writer: saved,
-                    reader: other.saved,
-                };
-                (event, effect)
+                pass_with((node, to), side, word, (saved, other.saved))
             }
             Act::Took {
                 from,
@@ -141,17 +156,7 @@ impl Histories {
                 ..
             } => {
                 let other = self.take_last(from);
-                let event = Event::Pass {
-                    writer: from,
-                    reader: node,
-                    side,
-                };
-                let effect = Effect::Pass {
-                    word,
-                    writer: other.saved,
-                    reader: saved,
-                };
-                (event, effect)
+                pass_with((from, node), side, word, (other.saved, saved))
             }
         }
     }

@@ -16,17 +16,6 @@ use std::alloc::Global;
 // For so many causes room is made at first, so that a short walk makes one growth.
 const FIRST_ROOM: usize = 64;
 
-/// Puts a cause at the end of a list.
-fn add(causes: &mut Vec<Cause>, cause: Cause) -> Result<(), JournalFault>
-    ensures ok { OnOk result (causes.new.items ≡ causes.old.items ++ cause ∷ []) }
-    ensures err { IfErr result (λ fault. fault ≡ JournalFault.Memory) }
-{
-    match causes.push(cause) {
-        Ok(()) => Ok(()),
-        Err(_) => Err(JournalFault::Memory),
-    }
-}
-
 /// A node's own event, with what is told of it.
 #[inline(always)]
 fn own(node: NodeId, step: u32, deed: Deed) -> (Cause, Made)
@@ -280,7 +269,9 @@ impl Histories {
         let mut before = kept;
         while lengths[at] >= from.1 {
             let (cause, _) = self.back(&mut lengths, &mut top, &mut hint);
-            add(&mut causes, cause)?;
+            if causes.push(cause).is_err() {
+                return Err(JournalFault::Memory);
+            }
             before -= 1;
         }
         causes.reverse();

@@ -8,7 +8,9 @@ use ga_grid::NodeId;
 use ga_node::{Node, Place};
 
 impl Journal {
-    ghost use Rattle.std.specs.Prelude.{◌≡◌, ◌<◌, ◌≤◌, ◌+◌, ◌^◌, ◌↔◌, length, map, take, drop, Some, IfOk, IfErr, IsNone};
+    ghost use Rattle.std.specs.Prelude.{◌≡◌, ◌<◌, ◌≤◌, ◌+◌, ◌^◌, ◌↔◌, length, map, take, drop, Some, option_map, IfOk, IfErr, IsNone};
+    ghost use Rattle.ga_event.specs.declared.event.Cause.{Cause};
+    ghost use Rattle.ga_event.specs.declared.made.Made.{Made};
     ghost use Rattle.std.specs.List.{slice_get, All};
     ghost use Rattle.std.specs.List.Sorted.{IsStrictlyIncreasing};
     ghost use Rattle.ga_journal.specs.Histories.{history};
@@ -57,19 +59,30 @@ impl Journal {
         history.walk_back(now, from as usize, to as usize);
     }
 
+    // The kept event at a place of their list, from 0 on, and what is told of it; none past its end.
+    #[inline]
+    fn recalled(&self, place: u32) -> Option<(Cause, Made)>
+        requires { IsWhole self.now.histories self.now.made }
+        ensures event { option_map (λ (told : Cause × Made). told.0.event) result ≡ slice_get (events_of self.now) place }
+        ensures made { option_map (λ (told : Cause × Made). told.1) result ≡ made_in (kept_of self.now) place }
+        ensures past { IsNone result ↔ (length (kept_of self.now) ≤ place) }
+    {
+        if place < self.kept {
+            let back_by = self.kept - place;
+            Some(self.histories.recall(self.top, self.hint, back_by))
+        } else {
+            None
+        }
+    }
+
     /// The kept event at a place of their list, from 0 on; none past its end. It walks back from the newest.
     pub(crate) fn event_at(&self, place: u32) -> Option<Event>
         requires { IsWhole self.now.histories self.now.made }
         ensures value { result ≡ slice_get (events_of self.now) place }
         ensures past { IsNone result ↔ (length (kept_of self.now) ≤ place) }
     {
-        if place < self.kept {
-            let back_by = self.kept - place;
-            let (cause, _) = self.histories.recall(self.top, self.hint, back_by);
-            Some(cause.event)
-        } else {
-            None
-        }
+        let (cause, _) = self.recalled(place)?;
+        Some(cause.event)
     }
 
     /// What is told of the kept event at a place of their list, from 0 on; none past its end. It walks back from the
@@ -79,13 +92,8 @@ impl Journal {
         ensures value { result ≡ made_in (kept_of self.now) place }
         ensures past { IsNone result ↔ (length (kept_of self.now) ≤ place) }
     {
-        if place < self.kept {
-            let back_by = self.kept - place;
-            let (_, made) = self.histories.recall(self.top, self.hint, back_by);
-            Some(made)
-        } else {
-            None
-        }
+        let (_, made) = self.recalled(place)?;
+        Some(made)
     }
 
     /// What is told of the kept events at these places of their list, each above the one before. It walks back once, from the

@@ -3,8 +3,8 @@ use Rattle.ga_causal.specs.declared.chain.Link.{Link}
 use Rattle.ga_causal.specs.Dependence.{rule_between}
 use Rattle.ga_causal.specs.Chains.{IsOldest}
 use Rattle.ga_causal.proofs.Exact.{flag_from_DependsOn}
-use Rattle.ga_causal.proofs.Noting.{goes_on_longer, goes_on_first, rule_read, oldest_read}
-use Rattle.ga_causal.proofs.Tails.{oldest_later, rule_there}
+use Rattle.ga_causal.proofs.Oldest.{goes_on_longer, goes_on_first, rule_read, oldest_read}
+use Rattle.ga_causal.proofs.ChainOf.{oldest_later, rule_there}
 use Rattle.ga_causal.proofs.chain.chain_back.Goals as goal
 
 pub bounds-events-before : goal.bounds-events-before

@@ -1,4 +1,4 @@
-use Rattle.ga_causal.proofs.Tails.{in_whole}
+use Rattle.ga_causal.proofs.ChainOf.{in_whole}
 use Rattle.ga_causal.proofs.chain.find_chain.Goals as goal
 
 pub returns : goal.returns

@@ -1,4 +1,6 @@
 use Rattle.std.proofs.Common.{refl, sym, subst}
+use Rattle.ga_event.specs.declared.event.Effect.{Effect}
+use Rattle.ga_event.specs.declared.event.Event.{Event}
 use Rattle.ga_event.specs.declared.event.Event.TheVariants as event
 use Rattle.ga_journal.specs.Popped.{IsNewest}
 use Rattle.ga_journal.specs.kept.Histories.{lists_of, past_of}
@@ -34,16 +36,20 @@ pub returns-in-Sent-clause-newest : goal.returns-in-Sent-clause-newest
 returns-in-Sent-clause-newest c log made r =
     let hs = lists_of c.args.self.now in
     let mid = lists_of c.take_last-act.new.self in
-    sent_newest log hs mid (lists_of c.take_last-other.new.self) c.args.node c.in-Sent.to c.in-Sent.side c.in-Sent.word (past_of c.take_last-act.result) (past_of c.take_last-other.result) _
+    let left = lists_of c.take_last-other.new.self in
+    subst (λ (z : Event × Effect). IsNewest log z.0 z.1 left) (sym c.pass_with.ensures)
+    (sent_newest log hs mid left c.args.node c.in-Sent.to c.in-Sent.side c.in-Sent.word (past_of c.take_last-act.result) (past_of c.take_last-other.result) _
     c.take_last-act.result.saved c.take_last-other.result.saved
     (sent_left log made hs mid c.args.node c.in-Sent.to c.in-Sent.side c.in-Sent.at c.in-Sent.word _ (past_of c.take_last-act.result) r c.requires.topmost c.take_last-act.ensures.last c.take_last-act.ensures.others c.in-Sent.is)
-    c.take_last-other.ensures.last c.take_last-other.ensures.others refl refl
+    c.take_last-other.ensures.last c.take_last-other.ensures.others refl refl)
 
 pub returns-in-Took-clause-newest : goal.returns-in-Took-clause-newest
 returns-in-Took-clause-newest c log made r =
     let hs = lists_of c.args.self.now in
     let mid = lists_of c.take_last-act.new.self in
-    took_newest log hs mid (lists_of c.take_last-other-in-Took.new.self) c.args.node c.in-Took.from c.in-Took.side c.in-Took.word (past_of c.take_last-act.result) (past_of c.take_last-other-in-Took.result) _
+    let left = lists_of c.take_last-other-in-Took.new.self in
+    subst (λ (z : Event × Effect). IsNewest log z.0 z.1 left) (sym c.pass_with-in-Took.ensures)
+    (took_newest log hs mid left c.args.node c.in-Took.from c.in-Took.side c.in-Took.word (past_of c.take_last-act.result) (past_of c.take_last-other-in-Took.result) _
     c.take_last-other-in-Took.result.saved c.take_last-act.result.saved
     (took_left log made hs mid c.args.node c.in-Took.from c.in-Took.side c.in-Took.at c.in-Took.word _ (past_of c.take_last-act.result) r c.requires.topmost c.take_last-act.ensures.last c.take_last-act.ensures.others c.in-Took.is)
-    c.take_last-other-in-Took.ensures.last c.take_last-other-in-Took.ensures.others refl refl
+    c.take_last-other-in-Took.ensures.last c.take_last-other-in-Took.ensures.others refl refl)

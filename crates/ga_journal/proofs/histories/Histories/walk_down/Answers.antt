@@ -1,5 +1,5 @@
-use Rattle.std.proofs.Common.{◌≡◌, ◌+◌, ◌-◌, ◌∙◌, ◌<◌, suc, length, drop, ap, subst, arith}
-use Rattle.std.specs.Prelude.{slice_index}
+use Rattle.std.proofs.Common.{◌≡◌, ◌+◌, ◌-◌, ◌∙◌, ◌<◌, ◌++◌, ◌∷◌, [], Bool, true, cond, not, suc, length, drop, ap, subst, arith}
+use Rattle.std.specs.Prelude.{is_ok, slice_index}
 use Rattle.std.proofs.lemmas.List.{length-map, length_push, length-reverse}
 use Rattle.ga_journal.specs.kept.Histories.{lists_of, pasts_of}
 use Rattle.ga_journal.proofs.Down.{IsDown, tested, tested_not, some_of, down_within, down_some, down_first, down_more, down_last}
@@ -50,16 +50,18 @@ loop-lengths-preserved c =
     let some : 0 < c.loop-lengths.before = down_some (lists_of c.args.self.now) c.loop-lengths.lengths c.loop-lengths.top c.requires.walk.0 c.args.from.0.number c.args.from.1 c.args.kept c.loop-lengths.before c.loop-lengths.causes.items
     (length-map c.args.self.now pasts_of ∙ c.lengths_of-lengths.ensures.nodes) c.loop-lengths.invariant.1 c.args.from.0.in_range c.requires.counted
     (tested c.loop-lengths.lengths c.index-at.result c.args.from.0.number c.args.from.1 c.index-at.ensures.value c.loop-lengths-test.true) c.requires.walk.1 c.loop-lengths.invariant.2
-    (c.loop-lengths.invariant.0 c.requires.walk.0 c.requires.walk.1 c.requires.walk.2) in (
+    (c.loop-lengths.invariant.0 c.requires.walk.0 c.requires.walk.1 c.requires.walk.2) in
+    let went_in : is_ok c.push.result ≡ true = c.is_err-in-loop-lengths.ensures.negation ∙ ap not c.if-is_err-2.false in
+    let added : c.push.new.self.items ≡ c.loop-lengths.causes.items ++ c.back.result.0 ∷ [] = c.push.ensures.items ∙ ap (λ (b : Bool). cond b (c.loop-lengths.causes.items ++ c.back.result.0 ∷ []) c.loop-lengths.causes.items) went_in in (
       λ log long r.
           let d = c.loop-lengths.invariant.0 log long r in
-          subst (IsDown hs c.back.new.lengths c.back.new.top log c.args.from.0.number c.args.from.1 c.add.new.causes.items)
+          subst (IsDown hs c.back.new.lengths c.back.new.top log c.args.from.0.number c.args.from.1 c.push.new.self.items)
           (let next : suc (c.args.kept - c.loop-lengths.before) ≡ c.args.kept - (c.loop-lengths.before - 1) = omega (arith, some, c.loop-lengths.invariant.2) in next)
-          (down_more hs c.loop-lengths.lengths c.back.new.lengths c.loop-lengths.top c.back.new.top log c.args.from.0.number c.args.from.1 c.loop-lengths.causes.items c.add.new.causes.items i c.back.result.0 c.back.result.1
+          (down_more hs c.loop-lengths.lengths c.back.new.lengths c.loop-lengths.top c.back.new.top log c.args.from.0.number c.args.from.1 c.loop-lengths.causes.items c.push.new.self.items i c.back.result.0 c.back.result.1
           (length-map c.args.self.now pasts_of ∙ c.lengths_of-lengths.ensures.nodes) c.loop-lengths.invariant.1 c.args.from.0.in_range c.requires.counted l d
-          (c.back.ensures.first (drop i log) d.walk) (c.back.ensures.left (drop i log) d.walk) c.in_ok-add.ensures.ok),
+          (c.back.ensures.first (drop i log) d.walk) (c.back.ensures.left (drop i log) d.walk) added),
       c.back.ensures.size,
-      (let n : length c.add.new.causes.items ≡ length c.loop-lengths.causes.items + 1 = ap length c.in_ok-add.ensures.ok ∙ length_push c.loop-lengths.causes.items c.back.result.0 in omega (arith, n, some, c.loop-lengths.invariant.2)),
+      (let n : length c.push.new.self.items ≡ length c.loop-lengths.causes.items + 1 = ap length added ∙ length_push c.loop-lengths.causes.items c.back.result.0 in omega (arith, n, some, c.loop-lengths.invariant.2)),
     )
 
 pub returns-clause-ok : goal.returns-clause-ok

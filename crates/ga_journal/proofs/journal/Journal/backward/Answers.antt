@@ -3,7 +3,7 @@ use Rattle.ga_journal.specs.Histories.{Book}
 use Rattle.ga_journal.specs.kept.Histories.{lists_of, Keeps}
 use Rattle.ga_journal.specs.Events.{kept_of}
 use Rattle.ga_journal.proofs.Keeping.{fits}
-use Rattle.ga_journal.proofs.Telling.{none_told}
+use Rattle.ga_journal.proofs.Down.{none_told}
 use Rattle.ga_journal.proofs.journal.Journal.backward.Goals as goal
 
 pub lengths_of-requires : goal.lengths_of-requires

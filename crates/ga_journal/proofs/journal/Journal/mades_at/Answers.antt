@@ -5,7 +5,7 @@ use Rattle.ga_journal.specs.kept.Histories.{lists_of}
 use Rattle.ga_journal.specs.Events.{kept_of}
 use Rattle.ga_journal.specs.Logs.{IsWhole}
 use Rattle.ga_journal.proofs.Keeping.{fits}
-use Rattle.ga_journal.proofs.Placed.{placed}
+use Rattle.ga_journal.proofs.Down.{placed}
 use Rattle.ga_journal.proofs.Recalling.{WalkOf, walk_of}
 use Rattle.ga_journal.proofs.journal.Journal.mades_at.Goals as goal
 

@@ -4,10 +4,9 @@ use Rattle.ga_journal.specs.Histories.{Book}
 use Rattle.ga_journal.specs.kept.Histories.{lists_of, pasts_of}
 use Rattle.ga_journal.specs.Logs.{IsWhole}
 use Rattle.ga_journal.specs.Events.{kept_of}
-use Rattle.ga_journal.proofs.Counts.{count_within}
-use Rattle.ga_journal.proofs.Keeping.{append_keeps, whole_more, back_more}
+use Rattle.ga_journal.proofs.Keeping.{count_within, append_keeps, whole_more, back_more}
 use Rattle.ga_journal.proofs.Marking.{append_within, append_matched}
-use Rattle.ga_journal.proofs.Added.{is_made}
+use Rattle.ga_journal.proofs.Logs.{is_made}
 use Rattle.ga_journal.proofs.journal.Journal.make.Goals as goal
 
 pub make_event-made-requires-clause-fits : goal.make_event-made-requires-clause-fits

@@ -4,7 +4,7 @@ use Rattle.ga_journal.specs.Histories.{Book, Untold}
 use Rattle.ga_journal.specs.Logs.{Stamped}
 use Rattle.ga_journal.specs.Events.{kept_of}
 use Rattle.ga_journal.specs.kept.Histories.{WalksBack, IsFirst, IsWalked}
-use Rattle.ga_journal.proofs.Telling.{told_next, left_next}
+use Rattle.ga_journal.proofs.Down.{told_next, left_next}
 use Rattle.ga_journal.proofs.journal.backward.BackwardEvents.back.Goals as goal
 
 pub invariant_of-self : goal.invariant_of-self

@@ -1,7 +1,7 @@
 use Rattle.std.proofs.Common.{◌≤◌, length, subst}
 use Rattle.ga_journal.specs.Histories.{Untold}
 use Rattle.ga_journal.specs.Events.{kept_of}
-use Rattle.ga_journal.proofs.Telling.{place_within}
+use Rattle.ga_journal.proofs.Down.{place_within}
 use Rattle.ga_journal.proofs.journal.backward.BackwardEvents.place.Goals as goal
 
 pub returns-clause-within : goal.returns-clause-within

@@ -3,7 +3,7 @@ use Rattle.std.specs.Prelude.{slice_index}
 use Rattle.ga_event.specs.Told.{steps_of}
 use Rattle.ga_journal.specs.Histories.{Untold}
 use Rattle.ga_journal.specs.Events.{events_of}
-use Rattle.ga_journal.proofs.Telling.{steps_left}
+use Rattle.ga_journal.proofs.Down.{steps_left}
 use Rattle.ga_journal.proofs.journal.backward.BackwardEvents.steps.Goals as goal
 
 pub returns : goal.returns

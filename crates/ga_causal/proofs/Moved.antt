@@ -1,0 +1,277 @@
+-- Where the events of a list stand in one that differs by swaps of neighbours that are apart, and its chains there.
+use Rattle.std.proofs.Common.{◌≡◌, ℕ, zero, suc, ◌<◌, ◌≢◌, List, [], ◌∷◌, length, map, Some, refl, sym, ◌∙◌, ap, ap₂, arith, ◌+◌, Bool, true, false, ◌||◌, cond, Option, None, subst, ⊎_elim}
+use Rattle.std.specs.Prelude.{slice_index_or, is_some, nat_lt}
+use Rattle.std.proofs.lemmas.Bool.{both_ways, cases_Bool, or_parts, cond-false}
+use Rattle.ga_event.specs.declared.event.Event.{Event}
+use Rattle.ga_event.specs.declared.event.Cause.{Cause}
+use Rattle.ga_event.specs.Apply.{Told, run}
+use Rattle.ga_event.specs.Touches.{meets}
+use Rattle.ga_node.specs.Record.{NodeRecord}
+use Rattle.ga_causal.specs.declared.chain.Link.{Link}
+use Rattle.ga_causal.specs.Dependence.{cause_touches, rule_of, event_at, rule_between, cause_nodes, dependents, rest, place_of, rest_from, rewound_list, rewound_all}
+use Rattle.ga_causal.specs.Chains.{IsNext, IsLinked, IsChain}
+use Rattle.ga_causal.specs.Steps.{links_by_events, no_entry, counted, touching}
+use Rattle.ga_causal.specs.Equivalence.{AreApart, AreEquivalent}
+use Rattle.ga_causal.proofs.Exact.{rule_meets}
+use Rattle.ga_causal.proofs.Runs.{causes, run_rest}
+use Rattle.ga_causal.proofs.Shuffles.{Shuffled, stays, flipped, after, chained, apart_free, entries, entries_flipped, AreApart-sym, counted_both}
+use Rattle.ga_causal.proofs.Consistent.{shuffled_by, Made, made_of, made_shuffled, causes_without, run_made}
+use mathlib.Core.Path.{fun_ext}
+use Rattle.std.specs.List.{list_any}
+use Rattle.ga_event.specs.Told.{events_in}
+use Rattle.ga_event.proofs.Locality.{touched_free}
+use Rattle.ga_causal.proofs.Rollbacks.{walk, walk-dropped, walk-kept, is_cut, single, nowhere, or-swap, rewound_walk}
+use Rattle.ga_causal.proofs.Places.{touching-cons, place-zero, place_stands}
+
+-- the entry at a place
+abbrev entry_at : (ℕ → ℕ) → List Cause → ℕ → Cause × List ℕ
+entry_at s es i = slice_index_or (entries s es) i no_entry
+
+event_of_entry : (s : ℕ → ℕ) (es : List Cause) (i : ℕ) → event_at es i ≡ (entry_at s es i).0
+event_of_entry s [] i = refl
+event_of_entry s (e ∷ es) zero = refl
+event_of_entry s (e ∷ es) (suc i) = event_of_entry (counted s e) es i
+
+-- each event of the one list stands in the other with the same numbers, behind those on which it depends directly
+pub record Moved (s : ℕ → ℕ) (xs ys : List Cause) : Type 0 where
+  pub to : ℕ → ℕ
+  pub within : (i : ℕ) → i < length xs → to i < length ys
+  pub alike : (i : ℕ) → i < length xs → entry_at s xs i ≡ entry_at s ys (to i)
+  pub order : (i j : ℕ) → i < j → j < length xs → rule_between xs i j ≢ 0 → to i < to j
+
+same_event : (s : ℕ → ℕ) (xs ys : List Cause) (m : Moved s xs ys) (i : ℕ) → i < length xs → event_at xs i ≡ event_at ys (m.to i)
+same_event s xs ys m i l = event_of_entry s xs i ∙ ap (λ (z : Cause × List ℕ). z.0) (m.alike i l) ∙ sym (event_of_entry s ys (m.to i))
+
+same_rule : (s : ℕ → ℕ) (xs ys : List Cause) (m : Moved s xs ys) (i j : ℕ) → i < length xs → j < length xs → rule_between xs i j ≡ rule_between ys (m.to i) (m.to j)
+same_rule s xs ys m i j l k = ap₂ (λ (a b : Cause). rule_of a b) (same_event s xs ys m i l) (same_event s xs ys m j k)
+
+abbrev flip : ℕ → ℕ
+flip zero = suc zero
+flip (suc zero) = zero
+flip (suc (suc i)) = suc (suc i)
+
+abbrev lifted : (ℕ → ℕ) → ℕ → ℕ
+lifted f zero = zero
+lifted f (suc i) = suc (f i)
+
+no_rule : (e f : Cause) → AreApart e f → rule_of e f ≢ 0 → ⊥
+no_rule e f h r = both_ways (meets (cause_touches e) f) (apart_free e f h) (rule_meets e f r)
+
+moved_flipped : (s : ℕ → ℕ) (e f : Cause) (zs : List Cause) → AreApart e f → Moved s (e ∷ f ∷ zs) (f ∷ e ∷ zs)
+moved_flipped s e f zs h = record { to = flip; within = within; alike = alike; order = order }
+  where
+    within : (i : ℕ) → i < length (e ∷ f ∷ zs) → flip i < length (f ∷ e ∷ zs)
+    within zero l = let g : 1 < suc (suc (length zs)) = omega arith in g
+    within (suc zero) l = let g : 0 < suc (suc (length zs)) = omega arith in g
+    within (suc (suc i)) l = l
+
+    alike : (i : ℕ) → i < length (e ∷ f ∷ zs) → entry_at s (e ∷ f ∷ zs) i ≡ entry_at s (f ∷ e ∷ zs) (flip i)
+    alike zero l = ap (λ (z : List (Cause × List ℕ)). slice_index_or z 1 no_entry) (sym (entries_flipped s e f zs h))
+    alike (suc zero) l = ap (λ (z : List (Cause × List ℕ)). slice_index_or z 0 no_entry) (sym (entries_flipped s e f zs h))
+    alike (suc (suc i)) l = ap (λ (z : List (Cause × List ℕ)). slice_index_or z (suc (suc i)) no_entry) (sym (entries_flipped s e f zs h))
+
+    order : (i j : ℕ) → i < j → j < length (e ∷ f ∷ zs) → rule_between (e ∷ f ∷ zs) i j ≢ 0 → flip i < flip j
+    order zero zero l k r = absurd (omega (arith, l))
+    order zero (suc zero) l k r = absurd (no_rule e f h r)
+    order zero (suc (suc j)) l k r = let g : 1 < suc (suc j) = omega arith in g
+    order (suc zero) zero l k r = absurd (omega (arith, l))
+    order (suc zero) (suc zero) l k r = absurd (omega (arith, l))
+    order (suc zero) (suc (suc j)) l k r = let g : 0 < suc (suc j) = omega arith in g
+    order (suc (suc i)) zero l k r = absurd (omega (arith, l))
+    order (suc (suc i)) (suc zero) l k r = absurd (omega (arith, l))
+    order (suc (suc i)) (suc (suc j)) l k r = l
+
+moved_after : (s : ℕ → ℕ) (e : Cause) (us vs : List Cause) → Moved (counted s e) us vs → Moved s (e ∷ us) (e ∷ vs)
+moved_after s e us vs m = record { to = lifted m.to; within = within; alike = alike; order = order }
+  where
+    within : (i : ℕ) → i < length (e ∷ us) → lifted m.to i < length (e ∷ vs)
+    within zero l = let g : 0 < suc (length vs) = omega arith in g
+    within (suc i) l = let w : m.to i < length vs = m.within i (omega (arith, l)) in let g : suc (m.to i) < suc (length vs) = omega (arith, w) in g
+
+    alike : (i : ℕ) → i < length (e ∷ us) → entry_at s (e ∷ us) i ≡ entry_at s (e ∷ vs) (lifted m.to i)
+    alike zero l = refl
+    alike (suc i) l = m.alike i (omega (arith, l))
+
+    order : (i j : ℕ) → i < j → j < length (e ∷ us) → rule_between (e ∷ us) i j ≢ 0 → lifted m.to i < lifted m.to j
+    order zero zero l k r = absurd (omega (arith, l))
+    order zero (suc j) l k r = let g : 0 < suc (m.to j) = omega arith in g
+    order (suc i) zero l k r = absurd (omega (arith, l))
+    order (suc i) (suc j) l k r = let w : m.to i < m.to j = m.order i j (omega (arith, l)) (omega (arith, k)) r in let g : suc (m.to i) < suc (m.to j) = omega (arith, w) in g
+
+moved_chained : (s : ℕ → ℕ) (xs ys zs : List Cause) → Moved s xs zs → Moved s zs ys → Moved s xs ys
+moved_chained s xs ys zs a b = record {
+  to = λ i. b.to (a.to i);
+  within = λ i l. b.within (a.to i) (a.within i l);
+  alike = λ i l. a.alike i l ∙ b.alike (a.to i) (a.within i l);
+  order = λ i j l k r. b.order (a.to i) (a.to j) (a.order i j l k r) (a.within j k)
+      (λ q. r (same_rule s xs zs a i j (let w : i < length xs = omega (arith, l, k) in w) k ∙ q));
+}
+
+pub moved_of : (s : ℕ → ℕ) (xs ys : List Cause) → Shuffled xs ys → Moved s xs ys
+moved_of s xs ys stays = record { to = λ i. i; within = λ i l. l; alike = λ i l. refl; order = λ i j l k r. l }
+moved_of s xs ys (flipped {e} {f} {xs = zs} h) = moved_flipped s e f zs h
+moved_of s xs ys (after {e} {xs = us} {ys = vs} h) = moved_after s e us vs (moved_of (counted s e) us vs h)
+moved_of s xs ys (chained {ys = zs} h k) = moved_chained s xs ys zs (moved_of s xs zs h) (moved_of s zs ys k)
+
+-- Chains.
+
+abbrev there : (ℕ → ℕ) → List Link → List Link
+there to links = map (λ (link : Link). record { place = to link.place; rule = link.rule }) links
+
+next_moved : (s : ℕ → ℕ) (xs ys : List Cause) (m : Moved s xs ys) (before : ℕ) (link : Link) → IsNext xs before link → IsNext ys (m.to before) (record { place = m.to link.place; rule = link.rule })
+next_moved s xs ys m before link h =
+    let d = h.0 in
+    let l : before < length xs = (let a : before < link.place = d.before in let b : link.place < length xs = d.within in omega (arith, a, b)) in
+    let q = same_rule s xs ys m before link.place l d.within in
+    (record { before = m.order before link.place d.before d.within d.by_rule; within = m.within link.place d.within; by_rule = λ z. d.by_rule (q ∙ z) }, h.1 ∙ q)
+
+linked_moved : (s : ℕ → ℕ) (xs ys : List Cause) (m : Moved s xs ys) (before : ℕ) (links : List Link) → IsLinked xs before links → IsLinked ys (m.to before) (there m.to links)
+linked_moved s xs ys m before [] h = tt
+linked_moved s xs ys m before (link ∷ links) h = (next_moved s xs ys m before link h.0, linked_moved s xs ys m link.place links h.1)
+
+linked_named : (xs ys : List Cause) (m : Moved (λ n. 0) xs ys) (before : ℕ) (links : List Link) → IsLinked xs before links → links_by_events xs links ≡ links_by_events ys (there m.to links)
+linked_named xs ys m before [] h = refl
+linked_named xs ys m before (link ∷ links) h =
+    ap₂ (λ (a : Cause × List ℕ) (b : List ((Cause × List ℕ) × ℕ)). (a, link.rule) ∷ b) (m.alike link.place h.0.0.within) (linked_named xs ys m link.place links h.1)
+
+-- a chain of the one list is one of the other, of the same steps
+abbrev pub Again : List Cause → List Cause → List Link → Type 0
+Again xs ys links = (chain : List Link) × IsChain ys chain × (links_by_events xs links ≡ links_by_events ys chain)
+
+pub chain_again : (xs ys : List Cause) (links : List Link) → Shuffled xs ys → IsChain xs links → Again xs ys links
+chain_again xs ys [] h c = absurd c
+chain_again xs ys (link ∷ links) h c =
+    let m = moved_of (λ n. 0) xs ys h in (
+      there m.to (link ∷ links),
+      (m.within link.place c.0, c.1, linked_moved (λ n. 0) xs ys m link.place links c.2),
+      ap₂ (λ (a : Cause × List ℕ) (b : List ((Cause × List ℕ) × ℕ)). (a, link.rule) ∷ b) (m.alike link.place c.0) (linked_named xs ys m link.place links c.2),
+    )
+
+pub equivalent_chains : (c last now : List NodeRecord) (es fs : List Event) (ts us : List (Cause × Told)) (links : List Link) → run c es ≡ Some (last, ts) → run c fs ≡ Some (now, us) → AreEquivalent c es fs
+    → IsChain (causes ts) links → Again (causes ts) (causes us) links
+equivalent_chains c last now es fs ts us links is so h k =
+    chain_again (causes ts) (causes us) links (shuffled_by c last now es fs ts us is so h) k
+
+-- ---- Rollbacks of lists that differ by swaps of neighbours that are apart.
+
+any_joined : (m k : ℕ → Bool) (ns : List ℕ) → list_any k ns ≡ false → list_any (λ n. m n || k n) ns ≡ list_any m ns
+any_joined m k [] f = refl
+any_joined m k (n ∷ ns) f =
+    let p : (k n ≡ false) × (list_any k ns ≡ false) = or_parts (k n) (list_any k ns) f in
+    ap (λ z. (m n || z) || list_any (λ i. m i || k i) ns) p.0 ∙ ap (λ z. z || list_any (λ i. m i || k i) ns) (or_false (m n)) ∙ ap (λ z. m n || z) (any_joined m k ns p.1)
+  where
+    or_false : (b : Bool) → (b || false) ≡ b
+    or_false true = refl
+    or_false false = refl
+
+-- an event is dropped, or kept, whether one that is apart from it comes before it or not
+is_dropped : (ℕ → Bool) → (ℕ → ℕ) → (ℕ → ℕ → Bool) → Cause → Bool
+is_dropped m c cut e = meets m e || is_cut c cut e
+
+same_cut : (c d : ℕ → ℕ) (cut : ℕ → ℕ → Bool) (marks : ℕ → Bool) (ns : List ℕ) → ((n : ℕ) → marks n ≡ false → d n ≡ c n) → list_any marks ns ≡ false → list_any (λ n. cut n (d n + 1)) ns ≡ list_any (λ n. cut n (c n + 1)) ns
+same_cut c d cut marks [] h f = refl
+same_cut c d cut marks (n ∷ ns) h f =
+    let p : (marks n ≡ false) × (list_any marks ns ≡ false) = or_parts (marks n) (list_any marks ns) f in
+    ap (λ (z : ℕ). cut n (z + 1) || list_any (λ i. cut i (d i + 1)) ns) (h n p.0) ∙ ap (λ z. cut n (c n + 1) || z) (same_cut c d cut marks ns h p.1)
+
+dropped_marked : (m : ℕ → Bool) (c : ℕ → ℕ) (cut : ℕ → ℕ → Bool) (e f : Cause) → meets (cause_touches e) f ≡ false → is_dropped (λ n. m n || cause_touches e n) c cut f ≡ is_dropped m c cut f
+unfolding is_dropped
+dropped_marked m c cut e f free = ap (λ z. z || is_cut c cut f) (any_joined m (cause_touches e) _ free)
+
+dropped_counted : (m : ℕ → Bool) (c : ℕ → ℕ) (cut : ℕ → ℕ → Bool) (e f : Cause) → meets (cause_touches e) f ≡ false → is_dropped m (counted c e) cut f ≡ is_dropped m c cut f
+unfolding is_dropped
+dropped_counted m c cut e f free =
+    ap (λ z. meets m f || z) (same_cut c (counted c e) cut (cause_touches e) (cause_nodes f) (λ n g. cond-false (cause_touches e n) (c n + 1) (c n) g) (touched_free (cause_touches e) f free))
+
+dropped_is : (m : ℕ → Bool) (c : ℕ → ℕ) (cut : ℕ → ℕ → Bool) (e : Cause) (es : List Cause) → is_dropped m c cut e ≡ true → walk m c cut (e ∷ es) ≡ walk (λ n. m n || cause_touches e n) c cut es
+unfolding is_dropped
+dropped_is m c cut e es t = walk-dropped m c cut e es t
+
+kept_is : (m : ℕ → Bool) (c : ℕ → ℕ) (cut : ℕ → ℕ → Bool) (e : Cause) (es : List Cause) → is_dropped m c cut e ≡ false → walk m c cut (e ∷ es) ≡ e ∷ walk m (counted c e) cut es
+unfolding is_dropped
+kept_is m c cut e es f = walk-kept m c cut e es f
+
+by_paths : (xs ys us vs : List Cause) → xs ≡ us → ys ≡ vs → Shuffled us vs → Shuffled xs ys
+by_paths xs ys us vs p q h = subst (λ z. Shuffled z ys) (sym p) (subst (λ z. Shuffled us z) (sym q) h)
+
+walk_flipped : (m : ℕ → Bool) (c : ℕ → ℕ) (cut : ℕ → ℕ → Bool) (e f : Cause) (zs : List Cause) → AreApart e f → Shuffled (walk m c cut (e ∷ f ∷ zs)) (walk m c cut (f ∷ e ∷ zs))
+walk_flipped m c cut e f zs h = ⊎_elim
+    (λ t. ⊎_elim
+    (λ u. by_paths _ _ _ _ (dropped_is m c cut e (f ∷ zs) t ∙ dropped_is (λ n. m n || cause_touches e n) c cut f zs (dropped_marked m c cut e f ef ∙ u) ∙ ap (λ z. walk z c cut zs) (fun_ext (λ n. or-swap (m n) (cause_touches e n) (cause_touches f n))))
+    (dropped_is m c cut f (e ∷ zs) u ∙ dropped_is (λ n. m n || cause_touches f n) c cut e zs (dropped_marked m c cut f e fe ∙ t)) stays)
+    (λ v. by_paths _ _ _ _ (dropped_is m c cut e (f ∷ zs) t ∙ kept_is (λ n. m n || cause_touches e n) c cut f zs (dropped_marked m c cut e f ef ∙ v))
+    (kept_is m c cut f (e ∷ zs) v ∙ ap (λ z. f ∷ z) (dropped_is m (counted c f) cut e zs (dropped_counted m c cut f e fe ∙ t))) stays)
+    (cases_Bool (is_dropped m c cut f)))
+    (λ s. ⊎_elim
+    (λ u. by_paths _ _ _ _ (kept_is m c cut e (f ∷ zs) s ∙ ap (λ z. e ∷ z) (dropped_is m (counted c e) cut f zs (dropped_counted m c cut e f ef ∙ u)))
+    (dropped_is m c cut f (e ∷ zs) u ∙ kept_is (λ n. m n || cause_touches f n) c cut e zs (dropped_marked m c cut f e fe ∙ s)) stays)
+    (λ v. by_paths _ _ _ _ (kept_is m c cut e (f ∷ zs) s ∙ ap (λ z. e ∷ z) (kept_is m (counted c e) cut f zs (dropped_counted m c cut e f ef ∙ v)))
+    (kept_is m c cut f (e ∷ zs) v ∙ ap (λ z. f ∷ z) (kept_is m (counted c f) cut e zs (dropped_counted m c cut f e fe ∙ s)) ∙ ap (λ z. f ∷ e ∷ walk m z cut zs) (sym (counted_both c e f))) (flipped h))
+    (cases_Bool (is_dropped m c cut f)))
+    (cases_Bool (is_dropped m c cut e))
+  where
+    ef : meets (cause_touches e) f ≡ false
+    ef = apart_free e f h
+
+    fe : meets (cause_touches f) e ≡ false
+    fe = apart_free f e (AreApart-sym e f h)
+
+walk_shuffled : (m : ℕ → Bool) (c : ℕ → ℕ) (cut : ℕ → ℕ → Bool) (xs ys : List Cause) → Shuffled xs ys → Shuffled (walk m c cut xs) (walk m c cut ys)
+walk_shuffled m c cut xs ys stays = stays
+walk_shuffled m c cut xs ys (flipped {e} {f} {xs = zs} h) = walk_flipped m c cut e f zs h
+walk_shuffled m c cut xs ys (after {e} {xs = us} {ys = vs} h) = ⊎_elim
+    (λ t. by_paths _ _ _ _ (dropped_is m c cut e us t) (dropped_is m c cut e vs t) (walk_shuffled (λ n. m n || cause_touches e n) c cut us vs h))
+    (λ f. by_paths _ _ _ _ (kept_is m c cut e us f) (kept_is m c cut e vs f) (after (walk_shuffled m (counted c e) cut us vs h)))
+    (cases_Bool (is_dropped m c cut e))
+walk_shuffled m c cut xs ys (chained {ys = zs} h k) = chained (walk_shuffled m c cut xs zs h) (walk_shuffled m c cut zs ys k)
+
+-- a rollback of one step leaves such lists again
+pub rewound_shuffled : (xs ys : List Cause) (n k : ℕ) → Shuffled xs ys → Shuffled (rewound_list xs n k) (rewound_list ys n k)
+rewound_shuffled xs ys n k h =
+    by_paths _ _ _ _ (sym (rewound_walk (λ i. 0) n k xs k (omega arith))) (sym (rewound_walk (λ i. 0) n k ys k (omega arith))) (walk_shuffled nowhere (λ i. 0) (single n k) xs ys h)
+
+pub all_shuffled : (steps : List (ℕ × ℕ)) (xs ys : List Cause) → Shuffled xs ys → Shuffled (rewound_all xs steps) (rewound_all ys steps)
+all_shuffled [] xs ys h = h
+all_shuffled (step ∷ steps) xs ys h = all_shuffled steps (rewound_list xs step.0 step.1) (rewound_list ys step.0 step.1) (rewound_shuffled xs ys step.0 step.1 h)
+
+-- and what is left runs
+rest_made : (c : List NodeRecord) (xs : List Cause) (o : Option ℕ) → Made c xs → Made c (rest_from xs o)
+rest_made c xs None m = m
+rest_made c xs (Some i) m =
+    let r = run_made c xs m in
+    let left = run_rest c (events_in xs) i r.last r.told r.run_is in
+    let made = made_of c left.0 (events_in (rest (causes r.told) i)) _ left.1 in
+    subst (Made c) (causes_without (dependents (causes r.told) i) r.told ∙ ap (λ z. rest z i) r.same) made.0
+
+pub all_made : (c : List NodeRecord) (steps : List (ℕ × ℕ)) (xs : List Cause) → Made c xs → Made c (rewound_all xs steps)
+all_made c [] xs m = m
+all_made c (step ∷ steps) xs m = all_made c steps (rewound_list xs step.0 step.1) (rest_made c xs (place_of xs step.0 step.1) m)
+
+pub rolled_back : (c last now : List NodeRecord) (es fs : List Event) (ts us : List (Cause × Told)) → run c es ≡ Some (last, ts) → run c fs ≡ Some (now, us) → AreEquivalent c es fs
+    → (steps : List (ℕ × ℕ)) → AreEquivalent c (events_in (rewound_all (causes ts) steps)) (events_in (rewound_all (causes us) steps))
+rolled_back c last now es fs ts us is so h steps =
+    (made_shuffled c (rewound_all (causes ts) steps) (rewound_all (causes us) steps)
+    (all_shuffled steps (causes ts) (causes us) (shuffled_by c last now es fs ts us is so h))
+    (all_made c steps (causes ts) (made_of c last es ts is).0)).0
+
+-- such lists are as long, and each node makes as many steps in them
+pub length_shuffled : (xs ys : List Cause) → Shuffled xs ys → length xs ≡ length ys
+length_shuffled xs ys stays = refl
+length_shuffled xs ys (flipped {e} {f} {xs = zs} h) = refl
+length_shuffled xs ys (after {e} {xs = us} {ys = vs} h) = ap suc (length_shuffled us vs h)
+length_shuffled xs ys (chained {ys = zs} h k) = length_shuffled xs zs h ∙ length_shuffled zs ys k
+
+pub touching_shuffled : (n : ℕ) (xs ys : List Cause) → Shuffled xs ys → touching n xs ≡ touching n ys
+touching_shuffled n xs ys stays = refl
+touching_shuffled n xs ys (flipped {e} {f} {xs = zs} h) = two _ _ _ _ _ _ _ (touching-cons n e (f ∷ zs)) (touching-cons n f zs) (touching-cons n f (e ∷ zs)) (touching-cons n e zs)
+  where
+    two : (a b c d e f g : ℕ) → a ≡ b + c → c ≡ d + e → f ≡ d + g → g ≡ b + e → a ≡ f
+    two a b c d e f g p q r s = omega arith
+touching_shuffled n xs ys (after {e} {xs = us} {ys = vs} h) =
+    touching-cons n e us ∙ ap (λ (z : ℕ). cond (cause_touches e n) 1 0 + z) (touching_shuffled n us vs h) ∙ sym (touching-cons n e vs)
+touching_shuffled n xs ys (chained {ys = zs} h k) = touching_shuffled n xs zs h ∙ touching_shuffled n zs ys k
+
+-- a step stands in both or in neither
+pub place_shuffled : (n k : ℕ) (xs ys : List Cause) → Shuffled xs ys → is_some (place_of xs n k) ≡ is_some (place_of ys n k)
+place_shuffled n zero xs ys h = ap is_some (place-zero xs n) ∙ sym (ap is_some (place-zero ys n))
+place_shuffled n (suc k) xs ys h = place_stands xs n k ∙ ap (nat_lt k) (touching_shuffled n xs ys h) ∙ sym (place_stands ys n k)
