@@ -1,45 +1,47 @@
-//! The moves of an editor that go forward, over a program with calls and one that stores.
+//! The moves of an editor, over a program with calls and one that stores, and where the words of a line are.
 
-use crate::asserts::same;
+use crate::common::{CALLS, begun, each_same, same};
 use ga_adapter::{Spot, Variable};
 use ga_breakpoints::{
     Breakpoint, Comparison, Grain, Halt, Halts, HitCount, Stepping, ValueTest, Watched, Went,
-    breakpoint_of_address, breakpoint_of_line, go_on, kept_hits, reverse_to, step_back_line,
-    step_on,
+    breakpoint_of_address, breakpoint_of_line, go_on, kept_hits, reverse_to, step_back,
+    step_back_line, step_on,
 };
 use ga_grid::NodeId;
 use ga_lab::Lab;
-use ga_notes::{Notes, notes_of};
+use ga_notes::{Notes, SlotWord};
 use ga_search::Schedule;
-use ga_source::assemble;
-use std::alloc::Global;
 use std::process::Abort;
 use std::test::Fail;
-
-/// Cell 00 holds `@p call double`, 02 `drop jump main`, 03 `call quad`, 04 `2* ;`, 05 `dup + dup +`, 06 `;`.
-const CALLS: &[u8] =
-    b"node 000\n: main\n  5 double drop\n  main ;\n: double\n  quad\n  2* ;\n: quad\n  dup +\n  dup + ;\n";
 
 /// Cell 00 holds `@p a! @p .`, 03 `! jump main`.
 const STORES: &[u8] = b"node 000\n: main\n  9 a! 7 ! main ;\n";
 
-/// The lab of a source before any event, and what the source says of its cells.
-fn begun(rt: &impl Abort, alloc: Global, source: &[u8]) -> Result<(Lab, Notes), Fail> {
-    let Ok(assembled) = assemble(alloc, source) else {
-        panic!(rt; "assembles");
-    };
-    let notes = notes_of(alloc, source, assembled.programs.as_slice())?;
-    let lab = Lab::new(alloc, assembled.chip, 1000)?;
-    Ok((lab, notes))
+/// What ends a run: each hit of these, or a stop.
+fn each_hit<'b>(lab: &Lab, breakpoints: &'b [Breakpoint]) -> Halts<'b> {
+    Halts {
+        breakpoints,
+        stops: true,
+        tally: kept_hits(lab, &[]),
+    }
 }
+
+/// A breakpoint of node 000.
+fn watching(watched: Watched) -> Breakpoint {
+    Breakpoint {
+        node: NodeId::new(0),
+        watched,
+        condition: None,
+        hits: None,
+    }
+}
+
+/// The second `dup` of `quad` is come to.
+const SECOND_DUP: Watched = Watched::Comes(Spot { cell: 5, slot: 2 });
 
 /// A move of node 000 by lines, with no breakpoint, is at its end after so many events.
 fn moves(rt: &impl Abort, lab: &mut Lab, notes: &Notes, mut by: Stepping, wanted: u64) {
-    let halts = Halts {
-        breakpoints: &[],
-        stops: true,
-        tally: kept_hits(lab, &[]),
-    };
+    let halts = each_hit(lab, &[]);
     let went = step_on(lab, Schedule::in_rounds(), &mut by, notes, halts, 100);
     same(rt, &went.events, &wanted);
     same(rt, &is_moved(went), &true);
@@ -63,7 +65,7 @@ fn hit_by(went: Went) -> Option<usize> {
 #[test]
 fn lines_are_stepped_in(rt: HostRuntime) -> Result<(), Fail> {
     let node = NodeId::new(0);
-    let (mut lab, notes) = begun(&rt, rt.alloc(), CALLS)?;
+    let (mut lab, notes) = begun(&rt, rt.alloc(), CALLS, 0)?;
     let line = Stepping::step_in(node, Grain::Line);
     // To line 6 by the call, to 9 by the next, to 10 by `dup`, to 7 by the return, and round to line 3.
     moves(&rt, &mut lab, &notes, line, 3);
@@ -86,7 +88,7 @@ fn lines_are_stepped_in(rt: HostRuntime) -> Result<(), Fail> {
 #[test]
 fn calls_are_stepped_out_of(rt: HostRuntime) -> Result<(), Fail> {
     let node = NodeId::new(0);
-    let (mut lab, notes) = begun(&rt, rt.alloc(), CALLS)?;
+    let (mut lab, notes) = begun(&rt, rt.alloc(), CALLS, 0)?;
     same(&rt, &Stepping::step_out(&lab, node), &None);
     moves(
         &rt,
@@ -112,24 +114,14 @@ fn calls_are_stepped_out_of(rt: HostRuntime) -> Result<(), Fail> {
 
 #[test]
 fn slices_stop_at_a_breakpoint(rt: HostRuntime) -> Result<(), Fail> {
-    let node = NodeId::new(0);
-    let (mut lab, notes) = begun(&rt, rt.alloc(), CALLS)?;
+    let (mut lab, notes) = begun(&rt, rt.alloc(), CALLS, 0)?;
     let Some(on_line) = breakpoint_of_line(&notes, 10) else {
         panic!(&rt; "line 10 has code");
     };
-    let second_dup = Breakpoint {
-        node,
-        watched: Watched::Comes(Spot { cell: 5, slot: 2 }),
-        condition: None,
-        hits: None,
-    };
-    same(&rt, &on_line.breakpoint, &second_dup);
+    same(&rt, &on_line.breakpoint, &watching(SECOND_DUP));
     same(&rt, &on_line.line, &10);
-    let halts = Halts {
-        breakpoints: &[on_line.breakpoint],
-        stops: true,
-        tally: kept_hits(&lab, &[]),
-    };
+    let breakpoints = [on_line.breakpoint];
+    let halts = each_hit(&lab, &breakpoints);
     let slice = go_on(&mut lab, Schedule::greedily(), halts, 5);
     same(&rt, &slice.halt, &Halt::Cut);
     let hit = go_on(&mut lab, slice.schedule, halts, 100);
@@ -143,23 +135,18 @@ fn slices_stop_at_a_breakpoint(rt: HostRuntime) -> Result<(), Fail> {
 #[test]
 fn each_third_hit_is_stopped_at(rt: HostRuntime) -> Result<(), Fail> {
     let node = NodeId::new(0);
-    let (mut lab, _) = begun(&rt, rt.alloc(), CALLS)?;
+    let (mut lab, _) = begun(&rt, rt.alloc(), CALLS, 0)?;
     let ten = ValueTest {
         variable: Variable::DataWord(0),
         comparison: Comparison::Equal,
         number: 10,
     };
     let third = [Breakpoint {
-        node,
-        watched: Watched::Comes(Spot { cell: 5, slot: 2 }),
         condition: Some(ten),
         hits: Some(HitCount::Each(3)),
+        ..watching(SECOND_DUP)
     }];
-    let mut halts = Halts {
-        breakpoints: &third,
-        stops: true,
-        tally: kept_hits(&lab, &third),
-    };
+    let mut halts = each_hit(&lab, &third);
     // The second `dup` is come to by event 8, and then by each 18th.
     let hit = go_on(&mut lab, Schedule::greedily(), halts, 100);
     same(&rt, &hit.events, &44);
@@ -175,21 +162,12 @@ fn each_third_hit_is_stopped_at(rt: HostRuntime) -> Result<(), Fail> {
 #[test]
 fn a_store_is_stopped_at(rt: HostRuntime) -> Result<(), Fail> {
     let node = NodeId::new(0);
-    let (mut lab, _) = begun(&rt, rt.alloc(), STORES)?;
-    let written = Breakpoint {
-        node,
-        watched: Watched::Writes(9),
-        condition: None,
-        hits: None,
-    };
+    let (mut lab, _) = begun(&rt, rt.alloc(), STORES, 0)?;
     let Some(main) = breakpoint_of_address(node, 0) else {
         panic!(&rt; "address 0 is a cell");
     };
-    let halts = Halts {
-        breakpoints: &[written, main],
-        stops: true,
-        tally: kept_hits(&lab, &[]),
-    };
+    let breakpoints = [watching(Watched::Writes(9)), main];
+    let halts = each_hit(&lab, &breakpoints);
     // The node stands at address 0 when loaded, and comes there by its first fetch.
     let first = go_on(&mut lab, Schedule::greedily(), halts, 100);
     same(&rt, &first.events, &1);
@@ -198,5 +176,50 @@ fn a_store_is_stopped_at(rt: HostRuntime) -> Result<(), Fail> {
     same(&rt, &hit.events, &6);
     same(&rt, &hit_by(hit), &Some(0));
     same(&rt, &lab.memory(node, 9).get(), &7);
+    Ok(())
+}
+
+#[test]
+fn steps_are_taken_back(rt: HostRuntime) -> Result<(), Fail> {
+    let alloc = rt.alloc();
+    let node = NodeId::new(0);
+    let (mut lab, notes) = begun(&rt, alloc, CALLS, 14)?;
+    // To the fetch of `2* ;`, then over the call of `quad` to that of its line, then before the call of `double`.
+    same(&rt, &step_back_line(&mut lab, &notes, node), &2);
+    same(&rt, &step_back_line(&mut lab, &notes, node), &9);
+    same(&rt, &step_back(&mut lab, node), &1);
+    same(&rt, &lab.steps(node), &2);
+    // Cell 05 has two lines: to its slot 2, and to the call of `quad`.
+    let (mut lab, notes) = begun(&rt, alloc, CALLS, 10)?;
+    same(&rt, &step_back_line(&mut lab, &notes, node), &2);
+    same(&rt, &step_back_line(&mut lab, &notes, node), &3);
+    let (mut lab, _) = begun(&rt, alloc, CALLS, 14)?;
+    let double = watching(Watched::Comes(Spot { cell: 3, slot: 0 }));
+    same(&rt, &reverse_to(&mut lab, node, &[double]), &11);
+    same(&rt, &reverse_to(&mut lab, node, &[double]), &3);
+    Ok(())
+}
+
+/// A long line, whose last word is in slot 3, and a cell of three slots.
+const LONG_LINE: &[u8] =
+    b"node 001\n  : main over over ( two of them ) over right\n b! !b main ;\n";
+
+/// Cell, first and last slot, line and column.
+fn found(word: Option<SlotWord>) -> Option<(u8, usize, usize, u32, u32)> {
+    let word = word?;
+    Some((word.cell, word.first, word.last, word.line, word.column))
+}
+
+// What is told of these words stands in the folder `sessions/explore` at the top.
+#[test]
+fn lines_have_words(rt: HostRuntime) -> Result<(), Fail> {
+    let (_, notes) = begun(&rt, rt.alloc(), LONG_LINE, 0)?;
+    let words = [
+        found(notes.first_word(1)),
+        found(notes.first_word(3)),
+        found(notes.first_word(4)),
+    ];
+    let wanted = [Some((0, 0, 0, 2, 10)), Some((2, 0, 0, 3, 2)), None];
+    each_same(&rt, &words, &wanted);
     Ok(())
 }

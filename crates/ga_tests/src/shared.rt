@@ -1,8 +1,10 @@
+//! A chip that threads share: what is told of the calls of a race, and what closing it makes of receipts.
+
 ghost use Rattle.std.specs.Prelude.{◌≡◌, ◌<◌, ◌^◌, All, IfOk, vec_len};
 
-use crate::asserts::same;
-use ga_fixtures::{load, sender, taker};
-use ga_grid::{Chip, NodeId};
+use crate::common::{PAIR, same};
+use ga_grid::NodeId;
+use ga_image::parse;
 use ga_shared::{
     Answer, Call, CloseFault, Closed, Entry, Free, Gate, Receipt, Seat, Shared, race,
     receipts_match,
@@ -11,21 +13,11 @@ use std::alloc::Global;
 use std::marker::Brand;
 use std::process::Abort;
 use std::sync::Wait;
-use std::sync::atomic::{AtomicBool, Ordering};
+use std::sync::atomic::{AtomicBool, AtomicU32, Ordering};
 use std::sync::ledger::{Blank, Ledger};
 use std::test::Fail;
 use std::thread;
 use std::thread::Threads;
-
-mod gates;
-
-/// The sender in node 000 and the taker in node 001.
-fn linked(alloc: Global) -> Result<Chip, Fail> {
-    let mut chip = Chip::new(alloc)?;
-    load(&mut chip, NodeId::new(0), sender(0x1d5, 0x2a));
-    load(&mut chip, NodeId::new(1), taker(0x1d5));
-    Ok(chip)
-}
 
 /// Four steps of node 000 for worker 0, and of node 001 for worker 1.
 fn two_lists(alloc: Global) -> Result<Vec<Vec<Call>>, Fail>
@@ -65,7 +57,7 @@ fn raced<G: Gate + Sync, R: Threads + Wait + Sync + AllocGlobal>(
 ) -> Result<Closed, Fail> {
     let alloc = rt.alloc();
     let lists = two_lists(alloc)?;
-    let closed = race(rt, alloc, linked(alloc)?, 1000000, lists, gate)?;
+    let closed = race(rt, alloc, parse(alloc, PAIR)?, 1000000, lists, gate)?;
     Ok(closed)
 }
 
@@ -75,6 +67,17 @@ fn close_always_disagrees(rt: HostRuntime) -> Result<(), Fail> {
     let closed = raced(&rt, &Free)?;
     counts(&rt, &closed, 8, 8, 8);
     Ok(())
+}
+
+/// Waits until a flag is up, and notes where that takes too many turns.
+fn hold(flag: &AtomicBool, has_failed: &AtomicBool) {
+    for _turn in 0..10000000u32 {
+        if flag.load(Ordering::SeqCst) {
+            return;
+        }
+        thread::yield_now();
+    }
+    has_failed.store(true, Ordering::SeqCst);
 }
 
 /// Holds call 1 of one worker until call 1 of the other is answered, and notes where that takes too many turns.
@@ -87,16 +90,9 @@ struct Holds {
 
 impl Gate for Holds {
     fn before(&self, worker: u32, call: u32) {
-        if worker != self.held || call != 1 {
-            return;
+        if worker == self.held && call == 1 {
+            hold(&self.is_answered, &self.has_failed);
         }
-        for _turn in 0..10000000u32 {
-            if self.is_answered.load(Ordering::SeqCst) {
-                return;
-            }
-            thread::yield_now();
-        }
-        self.has_failed.store(true, Ordering::SeqCst);
     }
 
     fn after(&self, worker: u32, call: u32) {
@@ -124,6 +120,113 @@ fn workers_take_turns(rt: HostRuntime) -> Result<(), Fail> {
     Ok(())
 }
 
+/// Counts what the first and the last of 16 workers tell: 2k behind call k, and 2k - 1 before its answer. Notes any other order.
+#[derive(Drop)]
+struct Told {
+    first: AtomicU32,
+    last: AtomicU32,
+    has_failed: AtomicBool,
+}
+
+impl Told {
+    fn tell(&self, worker: u32, call: u32, is_after: bool) {
+        let told = match worker {
+            0 => &self.first,
+            15 => &self.last,
+            _ => return,
+        };
+        let was = told.load(Ordering::SeqCst);
+        let is_due = if is_after {
+            call >= 1 && was == call.saturating_mul(2).saturating_sub(1)
+        } else {
+            call >= 1 && was == (call.saturating_sub(1)).saturating_mul(2)
+        };
+        if !is_due {
+            self.has_failed.store(true, Ordering::SeqCst);
+        }
+        told.store(was.saturating_add(1), Ordering::SeqCst);
+    }
+}
+
+impl Gate for Told {
+    fn before(&self, worker: u32, call: u32) {
+        self.tell(worker, call, false);
+    }
+
+    fn after(&self, worker: u32, call: u32) {
+        self.tell(worker, call, true);
+    }
+}
+
+#[test]
+fn gates_are_told_of_each_call(rt: HostRuntime) -> Result<(), Fail> {
+    let gate = Told {
+        first: AtomicU32::new(0),
+        last: AtomicU32::new(0),
+        has_failed: AtomicBool::new(false),
+    };
+    let alloc = rt.alloc();
+    let _closed = race(
+        &rt,
+        alloc,
+        parse(alloc, PAIR)?,
+        1000000,
+        sixteen_lists(alloc)?,
+        &gate,
+    )?;
+    assert!(rt; !gate.has_failed.load(Ordering::SeqCst));
+    same(&rt, &gate.first.load(Ordering::SeqCst), &240);
+    same(&rt, &gate.last.load(Ordering::SeqCst), &240);
+    Ok(())
+}
+
+/// Holds worker 1 until call 1 of worker 0 is told as made, and worker 0 there until worker 1 made its four calls.
+#[derive(Drop)]
+struct OneFirst {
+    is_told: AtomicBool,
+    is_done: AtomicBool,
+    has_failed: AtomicBool,
+}
+
+impl Gate for OneFirst {
+    fn before(&self, worker: u32, call: u32) {
+        if worker == 1 && call == 1 {
+            hold(&self.is_told, &self.has_failed);
+        }
+    }
+
+    fn after(&self, worker: u32, call: u32) {
+        if worker == 0 && call == 1 {
+            self.is_told.store(true, Ordering::SeqCst);
+            hold(&self.is_done, &self.has_failed);
+        }
+        if worker == 1 && call == 4 {
+            self.is_done.store(true, Ordering::SeqCst);
+        }
+    }
+}
+
+/// The workers of a log, call by call.
+fn is_log_of(rt: &impl Abort, closed: &Closed, workers: &[u32]) {
+    same(rt, &closed.log.len(), &workers.len());
+    for (entry, worker) in closed.log.iter().zip(workers) {
+        same(rt, &entry.worker, worker);
+    }
+}
+
+#[test]
+fn gates_are_told_after_the_call(rt: HostRuntime) -> Result<(), Fail> {
+    let gate = OneFirst {
+        is_told: AtomicBool::new(false),
+        is_done: AtomicBool::new(false),
+        has_failed: AtomicBool::new(false),
+    };
+    let closed = raced(&rt, &gate)?;
+    assert!(rt; !gate.has_failed.load(Ordering::SeqCst));
+    is_log_of(&rt, &closed, &[0, 1, 1, 1, 1, 0, 0, 0]);
+    Ok(())
+}
+
 /// A shared chip with two workers, of whom each made two steps of its node: 0, 1, 0, 1.
 fn after_four<L: Ledger, R: Wait>(
     rt: &R,
@@ -134,7 +237,7 @@ fn after_four<L: Ledger, R: Wait>(
     requires parts { blank.parts ≡ 2 }
     ensures { IfOk result (λ made. vec_len made.1 ≡ 2) }
 {
-    let (shared, mut seats) = Shared::<L>::new(alloc, blank, linked(alloc)?, 1000000, 2)?;
+    let (shared, mut seats) = Shared::<L>::new(alloc, blank, parse(alloc, PAIR)?, 1000000, 2)?;
     for place in 0..4usize {
         let number = place % 2;
         let node = NodeId::new(number as u8);

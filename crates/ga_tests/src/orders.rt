@@ -1,10 +1,10 @@
 //! Every order of small programs: servers that take words from whoever comes first, and clients that send them.
 
+use crate::common::lab_of;
 use ga_check::looking::check_looks;
 use ga_check::orders::{Bounds, check};
 use ga_check::tally::{EndKind, Fate, Stop, Tally};
 use ga_grid::NodeId;
-use ga_image::parse;
 use ga_lab::Lab;
 use ga_node::{Place, Wait};
 use ga_ports::Side;
@@ -85,8 +85,7 @@ const ENDLESS: &[u8] = b"ga144 1\nnode 000\np 000000\nram 00 010000\nend\n";
 
 // All orders of a program, or as many as may be met.
 fn orders(alloc: Global, image: &[u8], runs: u64) -> Result<Tally, Fail> {
-    let chip = parse(alloc, image)?;
-    let mut lab = Lab::new(alloc, chip, LIMIT)?;
+    let mut lab = lab_of(alloc, image, LIMIT)?;
     let tally = check(alloc, &mut lab, bounds(runs), 0)?;
     Ok(tally)
 }
@@ -101,8 +100,7 @@ fn bounds(runs: u64) -> Bounds {
 
 // The lab at the end of an order.
 fn at_end(alloc: Global, image: &[u8], asked: u64) -> Result<Lab, Fail> {
-    let chip = parse(alloc, image)?;
-    let mut lab = Lab::new(alloc, chip, LIMIT)?;
+    let mut lab = lab_of(alloc, image, LIMIT)?;
     let _cut = check(alloc, &mut lab, bounds(1000), asked).is_err();
     Ok(lab)
 }
@@ -166,6 +164,12 @@ fn ended(tally: &Tally, node: usize, fate: Fate) -> u64 {
     orders
 }
 
+fn each_ended(rt: &impl Abort, tally: &Tally, rows: &[(usize, Fate, u64)]) {
+    for (node, fate, wanted) in rows {
+        assert_eq!(rt; ended(tally, *node, *fate), *wanted);
+    }
+}
+
 // The numbers of the first order of each kind, and how many there are of it.
 fn told(alloc: Global, kinds: &[EndKind]) -> Result<Vec<(u64, u64)>, Fail> {
     let mut told = Vec::new(alloc);
@@ -182,8 +186,11 @@ fn ends_are_counted_by_kinds(rt: HostRuntime) -> Result<(), Fail> {
     let alloc = rt.alloc();
     let pair = orders(alloc, PAIR_2, 1000)?;
     assert_eq!(&rt; pair.kinds.len(), 2);
-    assert_eq!(&rt; ended(&pair, 19, Fate::Stopped(2)), 4u64);
-    assert_eq!(&rt; ended(&pair, 19, Fate::Quiet), 2u64);
+    each_ended(
+        &rt,
+        &pair,
+        &[(19, Fate::Stopped(2), 4), (19, Fate::Quiet, 2)],
+    );
     assert!(&rt; !pair.alike);
     for kind in &pair.kinds {
         let lab = at_end(alloc, PAIR_2, kind.first)?;
@@ -195,8 +202,7 @@ fn ends_are_counted_by_kinds(rt: HostRuntime) -> Result<(), Fail> {
         told(alloc, &lock.kinds)?,
         vec![in alloc; (1u64, 1u64), (2, 1)]?
     );
-    assert_eq!(&rt; ended(&lock, 101, Fate::Quiet), 2u64);
-    assert_eq!(&rt; ended(&lock, 19, Fate::Quiet), 1u64);
+    each_ended(&rt, &lock, &[(101, Fate::Quiet, 2), (19, Fate::Quiet, 1)]);
     Ok(())
 }
 
@@ -216,8 +222,7 @@ fn ends_on_one_chip_are_told(rt: HostRuntime) -> Result<(), Fail> {
 #[test]
 fn an_order_is_reached(rt: HostRuntime) -> Result<(), Fail> {
     let alloc = rt.alloc();
-    let chip = parse(alloc, SERVER_2X1)?;
-    let mut lab = Lab::new(alloc, chip, LIMIT)?;
+    let mut lab = lab_of(alloc, SERVER_2X1, LIMIT)?;
     for asked in [0u64, 3] {
         assert_eq!(&rt; check(alloc, &mut lab, bounds(1000), asked)?.asked, asked);
         assert_eq!(&rt; lab.counts().kept, 0u32);
@@ -235,8 +240,7 @@ fn an_order_is_reached(rt: HostRuntime) -> Result<(), Fail> {
 #[test]
 fn a_node_that_goes_on_for_ever_ends_by_its_bound(rt: HostRuntime) -> Result<(), Fail> {
     let alloc = rt.alloc();
-    let chip = parse(alloc, ENDLESS)?;
-    let mut lab = Lab::new(alloc, chip, LIMIT)?;
+    let mut lab = lab_of(alloc, ENDLESS, LIMIT)?;
     let bounds = Bounds {
         runs: 1000,
         choices: 100,
@@ -260,8 +264,7 @@ fn a_bound_is_told(rt: HostRuntime) -> Result<(), Fail> {
 
 // A lab on which the idle nodes of a program have come to rest.
 fn settled(alloc: Global, image: &[u8]) -> Result<Lab, Fail> {
-    let chip = parse(alloc, image)?;
-    let mut lab = Lab::new(alloc, chip, LIMIT)?;
+    let mut lab = lab_of(alloc, image, LIMIT)?;
     'nodes: for number in 0..144u8 {
         let node = NodeId::new(number);
         if lab.node(node).get(Place::P) >= 0x100 {
@@ -282,8 +285,7 @@ fn looked(alloc: Global, image: &[u8], runs: u64) -> Result<Tally, Fail> {
 fn a_look_is_told(rt: HostRuntime) -> Result<(), Fail> {
     let alloc = rt.alloc();
     for image in [POLL_1X1, TIMEOUT_3] {
-        let chip = parse(alloc, image)?;
-        let mut lab = Lab::new(alloc, chip, LIMIT)?;
+        let mut lab = lab_of(alloc, image, LIMIT)?;
         let tally = check(alloc, &mut lab, bounds(1000), 0)?;
         assert!(&rt; tally.looks);
         assert!(&rt; !tally.whole);
@@ -310,7 +312,7 @@ fn looks_are_choices(rt: HostRuntime) -> Result<(), Fail> {
         assert_eq!(&rt; (tally.orders, tally.alike), (orders, is_alike));
     }
     let tally = looked(alloc, TIMEOUT_10, 10_000)?;
-    assert_eq!(&rt; ended(&tally, 18, Fate::Writes), 1u64);
+    each_ended(&rt, &tally, &[(18, Fate::Writes, 1)]);
     Ok(())
 }
 
@@ -320,8 +322,7 @@ fn a_node_that_polls_stands_still(rt: HostRuntime) -> Result<(), Fail> {
     let tally = looked(alloc, POLL_NOBODY, 1000)?;
     assert_eq!(&rt; tally.orders, 1u64);
     assert!(&rt; tally.whole);
-    assert_eq!(&rt; ended(&tally, 19, Fate::Polls), 1u64);
-    assert_eq!(&rt; ended(&tally, 19, Fate::Quiet), 0u64);
+    each_ended(&rt, &tally, &[(19, Fate::Polls, 1), (19, Fate::Quiet, 0)]);
     Ok(())
 }
 

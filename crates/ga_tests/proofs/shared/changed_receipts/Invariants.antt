@@ -1,4 +1,4 @@
-use Rattle.ga_tests_asked.proofs.shared.changed_receipts.Given as goal
+use Rattle.ga_tests.proofs.shared.changed_receipts.Given as goal
 
 abbrev pub ghosts-log_of_four : goal.ghosts-log_of_four
 ghosts-log_of_four g a = record { name = a.blank.name; parts = a.blank.parts }
