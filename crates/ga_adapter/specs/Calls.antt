@@ -1,4 +1,4 @@
--- The calls from which a node did not come back (F18A Technology Reference DB001, return stack and opcodes; Flow.antt of ga_flow says of each
+-- The calls from which a node did not come back (F18A Technology Reference DB001, return stack and opcodes; Flow.antt of ga_event says of each
 -- step where the words come from that it leaves).
 use Rattle.std.specs.Prelude.{ℕ, zero, suc, ◌-◌, ◌%◌, ◌==◌, Bool, true, false, ◌&&◌, if◌then◌else◌, List, map, filter, Option, Some, None, option_map, unwrap_or}
 use Rattle.std.specs.List.{range_with_len, slice_get}

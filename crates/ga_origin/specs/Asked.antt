@@ -1,6 +1,6 @@
 -- What is asked for where a step is named: the value that it made, or else the one that it sent or was decided by. The rows are those of
 -- the opcode table of the F18A Technology Reference (DB001), in the order of the codes, as in Table.antt of ga_node and Flow.antt of
--- ga_flow.
+-- ga_event.
 use Rattle.std.specs.Prelude.{ℕ, zero, suc, ◌==◌, if◌then◌else◌, Option, Some, None, option_and_then}
 use Rattle.std.specs.List.{slice_get}
 use Rattle.ga_slots.specs.declared.op.Op.{Op}

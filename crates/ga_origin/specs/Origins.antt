@@ -1,5 +1,5 @@
 -- Which step made the value that stands in a part of a node: the newest that didn't just move it from part to part (F18A Technology
--- Reference DB001, opcodes; Flow.antt of ga_flow says of each where its values come from).
+-- Reference DB001, opcodes; Flow.antt of ga_event says of each where its values come from).
 use Rattle.std.specs.Prelude.{ℕ, zero, suc, ◌==◌, Bool, true, false, not, if◌then◌else◌, List, [], ◌∷◌, Option, Some, None, option_map, unwrap_or}
 use Rattle.std.specs.List.{slice_get}
 use Rattle.ga_node.specs.Record.{NodeRecord}

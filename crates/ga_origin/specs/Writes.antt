@@ -1,4 +1,4 @@
--- The steps of a node that wrote a cell of its RAM (F18A Technology Reference DB001, opcodes; Flow.antt of ga_flow says of each where
+-- The steps of a node that wrote a cell of its RAM (F18A Technology Reference DB001, opcodes; Flow.antt of ga_event says of each where
 -- the word comes from that then stands there).
 use Rattle.std.specs.Prelude.{ℕ, zero, suc, ◌+◌, Bool, true, not, if◌then◌else◌, Option, Some, None, option_map, slice_index}
 use Rattle.std.specs.List.{slice_get}

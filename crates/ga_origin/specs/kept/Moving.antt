@@ -1,5 +1,5 @@
 -- The part from which a step moved a value to another part of the node, where what is told of the step says so by itself, whatever stood
--- in the node (F18A Technology Reference DB001, opcodes, by their codes; Flow.antt of ga_flow has each row in full). Where it doesn't,
+-- in the node (F18A Technology Reference DB001, opcodes, by their codes; Flow.antt of ga_event has each row in full). Where it doesn't,
 -- none is named.
 use Rattle.std.specs.Prelude.{ℕ, ◌+◌, ◌-◌, ◌==◌, ◌||◌, nat_lt, if◌then◌else◌, Bool, true, false, not, Option, Some, None}
 use Rattle.ga_ports.specs.Address.{classified}

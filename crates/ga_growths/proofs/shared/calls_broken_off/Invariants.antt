@@ -1,4 +1,0 @@
-use Rattle.ga_growths.proofs.shared.calls_broken_off.Given as goal
-
-abbrev pub ghosts-opened : goal.ghosts-opened
-ghosts-opened g a = record { name = a.blank.name; parts = a.blank.parts }

@@ -1,0 +1,169 @@
+//! What a client of the Debug Adapter Protocol is shown, byte for byte, with the names that its schema has.
+
+use crate::common::{CALLS, begun, lab_of, same};
+use ga_adapter::{
+    Scope, SourceFile, Spot, cell_of_chip, chip_address, disassembled, frame_of, node_of_frame,
+    node_of_thread, open_calls, reference_of, referred, scopes, spot_behind, stack_trace,
+    thread_of, threads, variables,
+};
+use ga_grid::NodeId;
+use ga_responses::{asked_variable, evaluate, exception_info};
+use serde_json::Value;
+use std::alloc::{AllocError, Global};
+use std::process::Abort;
+use std::test::Fail;
+
+/// Asserts that a body was made, and its text.
+fn assert_body(rt: &impl Abort, alloc: Global, body: &Result<Value, AllocError>, wanted: &str) {
+    match body {
+        Ok(value) => match value.to_string(alloc) {
+            Ok(text) => assert_eq!(rt; text.as_str(), wanted),
+            Err(_) => assert!(rt; false),
+        },
+        Err(_) => assert!(rt; false),
+    }
+}
+
+/// Node 701 writes a word to the right.
+const WRITER: &[u8] =
+    b"ga144 1\nnode 701\np 000000\nram 00 004b12 0001d5 02aaaa 0089b2 010000\nend\n";
+
+#[test]
+fn numbers_mean_something(rt: HostRuntime) {
+    let node = NodeId::new(127);
+    same(&rt, &thread_of(node), &1701);
+    same(&rt, &node_of_thread(1701), &Some(node));
+    same(&rt, &node_of_thread(1018), &None);
+    same(&rt, &frame_of(node, 2), &2035);
+    same(&rt, &node_of_frame(2035), &Some((node, 2)));
+    same(&rt, &reference_of(node, Scope::Rom), &1022);
+    same(&rt, &referred(1022), &Some((node, Scope::Rom)));
+    same(&rt, &chip_address(node, 5), &0x701005);
+    same(&rt, &cell_of_chip(0x701005), &Some((node, 5)));
+    same(&rt, &cell_of_chip(0x0a1005), &None);
+}
+
+#[test]
+fn threads_are_shown(rt: HostRuntime) -> Result<(), Fail> {
+    let alloc = rt.alloc();
+    let lab = lab_of(alloc, WRITER, 100)?;
+    let body = threads(alloc, &lab, &[NodeId::new(0)]);
+    let wanted =
+        "{\"threads\":[{\"id\":1000,\"name\":\"000 runs\"},{\"id\":1701,\"name\":\"701 runs\"}]}";
+    assert_body(&rt, alloc, &body, wanted);
+    let body = exception_info(alloc, &lab, true, NodeId::new(127));
+    let wanted =
+        "{\"breakMode\":\"always\",\"description\":\"node 701 runs\",\"exceptionId\":\"stuck\"}";
+    assert_body(&rt, alloc, &body, wanted);
+    Ok(())
+}
+
+#[test]
+fn scopes_are_shown(rt: HostRuntime) {
+    let alloc = rt.alloc();
+    let wanted =
+        "{\"scopes\":[{\"expensive\":false,\"name\":\"Registers\",\"variablesReference\":1017},{\"expensive\":false,\"name\":\"Data stack\",\"variablesReference\":1018},{\"expensive\":false,\"name\":\"Return stack\",\"variablesReference\":1019},{\"expensive\":false,\"name\":\"Links\",\"variablesReference\":1020},{\"expensive\":true,\"indexedVariables\":64,\"name\":\"RAM\",\"variablesReference\":1021},{\"expensive\":true,\"indexedVariables\":64,\"name\":\"ROM\",\"variablesReference\":1022}]}";
+    assert_body(&rt, alloc, &scopes(alloc, NodeId::new(127)), wanted);
+}
+
+/// What is shown of node 701: the scope, the first variable and how many, and the body.
+const VARIABLES: [(Scope, u64, u64, &str); 2] = [
+    (
+        Scope::Ram,
+        1,
+        2,
+        "{\"variables\":[{\"memoryReference\":\"0x701001\",\"name\":\"[01]\",\"value\":\"0001d5 = 469\",\"variablesReference\":0},{\"memoryReference\":\"0x701002\",\"name\":\"[02]\",\"value\":\"02aaaa = 174762 = -87382\",\"variablesReference\":0}]}",
+    ),
+    (
+        Scope::Registers,
+        8,
+        0,
+        "{\"variables\":[{\"name\":\"i\",\"value\":\"000000 = 0\",\"variablesReference\":0},{\"name\":\"slot\",\"value\":\"4, a fetch is due\",\"variablesReference\":0},{\"name\":\"carry\",\"value\":\"0\",\"variablesReference\":0},{\"name\":\"io\",\"value\":\"015555 = 87381\",\"variablesReference\":0}]}",
+    ),
+];
+
+#[test]
+fn variables_are_shown(rt: HostRuntime) -> Result<(), Fail> {
+    let alloc = rt.alloc();
+    let lab = lab_of(alloc, WRITER, 100)?;
+    for (scope, start, count, wanted) in VARIABLES {
+        let body = variables(alloc, &lab, false, (NodeId::new(127), scope), start, count);
+        assert_body(&rt, alloc, &body, wanted);
+    }
+    Ok(())
+}
+
+#[test]
+fn a_register_is_asked_for(rt: HostRuntime) -> Result<(), Fail> {
+    let alloc = rt.alloc();
+    let lab = lab_of(alloc, WRITER, 100)?;
+    let wanted = "{\"result\":\"00015d = 349\",\"variablesReference\":0}";
+    match asked_variable(alloc, "b")? {
+        Some(one) => assert_body(
+            &rt,
+            alloc,
+            &evaluate(alloc, &lab, false, NodeId::new(0), one),
+            wanted,
+        ),
+        None => assert!(&rt; false),
+    }
+    same(&rt, &asked_variable(alloc, "[0g]")?.is_some(), &false);
+    Ok(())
+}
+
+const FILE: SourceFile<'static> = SourceFile {
+    name: "calls.f18",
+    path: "/calls.f18",
+};
+
+/// The calls in which node 000 stands after seven steps.
+const FRAMES: &str =
+    "{\"stackFrames\":[{\"column\":7,\"id\":1,\"instructionPointerReference\":\"0x000005\",\"line\":9,\"name\":\"000 quad\",\"source\":{\"name\":\"calls.f18\",\"path\":\"/calls.f18\"}},{\"column\":3,\"id\":2,\"instructionPointerReference\":\"0x000003\",\"line\":6,\"name\":\"000 double\",\"source\":{\"name\":\"calls.f18\",\"path\":\"/calls.f18\"}},{\"column\":5,\"id\":3,\"instructionPointerReference\":\"0x000000\",\"line\":3,\"name\":\"000 main\",\"source\":{\"name\":\"calls.f18\",\"path\":\"/calls.f18\"}}],\"totalFrames\":3}";
+
+/// The one frame of a node that nothing was loaded into.
+const OUTSIDE: &str =
+    "{\"stackFrames\":[{\"column\":0,\"id\":17,\"line\":0,\"name\":\"001 outside its memory\",\"presentationHint\":\"subtle\"}],\"totalFrames\":1}";
+
+#[test]
+fn frames_are_shown(rt: HostRuntime) -> Result<(), Fail> {
+    let (lab, notes) = begun(&rt, rt.alloc(), CALLS, 7)?;
+    for (node, wanted) in [(NodeId::new(0), FRAMES), (NodeId::new(1), OUTSIDE)] {
+        let body = stack_trace(rt.alloc(), FILE, &lab, &notes, node, 0, 0);
+        assert_body(&rt, rt.alloc(), &body, wanted);
+    }
+    Ok(())
+}
+
+#[test]
+fn returned_calls_are_closed(rt: HostRuntime) -> Result<(), Fail> {
+    let node = NodeId::new(0);
+    let (lab, _) = begun(&rt, rt.alloc(), CALLS, 14)?;
+    same(
+        &rt,
+        &spot_behind(&lab, node, 0),
+        &Some(Spot { cell: 0, slot: 0 }),
+    );
+    let calls = open_calls(&lab, node);
+    same(&rt, &calls.len(), &1);
+    match calls.first() {
+        Some(call) => {
+            same(&rt, &call.step, &3);
+            // `call` stands in slot 1 of cell 0.
+            same(&rt, &call.at, &Some(Spot { cell: 0, slot: 1 }));
+        }
+        None => assert!(&rt; false),
+    }
+    let (lab, _) = begun(&rt, rt.alloc(), CALLS, 15)?;
+    same(&rt, &open_calls(&lab, node).len(), &0);
+    Ok(())
+}
+
+#[test]
+fn instructions_are_shown(rt: HostRuntime) -> Result<(), Fail> {
+    let (lab, notes) = begun(&rt, rt.alloc(), CALLS, 0)?;
+    let body = disassembled(rt.alloc(), FILE, &lab, &notes, NodeId::new(0), 4095, 4);
+    let wanted =
+        "{\"instructions\":[{\"address\":\"0x000fff\",\"instruction\":\"no memory\",\"presentationHint\":\"invalid\"},{\"address\":\"0x000000\",\"instruction\":\"@p call double\",\"instructionBytes\":\"005603\",\"line\":3,\"location\":{\"name\":\"calls.f18\",\"path\":\"/calls.f18\"},\"symbol\":\"main\"},{\"address\":\"0x000001\",\"instruction\":\"word 5\",\"instructionBytes\":\"000005\",\"line\":3,\"location\":{\"name\":\"calls.f18\",\"path\":\"/calls.f18\"}},{\"address\":\"0x000002\",\"instruction\":\"drop jump main\",\"instructionBytes\":\"03b700\",\"line\":3,\"location\":{\"name\":\"calls.f18\",\"path\":\"/calls.f18\"}}]}";
+    assert_body(&rt, rt.alloc(), &body, wanted);
+    Ok(())
+}

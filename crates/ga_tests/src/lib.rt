@@ -1,0 +1,22 @@
+//! The tests of what no session shows: calls that no session makes, a chip that threads share, each order of small programs, texts that are
+//! read and refused, and what an editor is shown. What sessions show stands in the folder `sessions` at the top.
+#![tactic(auto)]
+
+#[cfg(test)]
+mod adapter;
+#[cfg(test)]
+mod common;
+#[cfg(test)]
+mod events;
+#[cfg(test)]
+mod image;
+#[cfg(test)]
+mod messages;
+#[cfg(test)]
+mod moves;
+#[cfg(test)]
+mod orders;
+#[cfg(test)]
+mod shared;
+#[cfg(test)]
+mod streams;

@@ -1,0 +1,225 @@
+//! The moves of an editor, over a program with calls and one that stores, and where the words of a line are.
+
+use crate::common::{CALLS, begun, each_same, same};
+use ga_adapter::{Spot, Variable};
+use ga_breakpoints::{
+    Breakpoint, Comparison, Grain, Halt, Halts, HitCount, Stepping, ValueTest, Watched, Went,
+    breakpoint_of_address, breakpoint_of_line, go_on, kept_hits, reverse_to, step_back,
+    step_back_line, step_on,
+};
+use ga_grid::NodeId;
+use ga_lab::Lab;
+use ga_notes::{Notes, SlotWord};
+use ga_search::Schedule;
+use std::process::Abort;
+use std::test::Fail;
+
+/// Cell 00 holds `@p a! @p .`, 03 `! jump main`.
+const STORES: &[u8] = b"node 000\n: main\n  9 a! 7 ! main ;\n";
+
+/// What ends a run: each hit of these, or a stop.
+fn each_hit<'b>(lab: &Lab, breakpoints: &'b [Breakpoint]) -> Halts<'b> {
+    Halts {
+        breakpoints,
+        stops: true,
+        tally: kept_hits(lab, &[]),
+    }
+}
+
+/// A breakpoint of node 000.
+fn watching(watched: Watched) -> Breakpoint {
+    Breakpoint {
+        node: NodeId::new(0),
+        watched,
+        condition: None,
+        hits: None,
+    }
+}
+
+/// The second `dup` of `quad` is come to.
+const SECOND_DUP: Watched = Watched::Comes(Spot { cell: 5, slot: 2 });
+
+/// A move of node 000 by lines, with no breakpoint, is at its end after so many events.
+fn moves(rt: &impl Abort, lab: &mut Lab, notes: &Notes, mut by: Stepping, wanted: u64) {
+    let halts = each_hit(lab, &[]);
+    let went = step_on(lab, Schedule::in_rounds(), &mut by, notes, halts, 100);
+    same(rt, &went.events, &wanted);
+    same(rt, &is_moved(went), &true);
+}
+
+fn is_moved(went: Went) -> bool {
+    match went.halt {
+        Halt::Moved(_) => true,
+        _ => false,
+    }
+}
+
+/// The place of the breakpoint by which a move ended.
+fn hit_by(went: Went) -> Option<usize> {
+    match went.halt {
+        Halt::Hit { which, .. } => Some(which),
+        _ => None,
+    }
+}
+
+#[test]
+fn lines_are_stepped_in(rt: HostRuntime) -> Result<(), Fail> {
+    let node = NodeId::new(0);
+    let (mut lab, notes) = begun(&rt, rt.alloc(), CALLS, 0)?;
+    let line = Stepping::step_in(node, Grain::Line);
+    // To line 6 by the call, to 9 by the next, to 10 by `dup`, to 7 by the return, and round to line 3.
+    moves(&rt, &mut lab, &notes, line, 3);
+    moves(&rt, &mut lab, &notes, line, 2);
+    moves(&rt, &mut lab, &notes, line, 3);
+    moves(&rt, &mut lab, &notes, line, 4);
+    // The node is taken back over the call of `quad`.
+    same(&rt, &step_back_line(&mut lab, &notes, node), &9);
+    moves(&rt, &mut lab, &notes, Stepping::next(node, Grain::Line), 9);
+    moves(
+        &rt,
+        &mut lab,
+        &notes,
+        Stepping::step_in(node, Grain::Instruction),
+        1,
+    );
+    Ok(())
+}
+
+#[test]
+fn calls_are_stepped_out_of(rt: HostRuntime) -> Result<(), Fail> {
+    let node = NodeId::new(0);
+    let (mut lab, notes) = begun(&rt, rt.alloc(), CALLS, 0)?;
+    same(&rt, &Stepping::step_out(&lab, node), &None);
+    moves(
+        &rt,
+        &mut lab,
+        &notes,
+        Stepping::step_in(node, Grain::Line),
+        3,
+    );
+    moves(
+        &rt,
+        &mut lab,
+        &notes,
+        Stepping::step_in(node, Grain::Line),
+        2,
+    );
+    match Stepping::step_out(&lab, node) {
+        // `quad` comes back by its step 12.
+        Some(out) => moves(&rt, &mut lab, &notes, out, 7),
+        None => assert!(&rt; false),
+    }
+    Ok(())
+}
+
+#[test]
+fn slices_stop_at_a_breakpoint(rt: HostRuntime) -> Result<(), Fail> {
+    let (mut lab, notes) = begun(&rt, rt.alloc(), CALLS, 0)?;
+    let Some(on_line) = breakpoint_of_line(&notes, 10) else {
+        panic!(&rt; "line 10 has code");
+    };
+    same(&rt, &on_line.breakpoint, &watching(SECOND_DUP));
+    same(&rt, &on_line.line, &10);
+    let breakpoints = [on_line.breakpoint];
+    let halts = each_hit(&lab, &breakpoints);
+    let slice = go_on(&mut lab, Schedule::greedily(), halts, 5);
+    same(&rt, &slice.halt, &Halt::Cut);
+    let hit = go_on(&mut lab, slice.schedule, halts, 100);
+    same(&rt, &hit.events, &3);
+    same(&rt, &hit_by(hit), &Some(0));
+    let again = go_on(&mut lab, hit.schedule, halts, 100);
+    same(&rt, &again.events, &18);
+    Ok(())
+}
+
+#[test]
+fn each_third_hit_is_stopped_at(rt: HostRuntime) -> Result<(), Fail> {
+    let node = NodeId::new(0);
+    let (mut lab, _) = begun(&rt, rt.alloc(), CALLS, 0)?;
+    let ten = ValueTest {
+        variable: Variable::DataWord(0),
+        comparison: Comparison::Equal,
+        number: 10,
+    };
+    let third = [Breakpoint {
+        condition: Some(ten),
+        hits: Some(HitCount::Each(3)),
+        ..watching(SECOND_DUP)
+    }];
+    let mut halts = each_hit(&lab, &third);
+    // The second `dup` is come to by event 8, and then by each 18th.
+    let hit = go_on(&mut lab, Schedule::greedily(), halts, 100);
+    same(&rt, &hit.events, &44);
+    halts.tally = hit.tally;
+    let again = go_on(&mut lab, hit.schedule, halts, 100);
+    same(&rt, &again.events, &54);
+    same(&rt, &reverse_to(&mut lab, node, &third), &54);
+    same(&rt, &kept_hits(&lab, &third).counts[0], &3);
+    same(&rt, &reverse_to(&mut lab, node, &third), &44);
+    Ok(())
+}
+
+#[test]
+fn a_store_is_stopped_at(rt: HostRuntime) -> Result<(), Fail> {
+    let node = NodeId::new(0);
+    let (mut lab, _) = begun(&rt, rt.alloc(), STORES, 0)?;
+    let Some(main) = breakpoint_of_address(node, 0) else {
+        panic!(&rt; "address 0 is a cell");
+    };
+    let breakpoints = [watching(Watched::Writes(9)), main];
+    let halts = each_hit(&lab, &breakpoints);
+    // The node stands at address 0 when loaded, and comes there by its first fetch.
+    let first = go_on(&mut lab, Schedule::greedily(), halts, 100);
+    same(&rt, &first.events, &1);
+    same(&rt, &hit_by(first), &Some(1));
+    let hit = go_on(&mut lab, first.schedule, halts, 100);
+    same(&rt, &hit.events, &6);
+    same(&rt, &hit_by(hit), &Some(0));
+    same(&rt, &lab.memory(node, 9).get(), &7);
+    Ok(())
+}
+
+#[test]
+fn steps_are_taken_back(rt: HostRuntime) -> Result<(), Fail> {
+    let alloc = rt.alloc();
+    let node = NodeId::new(0);
+    let (mut lab, notes) = begun(&rt, alloc, CALLS, 14)?;
+    // To the fetch of `2* ;`, then over the call of `quad` to that of its line, then before the call of `double`.
+    same(&rt, &step_back_line(&mut lab, &notes, node), &2);
+    same(&rt, &step_back_line(&mut lab, &notes, node), &9);
+    same(&rt, &step_back(&mut lab, node), &1);
+    same(&rt, &lab.steps(node), &2);
+    // Cell 05 has two lines: to its slot 2, and to the call of `quad`.
+    let (mut lab, notes) = begun(&rt, alloc, CALLS, 10)?;
+    same(&rt, &step_back_line(&mut lab, &notes, node), &2);
+    same(&rt, &step_back_line(&mut lab, &notes, node), &3);
+    let (mut lab, _) = begun(&rt, alloc, CALLS, 14)?;
+    let double = watching(Watched::Comes(Spot { cell: 3, slot: 0 }));
+    same(&rt, &reverse_to(&mut lab, node, &[double]), &11);
+    same(&rt, &reverse_to(&mut lab, node, &[double]), &3);
+    Ok(())
+}
+
+/// A long line, whose last word is in slot 3, and a cell of three slots.
+const LONG_LINE: &[u8] =
+    b"node 001\n  : main over over ( two of them ) over right\n b! !b main ;\n";
+
+/// Cell, first and last slot, line and column.
+fn found(word: Option<SlotWord>) -> Option<(u8, usize, usize, u32, u32)> {
+    let word = word?;
+    Some((word.cell, word.first, word.last, word.line, word.column))
+}
+
+// What is told of these words stands in the folder `sessions/explore` at the top.
+#[test]
+fn lines_have_words(rt: HostRuntime) -> Result<(), Fail> {
+    let (_, notes) = begun(&rt, rt.alloc(), LONG_LINE, 0)?;
+    let words = [
+        found(notes.first_word(1)),
+        found(notes.first_word(3)),
+        found(notes.first_word(4)),
+    ];
+    let wanted = [Some((0, 0, 0, 2, 10)), Some((2, 0, 0, 3, 2)), None];
+    each_same(&rt, &words, &wanted);
+    Ok(())
+}

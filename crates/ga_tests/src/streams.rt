@@ -1,0 +1,317 @@
+//! What stands first in some bytes; messages taken from inputs that come in pieces, end, and fail; a text that is written whole or not.
+//! Streams of the program that fail stand in `.ci/failing` at the top.
+
+use crate::common::{each_said, each_same, same};
+use ga_protocol::{Broken, CONTENT_LIMIT, Front, Inbox, Next, front_of, push_frame};
+use ga_text::write_all;
+use std::alloc::{AllocError, Global};
+use std::io;
+use std::io::{Error, ErrorKind, Read, Write};
+use std::process::Abort;
+use std::test::Fail;
+
+/// What stands first in each text.
+const FRONTS: &[(&[u8], Front)] = &[
+    (
+        b"Content-Length: 2\r\n\r\n{}",
+        Front::Message { start: 21, end: 23 },
+    ),
+    (
+        b"Content-Length: 2\r\n\r\n{}Con",
+        Front::Message { start: 21, end: 23 },
+    ),
+    (
+        b"Content-Length: 0\r\n\r\n",
+        Front::Message { start: 21, end: 21 },
+    ),
+    (
+        b"Content-Length: 0000002\r\n\r\n{}",
+        Front::Message { start: 27, end: 29 },
+    ),
+    (b"Content-Length: 131072\r\n\r\n{}", Front::Part),
+    (b"Content-Length: 131073", Front::Wrong(Broken::TooLong)),
+    (b"Content-Length: 9999999999", Front::Wrong(Broken::TooLong)),
+    (
+        b"Content-Length: 00000002\r\n\r\n{}",
+        Front::Wrong(Broken::ManyDigits),
+    ),
+    (b"Content-Length: \r\n\r\n", Front::Wrong(Broken::NoDigit)),
+    (
+        b"Content-Length: -2\r\n\r\n{}",
+        Front::Wrong(Broken::NoDigit),
+    ),
+    (
+        b"Content-Length:  2\r\n\r\n{}",
+        Front::Wrong(Broken::NoDigit),
+    ),
+    (
+        b"Content-Length: 2 \r\n\r\n{}",
+        Front::Wrong(Broken::HeaderEnd),
+    ),
+    (b"Content-Length: 2\n\n{}", Front::Wrong(Broken::HeaderEnd)),
+    (
+        b"Content-Length: 2\r\nContent-Type: a\r\n\r\n{}",
+        Front::Wrong(Broken::HeaderEnd),
+    ),
+    (b"Content-Length:2\r\n\r\n{}", Front::Wrong(Broken::Field)),
+    (b"content-length: 2\r\n\r\n{}", Front::Wrong(Broken::Field)),
+    (
+        b"Content-Type: a\r\nContent-Length: 2\r\n\r\n{}",
+        Front::Wrong(Broken::Field),
+    ),
+    (
+        b"\nContent-Length: 2\r\n\r\n{}",
+        Front::Wrong(Broken::Field),
+    ),
+    (b"{}", Front::Wrong(Broken::Field)),
+];
+
+#[test]
+fn fronts_are_told(rt: HostRuntime) {
+    for (text, wanted) in FRONTS {
+        assert_eq!(rt; front_of(text), *wanted, "at {text:?}");
+    }
+}
+
+/// Each beginning of a message is one, and asks for more.
+#[test]
+fn beginnings_ask_for_more(rt: HostRuntime) {
+    let message = b"Content-Length: 12\r\n\r\n{\"seq\":1234}";
+    for count in 0..message.len() {
+        let (part, _) = message.as_slice().split_at(count);
+        assert_eq!(rt; front_of(part), Front::Part, "at {count}");
+    }
+    same(
+        &rt,
+        &front_of(message),
+        &Front::Message { start: 22, end: 34 },
+    );
+}
+
+/// The longest message is read back, and one byte more is too long.
+#[test]
+fn the_bound_is_within(rt: HostRuntime) -> Result<(), Fail> {
+    let mut content = Vec::new(rt.alloc());
+    content.resize(CONTENT_LIMIT, b' ')?;
+    let mut text = Vec::new(rt.alloc());
+    push_frame(rt.alloc(), &mut text, &content)?;
+    let whole = Front::Message {
+        start: 26,
+        end: 26 + 131_072,
+    };
+    same(&rt, &front_of(&text), &whole);
+    content.push(b' ')?;
+    text.clear();
+    push_frame(rt.alloc(), &mut text, &content)?;
+    same(&rt, &front_of(&text), &Front::Wrong(Broken::TooLong));
+    Ok(())
+}
+
+/// What is said of each cause.
+#[test]
+fn causes_are_said(rt: HostRuntime) -> Result<(), Fail> {
+    let causes = [
+        (
+            Broken::Field,
+            "the header does not begin with `Content-Length: `",
+        ),
+        (Broken::NoDigit, "`Content-Length` is no number"),
+        (Broken::TooLong, "`Content-Length` is more than 131072"),
+        (
+            Broken::ManyDigits,
+            "`Content-Length` has more than seven digits",
+        ),
+        (
+            Broken::HeaderEnd,
+            "the header does not end behind `Content-Length`",
+        ),
+        (Broken::Cut, "the input ends within a message"),
+    ];
+    each_said(&rt, rt.alloc(), &causes)
+}
+
+/// Gives up to so many bytes at a call, and fails at one call.
+#[derive(Drop)]
+struct Pieces {
+    left: &'static [u8],
+    most: usize,
+    calls: u32,
+    fails_at: u32,
+}
+
+impl Read for Pieces {
+    fn read(&mut self, buf: &mut [u8]) -> io::Result<usize> {
+        self.calls = self.calls.saturating_add(1);
+        if self.calls == self.fails_at {
+            return Err(Error::from(ErrorKind::Interrupted));
+        }
+        let count = self.most.min(buf.len()).min(self.left.len());
+        let (front, rest) = self.left.split_at(count);
+        buf[..count].copy_from_slice(front);
+        self.left = rest;
+        Ok(count)
+    }
+}
+
+fn in_pieces(text: &'static [u8], most: usize) -> Pieces {
+    Pieces {
+        left: text,
+        most,
+        calls: 0,
+        fails_at: 0,
+    }
+}
+
+/// How the messages of an input ended.
+#[derive(Clone, Copy, PartialEq, Eq, Debug)]
+enum Ending {
+    End,
+    Wrong(Broken),
+    Failed,
+}
+
+/// The content parts of an input's messages, one line each, and how it ended.
+fn taken(alloc: Global, mut reader: Pieces) -> Result<(Vec<u8>, Ending), AllocError> {
+    let mut inbox = Inbox::new(alloc);
+    let mut contents = Vec::new(alloc);
+    for _ in 0..1000 {
+        match inbox.next(&mut reader)? {
+            Next::Message(content) => {
+                contents.extend_from_slice(&content)?;
+                contents.push(b'\n')?;
+            }
+            Next::End => return Ok((contents, Ending::End)),
+            Next::Wrong(why) => return Ok((contents, Ending::Wrong(why))),
+            Next::Failed => return Ok((contents, Ending::Failed)),
+        }
+    }
+    Ok((contents, Ending::Failed))
+}
+
+/// Asserts what is taken of an input, in pieces of each length.
+fn assert_taken(
+    rt: &impl Abort,
+    alloc: Global,
+    text: &'static [u8],
+    contents: &[u8],
+    ending: Ending,
+) -> Result<(), AllocError> {
+    for most in 1..=text.len() + 1 {
+        let got = taken(alloc, in_pieces(text, most))?;
+        each_same(rt, &got.0, contents);
+        same(rt, &got.1, &ending);
+    }
+    Ok(())
+}
+
+const THREE: &[u8] =
+    b"Content-Length: 2\r\n\r\n{}Content-Length: 0\r\n\r\nContent-Length: 7\r\n\r\n[1,2,3]";
+
+#[test]
+fn an_input_in_any_pieces_is_the_same_messages(rt: HostRuntime) -> Result<(), Fail> {
+    assert_taken(&rt, rt.alloc(), THREE, b"{}\n\n[1,2,3]\n", Ending::End)?;
+    assert_taken(&rt, rt.alloc(), b"", b"", Ending::End)?;
+    Ok(())
+}
+
+#[test]
+fn a_broken_frame_is_told_behind_what_is_whole(rt: HostRuntime) -> Result<(), Fail> {
+    let cases: [(&'static [u8], Broken); 4] = [
+        (b"Content-Length: 2\r\n\r\n{}\n", Broken::Field),
+        (
+            b"Content-Length: 2\r\n\r\n{}Content-Length: x",
+            Broken::NoDigit,
+        ),
+        (
+            b"Content-Length: 2\r\n\r\n{}Content-Length: 2000000\r\n\r\n",
+            Broken::TooLong,
+        ),
+        (
+            b"Content-Length: 2\r\n\r\n{}Content-Length: 2\r\n\r\n{",
+            Broken::Cut,
+        ),
+    ];
+    for (text, why) in cases {
+        assert_taken(&rt, rt.alloc(), text, b"{}\n", Ending::Wrong(why))?;
+    }
+    Ok(())
+}
+
+/// A read that fails loses nothing: what comes behind it is taken by a further call.
+#[test]
+fn a_failed_read_is_told(rt: HostRuntime) -> Result<(), Fail> {
+    for fails_at in 1..20 {
+        let mut reader = in_pieces(THREE, 5);
+        reader.fails_at = fails_at;
+        let mut inbox = Inbox::new(rt.alloc());
+        let mut contents = Vec::new(rt.alloc());
+        let mut failed = 0u32;
+        for _ in 0..5 {
+            match inbox.next(&mut reader)? {
+                Next::Message(content) => contents.extend_from_slice(&content)?,
+                Next::Failed => failed = failed.saturating_add(1),
+                _ => {}
+            }
+        }
+        each_same(&rt, &contents, b"{}[1,2,3]");
+        assert!(rt; failed <= 1);
+        assert!(rt; failed == 1 || fails_at > 14);
+    }
+    Ok(())
+}
+
+/// What is known without a read.
+#[test]
+fn what_was_read_is_known(rt: HostRuntime) -> Result<(), Fail> {
+    let mut reader = in_pieces(THREE, 1000);
+    let mut inbox = Inbox::new(rt.alloc());
+    assert!(rt; !inbox.has_next());
+    for left in [2u32, 1, 0] {
+        assert!(rt; matches!(inbox.next(&mut reader)?, Next::Message(_)));
+        assert_eq!(rt; inbox.has_next(), left > 0);
+    }
+    Ok(())
+}
+
+/// Takes up to five bytes at a call, and fails at one call.
+#[derive(Drop)]
+struct Narrow {
+    taken: usize,
+    calls: u32,
+    fails_at: u32,
+}
+
+impl Write for Narrow {
+    fn write(&mut self, buf: &[u8]) -> io::Result<usize> {
+        self.calls = self.calls.saturating_add(1);
+        if self.calls == self.fails_at {
+            return Err(Error::from(ErrorKind::Interrupted));
+        }
+        let count = buf.len().min(5);
+        self.taken = self.taken.saturating_add(count);
+        Ok(count)
+    }
+
+    fn flush(&mut self) -> io::Result<()> {
+        self.calls = self.calls.saturating_add(1);
+        if self.calls == self.fails_at {
+            return Err(Error::from(ErrorKind::Other));
+        }
+        Ok(())
+    }
+}
+
+// Three writes and the flush, of which each fails in turn: no call comes behind it.
+#[test]
+fn a_write_or_the_flush_fails(rt: HostRuntime) {
+    for (fails_at, calls, taken) in [(1, 1, 0), (2, 2, 5), (3, 3, 10), (4, 4, 12), (5, 4, 12)] {
+        let mut writer = Narrow {
+            taken: 0,
+            calls: 0,
+            fails_at,
+        };
+        let is_written = write_all(&mut writer, b"twelve bytes").is_ok();
+        let wanted = (calls, taken, fails_at > 4);
+        same(&rt, &(writer.calls, writer.taken, is_written), &wanted);
+    }
+}

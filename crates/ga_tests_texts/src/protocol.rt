@@ -1,6 +1,0 @@
-//! Messages of an editor, read and written.
-
-mod frames;
-mod inputs;
-mod requests;
-mod sent;

@@ -1,0 +1,66 @@
+//! The events of a node.
+
+use crate::programs::load;
+use ga_node::{Kind, Node, Saved, Seen};
+use std::io;
+use std::time::Instant;
+
+/// Makes so many events with a list that is kept from one event to the next, and sums their codes.
+#[inline(never)]
+fn sum_kinds(node: &mut Node, count: u32) -> u32 {
+    let mut sum = 0u32;
+    let mut saved = Saved::new();
+    for _ in 0..count {
+        if node.not_ready().is_none() {
+            saved = Saved::new();
+            let due = node.due();
+            if let Kind::Run(code) = node.do_into(due, Seen::nobody(), &mut saved) {
+                sum = sum.wrapping_add(u32::from(code));
+            }
+        }
+    }
+    sum
+}
+
+/// The same, where each event is taken back and made again.
+#[inline(never)]
+#[tactic(auto, using(ga_node::proofs::Restoring::apart_from_ready))]
+fn sum_backs(node: &mut Node, count: u32) -> u32 {
+    let mut sum = 0u32;
+    for _ in 0..count {
+        if node.not_ready().is_none() {
+            let mut saved = Saved::new();
+            let due = node.due();
+            let _ = node.do_into(due, Seen::nobody(), &mut saved);
+            node.restore(&saved);
+        }
+        if let Ok((Kind::Run(code), _)) = node.own(Seen::nobody()) {
+            sum = sum.wrapping_add(u32::from(code));
+        }
+    }
+    sum
+}
+
+/// The nanoseconds that the best of some rounds of so many events of a program took, and the sum.
+pub fn time_events(
+    rt: &HostRuntime,
+    words: &[u32],
+    is_back: bool,
+    count: u32,
+    rounds: u32,
+) -> io::Result<(u128, u32)> {
+    let mut best = u128::MAX;
+    let mut sum = 0u32;
+    for _ in 0..rounds {
+        let mut node = Node::new(0);
+        load(&mut node, words);
+        let start = Instant::now(rt)?;
+        sum = if is_back {
+            sum_backs(&mut node, count)
+        } else {
+            sum_kinds(&mut node, count)
+        };
+        best = best.min(start.elapsed(rt)?.as_nanos());
+    }
+    Ok((best, sum))
+}

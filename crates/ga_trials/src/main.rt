@@ -1,0 +1,135 @@
+//! Runs that are timed or counted, or of which one growth of memory is refused. Each line of standard input names one, with numbers behind
+//! its name. What depends on the machine goes to standard error.
+//!
+//! Timed, where the best of the rounds counts:
+//!
+//! - `busy-into EVENTS ROUNDS`, `busy-back`, `mixed-into` and `mixed-back`: events of a node
+//! - `lab NODES STEPS`: steps of the first nodes of a lab in turn, which are all taken back, and made again; `lab-inlined` makes them by
+//!   `Lab::step_inlined`
+//! - `rewind EVENTS ROUNDS`: rollbacks that remove three entries where so many events are kept; `foretell` asks what they would take
+//! - `rewind-beside COUNT ROUNDS` and `foretell-beside`: the same where the nodes rolled back, and a neighbour that looked, keep four times
+//!   so many events each
+//! - `rewind-all EVENTS`: one that removes so many
+//! - `rewind-looks LOOKS ROUNDS`: rollbacks of a wait that take so many looks of a neighbour along
+//!
+//! Refused, where growth N of the run fails, from 1 on, or none by 0: `causes N`, `messages N`, `shared N`, `shared-broken-off N`, `race N`.
+#![tactic(auto)]
+
+mod causes;
+mod events;
+mod labs;
+mod messages;
+mod programs;
+mod refused;
+mod rewinds;
+mod shared;
+
+use events::time_events;
+use ga_lab::Lab;
+use labs::{Act, adding, time_act};
+use programs::{BUSY, MIXED};
+use refused::{print_outcome, tried};
+use rewinds::{Goes, about_to_look, passed, passed_late, time_rollback};
+use std::io;
+use std::io::Read;
+
+fn main(rt: HostRuntime) -> io::Result<()> {
+    let mut text = [0u8; 64];
+    let filled = rt.stdin().read(&mut text)?;
+    let Ok(text) = str::from_utf8(&text[..filled]) else {
+        return println!(rt; "no order");
+    };
+    for line in text.lines() {
+        let mut words = line.split_ascii_whitespace();
+        let name = words.next().unwrap_or("");
+        let count = number(words.next(), 0);
+        let rounds = number(words.next(), 1);
+        if !is_timed(&rt, name, count, rounds)? {
+            print_outcome(&rt, tried(&rt, rt.alloc(), name, count), count)?;
+        }
+    }
+    Ok(())
+}
+
+fn number(word: Option<&str>, otherwise: u32) -> u32 {
+    match word {
+        Some(word) => word.parse::<u32>().unwrap_or(otherwise),
+        None => otherwise,
+    }
+}
+
+/// Times the run of this name; false where none has it.
+fn is_timed(rt: &HostRuntime, name: &str, count: u32, rounds: u32) -> io::Result<bool> {
+    let alloc = rt.alloc();
+    let nodes = count.clamp(1, 144) as u8;
+    let is_done = name.as_bytes().starts_with(b"rewind");
+    match name {
+        "busy-into" => print_events(rt, BUSY, false, count, rounds)?,
+        "busy-back" => print_events(rt, BUSY, true, count, rounds)?,
+        "mixed-into" => print_events(rt, MIXED, false, count, rounds)?,
+        "mixed-back" => print_events(rt, MIXED, true, count, rounds)?,
+        "lab" => print_lab(rt, nodes, rounds, Act::Step)?,
+        "lab-inlined" => print_lab(rt, nodes, rounds, Act::StepInlined)?,
+        "rewind" | "foretell" => {
+            print_rollback(rt, passed(alloc, count), Goes::Pairs, rounds, is_done)?
+        }
+        "rewind-beside" | "foretell-beside" => {
+            print_rollback(rt, passed_late(alloc, count), Goes::Word, rounds, is_done)?
+        }
+        "rewind-all" => print_rollback(rt, passed(alloc, count), Goes::All, 1, is_done)?,
+        "rewind-looks" => {
+            let looks = Goes::Looks(count);
+            print_rollback(rt, about_to_look(alloc), looks, rounds, is_done)?
+        }
+        _ => return Ok(false),
+    }
+    Ok(true)
+}
+
+/// Prints how many there were of a thing, and what one of so many took.
+fn print(rt: &HostRuntime, what: &str, timed: (u128, u32), count: u32, of: &str) -> io::Result<()> {
+    let hundredths = timed.0.saturating_mul(100) / u128::from(count.max(1));
+    println!(rt; "{what} {}", timed.1)?;
+    eprintln!(rt; "{hundredths} hundredths of a nanosecond {of}")
+}
+
+fn print_lab(rt: &HostRuntime, nodes: u8, count: u32, act: Act) -> io::Result<()> {
+    let Some(mut lab) = adding(rt.alloc(), nodes) else {
+        return eprintln!(rt; "no memory");
+    };
+    for (act, what, of) in [
+        (act, "made", "a step into fresh memory"),
+        (Act::Undo, "undone", "an undo"),
+        (act, "made", "a step again"),
+    ] {
+        let timed = time_act(rt, &mut lab, act, nodes, count)?;
+        print(rt, what, timed, count, of)?;
+    }
+    Ok(())
+}
+
+fn print_rollback(
+    rt: &HostRuntime,
+    lab: Option<Lab>,
+    goes: Goes,
+    rounds: u32,
+    is_done: bool,
+) -> io::Result<()> {
+    let Some(mut lab) = lab else {
+        return eprintln!(rt; "no memory");
+    };
+    let (best, removed) = time_rollback(rt, &mut lab, goes, rounds, is_done)?;
+    println!(rt; "removed {removed}")?;
+    eprintln!(rt; "{best} nanoseconds a rollback")
+}
+
+fn print_events(
+    rt: &HostRuntime,
+    words: &[u32],
+    is_back: bool,
+    count: u32,
+    rounds: u32,
+) -> io::Result<()> {
+    let timed = time_events(rt, words, is_back, count, rounds)?;
+    print(rt, "sum", timed, count, "an event")
+}

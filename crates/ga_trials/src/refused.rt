@@ -1,0 +1,102 @@
+//! Runs in which one growth of memory is refused. The run asks again at once for what was refused, and one line says how it came out.
+//!
+//! The refusal comes from outside: the process's growth 1000 has to fail (`.ci/growths` sees to it, or `rt try --fail-alloc 1000`),
+//! and the growths before the run are made so many that this is the run's. A run is over only where the refused growth is still
+//! ahead, so a growth that is added later, and one whose refusal nobody tells, changes a line.
+
+use crate::causes::causes;
+use crate::messages::messages;
+use crate::shared::{calls_of_one, race_of_one};
+use std::alloc::Global;
+use std::io;
+use std::sync::Wait;
+use std::thread::Threads;
+
+/// The growth of the process that is refused.
+const REFUSED: u32 = 1000;
+
+/// How a run, or a part of it, came out.
+#[derive(Clone, Copy, PartialEq, Eq)]
+pub enum Outcome {
+    /// All was answered as it should be.
+    Answered,
+    /// This alone was refused for want of memory. It changed nothing, and was answered when it was asked for again.
+    Refused(&'static str),
+    /// The same, with its number.
+    RefusedAt(&'static str, usize),
+    /// This is not as it should be.
+    Wrong(&'static str),
+}
+
+impl Outcome {
+    /// How two parts of a run came out. Only one of them may be refused.
+    pub fn and(self, other: Outcome) -> Outcome {
+        match (self, other) {
+            (Outcome::Wrong(what), _) => Outcome::Wrong(what),
+            (_, Outcome::Wrong(what)) => Outcome::Wrong(what),
+            (Outcome::Answered, _) => other,
+            (_, Outcome::Answered) => self,
+            _ => Outcome::Wrong("two refusals"),
+        }
+    }
+}
+
+/// Makes the run of this name.
+fn run_of<R: Threads + Wait + Sync>(rt: &R, alloc: Global, run: &str) -> Outcome {
+    match run {
+        "causes" => causes(alloc),
+        "messages" => messages(alloc),
+        "shared" => calls_of_one(rt, alloc, true),
+        "shared-broken-off" => calls_of_one(rt, alloc, false),
+        "race" => race_of_one(rt, alloc),
+        _ => Outcome::Wrong("there is no such run"),
+    }
+}
+
+/// Makes so many growths; false where one is refused.
+fn grow(alloc: Global, count: u32) -> bool {
+    for _ in 0..count {
+        if Box::new(alloc, 0u8).is_err() {
+            return false;
+        }
+    }
+    true
+}
+
+/// Makes a run, of which this growth is to be refused, or none where it is 0: how it came out, and whether the refusal is still ahead.
+pub fn tried<R: Threads + Wait + Sync>(
+    rt: &R,
+    alloc: Global,
+    run: &str,
+    growth: u32,
+) -> (Outcome, bool) {
+    let before = if growth == 0 {
+        0
+    } else {
+        REFUSED.saturating_sub(growth)
+    };
+    if !grow(alloc, before) {
+        return (Outcome::Wrong("refused before the run"), false);
+    }
+    let outcome = run_of(rt, alloc, run);
+    (outcome, !grow(alloc, REFUSED))
+}
+
+/// Prints how a run came out.
+pub fn print_outcome(
+    rt: &HostRuntime,
+    (outcome, is_ahead): (Outcome, bool),
+    growth: u32,
+) -> io::Result<()> {
+    match outcome {
+        Outcome::Refused(what) if !is_ahead => println!(rt; "refused: {what}"),
+        Outcome::RefusedAt(what, number) if !is_ahead => {
+            println!(rt; "refused: {what}, number {number}")
+        }
+        Outcome::Answered if is_ahead => println!(rt; "no growth is left"),
+        Outcome::Answered if growth == 0 => println!(rt; "all is answered"),
+        Outcome::Answered => println!(rt; "answered all the same"),
+        Outcome::Wrong(what) => println!(rt; "wrong: {what}"),
+        _ => println!(rt; "wrong: a refusal with memory at hand"),
+    }
+}

@@ -1,0 +1,168 @@
+//! Rollbacks of a lab.
+
+use crate::programs::{JUMP, LOOKER, SENDER, TAKER, load};
+use ga_grid::{Chip, NodeId};
+use ga_lab::Lab;
+use std::alloc::Global;
+use std::io;
+use std::time::Instant;
+
+/// How many pairs of neighbours pass a word; the last node of the grid makes own events.
+const PAIRS: u8 = 71;
+
+/// Makes so many steps of a node, and counts those that were made.
+fn steps(lab: &mut Lab, node: NodeId, count: u32) -> u32 {
+    let mut made = 0u32;
+    for _ in 0..count {
+        if lab.step(node).is_ok() {
+            made = made.wrapping_add(1);
+        }
+    }
+    made
+}
+
+/// A lab in which the last node has made so many own events, and then each pair has passed its word: the first node of a pair
+/// sends a literal to the right, and the second takes it. None where fewer events were made.
+pub fn passed(alloc: Global, own: u32) -> Option<Lab> {
+    let mut chip = Chip::new(alloc).ok()?;
+    for pair in 0..PAIRS {
+        load(chip.node_mut(NodeId::new(2 * pair)), SENDER);
+        load(chip.node_mut(NodeId::new(2 * pair + 1)), TAKER);
+    }
+    load(chip.node_mut(NodeId::new(143)), JUMP);
+    let mut lab = Lab::new(alloc, chip, u32::MAX).ok()?;
+    if steps(&mut lab, NodeId::new(143), own) < own {
+        return None;
+    }
+    for pair in 0..PAIRS {
+        let _sent = steps(&mut lab, NodeId::new(2 * pair), 7);
+        let _took = steps(&mut lab, NodeId::new(2 * pair + 1), 5);
+    }
+    Some(lab)
+}
+
+/// A lab in which node 001 has fetched, and node 000 has come to where its next step posts a wait.
+pub fn about_to_look(alloc: Global) -> Option<Lab> {
+    let mut chip = Chip::new(alloc).ok()?;
+    load(chip.node_mut(NodeId::new(0)), SENDER);
+    load(chip.node_mut(NodeId::new(1)), LOOKER);
+    let mut lab = Lab::new(alloc, chip, u32::MAX).ok()?;
+    let _fetched = steps(&mut lab, NodeId::new(1), 1);
+    let _sent = steps(&mut lab, NodeId::new(0), 6);
+    Some(lab)
+}
+
+/// A lab in which node 100 looked at its neighbours again and again, and then node 000 and node 001 made own events, each of the three
+/// so many times four events, before node 000 sent a word to node 001. None where fewer were made.
+pub fn passed_late(alloc: Global, count: u32) -> Option<Lab> {
+    // `@p push . .`, the count behind it, and `. . . unext`: four events for each of the count and four more. Then what a sender or a
+    // taker does.
+    let sender = [0x48b2, count, 0x2c9b4, 0x4b12, 0x1d5, 0x2a, 0x89b2];
+    let taker = [0x48b2, count, 0x2c9b4, 0x4b02, 0x1d5];
+    let mut chip = Chip::new(alloc).ok()?;
+    load(chip.node_mut(NodeId::new(0)), &sender);
+    load(chip.node_mut(NodeId::new(1)), &taker);
+    load(chip.node_mut(NodeId::new(18)), LOOKER);
+    let mut lab = Lab::new(alloc, chip, u32::MAX).ok()?;
+    let own = count.saturating_mul(4);
+    let looked = steps(&mut lab, NodeId::new(18), own);
+    let sent = steps(&mut lab, NodeId::new(0), own.saturating_add(17));
+    let took = steps(&mut lab, NodeId::new(1), own.saturating_add(15));
+    if looked.min(sent).min(took) < own {
+        return None;
+    }
+    Some(lab)
+}
+
+/// What is rolled back.
+#[derive(Clone, Copy)]
+pub enum Goes {
+    /// Of each pair the word, with the wait to send it: three entries of two nodes.
+    Pairs,
+    /// The word of node 000 and the wait to send it.
+    Word,
+    /// A wait of node 000 and so many later looks of node 001 at it, with the `unext` behind each three of them.
+    Looks(u32),
+    /// All that the last node made.
+    All,
+}
+
+/// Takes a step of a node back, or asks what that would take: the events that go.
+fn taken(lab: &mut Lab, node: NodeId, step: u32, is_done: bool) -> u32 {
+    if is_done {
+        return lab.rewind(node, step).unwrap_or(0);
+    }
+    match lab.would_rewind(node, step) {
+        Ok(going) => going.events,
+        Err(_) => 0,
+    }
+}
+
+/// The events that go with the wait and the word of each pair.
+fn taken_of_pairs(lab: &mut Lab, is_done: bool) -> u32 {
+    let mut removed = 0u32;
+    for pair in 0..PAIRS {
+        removed = removed.wrapping_add(taken(lab, NodeId::new(2 * pair), 7, is_done));
+    }
+    removed
+}
+
+/// The events that go.
+#[inline(never)]
+fn go(lab: &mut Lab, goes: Goes, wait: u32, is_done: bool) -> u32 {
+    match goes {
+        Goes::Pairs => taken_of_pairs(lab, is_done),
+        Goes::Word => taken(lab, NodeId::new(0), wait, is_done),
+        Goes::Looks(_) => taken(lab, NodeId::new(0), 7, is_done),
+        Goes::All => taken(lab, NodeId::new(143), 1, is_done),
+    }
+}
+
+/// Makes the looks that are to go.
+fn look(lab: &mut Lab, goes: Goes) {
+    if let Goes::Looks(looks) = goes {
+        let _waits = steps(lab, NodeId::new(0), 1);
+        let _looked = steps(lab, NodeId::new(1), looks.saturating_add(looks / 3));
+    }
+}
+
+/// Passes again what went.
+fn pass_again(lab: &mut Lab, goes: Goes) {
+    match goes {
+        Goes::Pairs => {
+            for pair in 0..PAIRS {
+                let _made = steps(lab, NodeId::new(2 * pair), 2);
+            }
+        }
+        Goes::Word => {
+            let _made = steps(lab, NodeId::new(0), 2);
+        }
+        _ => {}
+    }
+}
+
+/// The nanoseconds of the best of some rounds of a rollback, and the number of events removed. Where it is not done, it is asked about.
+pub fn time_rollback(
+    rt: &HostRuntime,
+    lab: &mut Lab,
+    goes: Goes,
+    rounds: u32,
+    is_done: bool,
+) -> io::Result<(u128, u32)> {
+    let wait = lab.steps(NodeId::new(0)).saturating_sub(1);
+    let mut best = u128::MAX;
+    let mut removed = 0u32;
+    for _ in 0..rounds {
+        look(lab, goes);
+        let start = Instant::now(rt)?;
+        removed = go(lab, goes, wait, is_done);
+        best = best.min(start.elapsed(rt)?.as_nanos());
+        if is_done {
+            pass_again(lab, goes);
+        }
+    }
+    Ok(match goes {
+        Goes::Pairs => (best / u128::from(PAIRS), removed),
+        _ => (best, removed),
+    })
+}

@@ -1,0 +1,184 @@
+//! A shared chip: its calls, its closing, and a race of one worker.
+
+ghost use Rattle.std.specs.Prelude.{◌≡◌, ◌<◌, ◌^◌, All, IfOk, vec_len};
+
+use crate::programs::{SENDER, load};
+use crate::refused::Outcome;
+use ga_grid::{Chip, Memory, NodeId};
+use ga_lab::Made;
+use ga_node::Kind;
+use ga_shared::{Answer, Call, Closed, Free, RaceFault, Receipt, Seat, Shared, race};
+use std::alloc::{AllocError, Global};
+use std::marker::Brand;
+use std::sync::Wait;
+use std::sync::ledger::{Blank, Ledger};
+use std::thread::Threads;
+
+/// How many events may be kept.
+const LIMIT: u32 = 1_000_000;
+
+/// How many calls are made.
+const CALLS: usize = 9;
+
+/// A chip whose node 000 sends a word to the right.
+fn linked(alloc: Global) -> Result<Chip, Memory> {
+    let mut chip = Chip::new(alloc)?;
+    load(chip.node_mut(NodeId::new(0)), SENDER);
+    Ok(chip)
+}
+
+/// What is asked of the shared chip: four steps, a rollback to the third, both steps again, a rollback to a step that does not
+/// stand, and one to the first step.
+fn calls() -> [Call; CALLS] {
+    let node = NodeId::new(0);
+    let step = Call::Step(node);
+    let third = Call::Rewind(node, 3);
+    let ninth = Call::Rewind(node, 9);
+    let first = Call::Rewind(node, 1);
+    [step, step, step, step, third, step, step, ninth, first]
+}
+
+fn answers() -> [Answer; CALLS] {
+    [
+        made(1, Kind::Fetch),
+        made(2, Kind::Run(0x08)),
+        made(3, Kind::Run(0x1e)),
+        made(4, Kind::Run(0x08)),
+        Answer::Removed(2),
+        made(3, Kind::Run(0x1e)),
+        made(4, Kind::Run(0x08)),
+        Answer::Refused(6),
+        Answer::Removed(4),
+    ]
+}
+
+/// How many events are kept before the first call, and behind each.
+static KEPT: [u32; 10] = [0, 1, 2, 3, 4, 2, 3, 4, 4, 0];
+
+/// How many events were made by then.
+static MADE: [u64; 10] = [0, 1, 2, 3, 4, 4, 5, 6, 6, 6];
+
+fn made(step: u32, kind: Kind) -> Answer {
+    let node = NodeId::new(0);
+    Answer::Made(Made::Own { node, step, kind })
+}
+
+/// The calls and then the closing. Where memory was refused a call is made once more, or no call comes behind it.
+pub fn calls_of_one<R: Wait>(rt: &R, alloc: Global, goes_on: bool) -> Outcome {
+    opened::<Brand, R>(rt, alloc, Blank::new(1), goes_on)
+}
+
+/// Opens a shared chip with one worker, makes the calls and closes it.
+fn opened<L: Ledger, R: Wait>(rt: &R, alloc: Global, blank: Blank, goes_on: bool) -> Outcome
+    requires ledger { (blank.name ≡ L.name) × (blank.parts ≡ L.parts) }
+    requires parts { blank.parts ≡ 1 }
+{
+    let Ok(chip) = linked(alloc) else {
+        return Outcome::Refused("chip");
+    };
+    let Ok((shared, mut seats)) = Shared::<L>::new(alloc, blank, chip, LIMIT, 1) else {
+        return Outcome::Refused("new");
+    };
+    let Some(seat) = seats.first_mut() else {
+        return Outcome::Wrong("no seat");
+    };
+    let (count, outcome) = called(rt, &shared, seat, goes_on);
+    match shared.close(seats) {
+        Ok(closed) => outcome.and(is_closed(&closed, count)),
+        Err(_) => Outcome::Wrong("not closed"),
+    }
+}
+
+/// Makes the calls, and says how many were made.
+fn called<L: Ledger, R: Wait>(
+    rt: &R,
+    shared: &Shared<L>,
+    seat: &mut Seat<L>,
+    goes_on: bool,
+) -> (usize, Outcome) {
+    let mut outcome = Outcome::Answered;
+    for (place, (call, answer)) in calls().iter().zip(&answers()).enumerate() {
+        let wanted = Receipt {
+            place: place as u64,
+            call: *call,
+            answer: *answer,
+        };
+        if seat.receipts.len() != place {
+            return (place, Outcome::Wrong("other receipts"));
+        }
+        match make(rt, shared, seat, *call) {
+            Some(receipt) if receipt == wanted => {}
+            Some(_) => return (place, Outcome::Wrong("another receipt")),
+            None => {
+                outcome = outcome.and(Outcome::RefusedAt("call", place + 1));
+                if !goes_on {
+                    return (place, outcome);
+                }
+                if make(rt, shared, seat, *call) != Some(wanted) {
+                    return (place, Outcome::Wrong("another receipt after a refusal"));
+                }
+            }
+        }
+    }
+    (CALLS, outcome)
+}
+
+/// Makes a call; none where memory was refused.
+fn make<L: Ledger, R: Wait>(
+    rt: &R,
+    shared: &Shared<L>,
+    seat: &mut Seat<L>,
+    call: Call,
+) -> Option<Receipt> {
+    match call {
+        Call::Step(node) => shared.step(rt, seat, node).ok(),
+        Call::Rewind(node, step) => shared.rewind(rt, seat, node, step).ok(),
+    }
+}
+
+/// Whether the log is that of so many calls, and the lab the one behind them.
+fn is_closed(closed: &Closed, count: usize) -> Outcome {
+    let calls = calls();
+    let answers = answers();
+    let wanted = calls.iter().zip(&answers).take(count);
+    if closed.log.len() != count
+        || !closed.log.iter().zip(wanted).all(|(entry, call)| entry.worker == 0
+            && entry.call == *call.0
+            && entry.answer == *call.1)
+    {
+        return Outcome::Wrong("another log");
+    }
+    let counts = closed.lab.counts();
+    if KEPT.get(count).copied() == Some(counts.kept)
+        && MADE.get(count).copied() == Some(counts.made)
+    {
+        Outcome::Answered
+    } else {
+        Outcome::Wrong("another lab")
+    }
+}
+
+/// A race of one worker, which takes its own step back.
+pub fn race_of_one<R: Threads + Wait + Sync>(rt: &R, alloc: Global) -> Outcome {
+    let Ok(chip) = linked(alloc) else {
+        return Outcome::Refused("chip");
+    };
+    let Ok(lists) = one_list(alloc) else {
+        return Outcome::Refused("list of calls");
+    };
+    match race(rt, alloc, chip, LIMIT, lists, &Free) {
+        Ok(closed) => is_closed(&closed, CALLS),
+        Err(RaceFault::Memory) => Outcome::Refused("race, for want of memory"),
+        Err(RaceFault::NotStarted) => Outcome::Refused("race, not started"),
+        Err(RaceFault::Disagree) => Outcome::Wrong("a race that disagrees"),
+    }
+}
+
+fn one_list(alloc: Global) -> Result<Vec<Vec<Call>>, AllocError>
+    ensures { IfOk result (λ lists. (vec_len lists ≡ 1) × All (λ l. vec_len l < 2 ^ 32) lists.items) }
+{
+    let calls = calls();
+    let mut lists = Vec::new(alloc);
+    lists.push(calls.as_slice().to_vec(alloc)?)?;
+    Ok(lists)
+}
