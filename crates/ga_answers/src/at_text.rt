@@ -6,8 +6,7 @@ ghost use Rattle.ga_text.specs.Lines.{Bytes};
 ghost use Rattle.ga_event.specs.Told.{steps_of};
 ghost use Rattle.ga_lab.specs.Machine.{history_of, standing};
 ghost use Rattle.ga_origin.specs.Origins.{node_after};
-ghost use Rattle.ga_text.specs.Output.{IsSaid, IsSaidOrCut};
-ghost use Rattle.ga_text.specs.kept.{Says};
+ghost use Rattle.ga_text.specs.Output.{Says, SaysExactly};
 ghost use Rattle.ga_answers.specs.Around.{passed_text, place_text, places_text, around_text};
 
 use crate::Said;
@@ -18,7 +17,7 @@ use ga_display::refusal_text;
 use ga_grid::NodeId;
 use ga_lab::{Lab, LabFault, Walk};
 use ga_notes::Notes;
-use ga_text::{Output, TextBuffer, WriteFailed};
+use ga_text::{Writer, TextBuffer, WriteFailed};
 use std::io::Write;
 
 /// `at NNN K [N]`: tells the steps of a node up to so many before and behind one. Takes no memory.
@@ -31,19 +30,16 @@ pub fn say_around<W: Write>(
     node: NodeId,
     step: u32,
     around: u32,
-    output: &mut Output,
-    writer: &mut W,
+    writer: &mut Writer<'_, W>,
 ) -> Result<(), WriteFailed>
-    ensures { (before said : Bytes) → IsSaid (W.contents writer.old) before said output.old →
-        (text : Bytes) × (text ≡ around_text notes.now lab.now node step around)
-        × IsSaidOrCut result (W.contents writer.new) before (said ++ text) output.new }
+    ensures { Says result (λ text. text ≡ around_text notes.now lab.now node step around) W.contents writer.old writer.new }
 {
     if lab.stands((node, step)) {
         let first = (step - 1).saturating_sub(around);
         let last = step.saturating_add(around).min(lab.steps(node));
-        say_places(lab, notes, node, first, last, output, writer)
+        say_places(lab, notes, node, first, last, writer)
     } else {
-        output.say(writer, refusal_text(LabFault::NoStep))
+        writer.say(refusal_text(LabFault::NoStep))
     }
 }
 
@@ -54,16 +50,15 @@ fn say_places<W: Write>(
     node: NodeId,
     first: u32,
     last: u32,
-    output: &mut Output,
-    writer: &mut W,
+    writer: &mut Writer<'_, W>,
 ) -> Said
     requires { last ≤ steps_of node.number lab.now.kept }
     ensures { Says result (λ text. text ≡ places_text notes.now lab.now node first (last - first))
-        (W.contents writer.old) output.old (W.contents writer.new) output.new }
+        W.contents writer.old writer.new }
 {
     let base = lab.walk(node, last);
     'places: for place in first..last {
-        say_place(lab, notes, node, &base, place, output, writer)?;
+        say_place(lab, notes, node, &base, place, writer)?;
     }
     Ok(())
 }
@@ -75,21 +70,19 @@ fn say_place<W: Write>(
     node: NodeId,
     base: &Walk<'_>,
     place: u32,
-    output: &mut Output,
-    writer: &mut W,
+    writer: &mut Writer<'_, W>,
 ) -> Said
     requires place { place < steps_of node.number lab.now.kept }
     requires walk { base.now ≡ standing lab.now node base.now.step }
     requires behind { place < base.now.step }
-    ensures { (before said : Bytes) → IsSaid (W.contents writer.old) before said output.old →
-        IsSaidOrCut result (W.contents writer.new) before (said ++ place_text notes.now lab.now node place) output.new }
+    ensures { SaysExactly result (place_text notes.now lab.now node place) W.contents writer.old writer.new }
 {
     // So the number of the step fits, as that of them all does.
     let _steps = lab.steps(node);
     let mut walk = base.copy();
     walk.back_to(place + 1);
-    output.say_blocks(writer, place_line(lab, node, place, &walk).as_slice())?;
-    say_walk_tail(lab, notes, node, &walk, output, writer)
+    writer.say_blocks(place_line(lab, node, place, &walk).as_slice())?;
+    say_walk_tail(lab, notes, node, &walk, writer)
 }
 
 /// What is told of the step at a place, right behind which a walk stands.

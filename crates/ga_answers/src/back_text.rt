@@ -1,7 +1,7 @@
 //! Back to where a condition held, and how many events went.
 
 ghost use Rattle.std.specs.Prelude.{◌≡◌, length, ◌++◌};
-ghost use Rattle.ga_text.specs.Output.{IsSaid, IsSaidOrCut};
+ghost use Rattle.ga_text.specs.Output.{Says};
 ghost use Rattle.ga_text.specs.Lines.{Bytes};
 ghost use Rattle.ga_search.specs.Backward.{newest_held, left_from, gone_from};
 ghost use Rattle.ga_answers.specs.Texts.{back_text};
@@ -10,7 +10,7 @@ use ga_display::say_removed;
 use ga_grid::NodeId;
 use ga_lab::Lab;
 use ga_search::{Condition, back_until};
-use ga_text::{Output, WriteFailed};
+use ga_text::{Writer, WriteFailed};
 use std::io::Write;
 
 /// `back until COND`, `back NNN until COND`: takes events back, and says how many went, or that none did.
@@ -21,16 +21,13 @@ pub fn say_back<W: Write>(
     lab: &mut Lab,
     until: &[Condition],
     only: Option<NodeId>,
-    output: &mut Output,
-    writer: &mut W,
+    writer: &mut Writer<'_, W>,
 ) -> Result<(), WriteFailed>
-    ensures said { (before said : Bytes) → IsSaid (W.contents writer.old) before said output.old →
-        (text : Bytes) × (text ≡ back_text (gone_from only lab.old (newest_held until.now only lab.old)) (length lab.new.kept))
-        × IsSaidOrCut result (W.contents writer.new) before (said ++ text) output.new }
+    ensures said { Says result (λ text. text ≡ back_text (gone_from only lab.old (newest_held until.now only lab.old)) (length lab.new.kept)) W.contents writer.old writer.new }
     ensures state { lab.new ≡ left_from only lab.old (newest_held until.now only lab.old) }
 {
     match back_until(lab, until, only) {
-        Some(gone) => say_removed(output, writer, gone, lab.counts().kept),
-        None => output.say(writer, b"none\n"),
+        Some(gone) => say_removed(writer, gone, lab.counts().kept),
+        None => writer.say(b"none\n"),
     }
 }

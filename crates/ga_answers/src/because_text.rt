@@ -5,8 +5,7 @@ ghost use Rattle.ga_text.specs.Lines.{Bytes};
 ghost use Rattle.arrayvec.specs.ArrayVec.{array_vec_len};
 ghost use Rattle.ga_lab.specs.Machine.{standing};
 ghost use Rattle.ga_display.specs.Texts.{register_text};
-ghost use Rattle.ga_text.specs.Output.{IsSaid, IsSaidOrCut};
-ghost use Rattle.ga_text.specs.kept.{Says};
+ghost use Rattle.ga_text.specs.Output.{Says, SaysExactly};
 ghost use Rattle.ga_answers.specs.Because.{decided_text, decision_text, decisions_text, because_text};
 ghost use Rattle.ga_answers.specs.Trees.{part_name};
 
@@ -22,7 +21,7 @@ use ga_grid::NodeId;
 use ga_lab::{Lab, LabFault, Made, Walk};
 use ga_notes::Notes;
 use ga_origin::{Decision, Decisions, Row};
-use ga_text::{Output, TextBuffer, WORD_ROOM, WriteFailed, push_spaced, push_step, push_text};
+use ga_text::{Writer, TextBuffer, WORD_ROOM, WriteFailed, push_spaced, push_step, push_text};
 use ga_word::Word18;
 use std::io::Write;
 
@@ -40,18 +39,15 @@ pub fn say_because<W: Write>(
     node: NodeId,
     step: u32,
     most: u32,
-    output: &mut Output,
-    writer: &mut W,
+    writer: &mut Writer<'_, W>,
 ) -> Result<(), WriteFailed>
-    ensures { (before said : Bytes) → IsSaid (W.contents writer.old) before said output.old →
-        (text : Bytes) × (text ≡ because_text notes.now lab.now node step most)
-        × IsSaidOrCut result (W.contents writer.new) before (said ++ text) output.new }
+    ensures { Says result (λ text. text ≡ because_text notes.now lab.now node step most) W.contents writer.old writer.new }
 {
     if lab.stands((node, step)) {
         let near = lab.walk(node, step);
-        say_decisions(lab, notes, &near, node, most, output, writer)
+        say_decisions(lab, notes, &near, node, most, writer)
     } else {
-        output.say(writer, refusal_text(LabFault::NoStep))
+        writer.say(refusal_text(LabFault::NoStep))
     }
 }
 
@@ -62,12 +58,11 @@ fn say_decisions<'l, W: Write>(
     near: &Walk<'l>,
     node: NodeId,
     most: u32,
-    output: &mut Output,
-    writer: &mut W,
+    writer: &mut Writer<'_, W>,
 ) -> Said
     requires { near.now ≡ standing lab.now node near.now.step }
     ensures { Says result (λ text. text ≡ decisions_text notes.now lab.now node most (near.now.step - 1))
-        (W.contents writer.old) output.old (W.contents writer.new) output.new }
+        W.contents writer.old writer.new }
 {
     let mut decisions = Decisions::before(lab, near, node);
     let mut left = most;
@@ -75,7 +70,7 @@ fn say_decisions<'l, W: Write>(
         let Some(decision) = decisions.next() else {
             return Ok(());
         };
-        say_decision(lab, notes, near, node, decision, output, writer)?;
+        say_decision(lab, notes, near, node, decision, writer)?;
         left -= 1;
     }
     Ok(())
@@ -88,21 +83,19 @@ fn say_decision<W: Write>(
     near: &Walk<'_>,
     node: NodeId,
     decision: Decision,
-    output: &mut Output,
-    writer: &mut W,
+    writer: &mut Writer<'_, W>,
 ) -> Said
     requires { near.now ≡ standing lab.now node near.now.step }
-    ensures { (before said : Bytes) → IsSaid (W.contents writer.old) before said output.old →
-        IsSaidOrCut result (W.contents writer.new) before (said ++ decision_text notes.now lab.now node decision) output.new }
+    ensures { SaysExactly result (decision_text notes.now lab.now node decision) W.contents writer.old writer.new }
 {
     let step = decision.step;
     let row = Row {
         depth: 0,
         value: decision.source,
     };
-    output.say_blocks(writer, decided_line(node, decision).as_slice())?;
-    say_step_tail(lab, notes, near, node, node, step, output, writer)?;
-    say_row(lab, notes, near, node, 1, row, output, writer)
+    writer.say_blocks(decided_line(node, decision).as_slice())?;
+    say_step_tail(lab, notes, near, node, node, step, writer)?;
+    say_row(lab, notes, near, node, 1, row, writer)
 }
 
 /// A step, what it did and what it tested.

@@ -2,8 +2,7 @@
 
 ghost use Rattle.std.specs.Prelude.{◌≡◌, ◌++◌};
 ghost use Rattle.ga_text.specs.Lines.{Bytes};
-ghost use Rattle.ga_text.specs.Output.{IsSaid, IsSaidOrCut};
-ghost use Rattle.ga_text.specs.kept.{Says};
+ghost use Rattle.ga_text.specs.Output.{Says, SaysExactly};
 ghost use Rattle.ga_answers.specs.Texts.{effect_text, effects_head, effects_text};
 ghost use Rattle.ga_answers.specs.Telling.{TellsEffects};
 
@@ -13,7 +12,7 @@ use ga_display::refusal_text;
 use ga_grid::NodeId;
 use ga_lab::Lab;
 use ga_search::{Effects, RollbackEffect, find_effects};
-use ga_text::{Output, TextBuffer, WriteFailed, push_number, push_step, push_text};
+use ga_text::{Writer, TextBuffer, WriteFailed, push_number, push_step, push_text};
 use std::alloc::Global;
 use std::io::Write;
 
@@ -26,50 +25,45 @@ pub fn say_effects<W: Write>(
     lab: &mut Lab,
     node: NodeId,
     step: u32,
-    output: &mut Output,
-    writer: &mut W,
+    writer: &mut Writer<'_, W>,
 ) -> Result<(), WriteFailed>
-    ensures said { (before said : Bytes) → IsSaid (W.contents writer.old) before said output.old →
-        (text : Bytes) × TellsEffects lab.old node step text
-        × IsSaidOrCut result (W.contents writer.new) before (said ++ text) output.new }
+    ensures said { Says result (TellsEffects lab.old node step) W.contents writer.old writer.new }
     ensures same { lab.new ≡ lab.old }
 {
     match find_effects(alloc, lab, node, step) {
-        Ok(effects) => say_found(&effects, output, writer),
-        Err(fault) => output.say(writer, refusal_text(fault)),
+        Ok(effects) => say_found(&effects, writer),
+        Err(fault) => writer.say(refusal_text(fault)),
     }
 }
 
 /// Says how many events would go, then what would go of each node.
-fn say_found<W: Write>(effects: &Effects, output: &mut Output, writer: &mut W) -> Said
+fn say_found<W: Write>(effects: &Effects, writer: &mut Writer<'_, W>) -> Said
     ensures { Says result (λ text. text ≡ effects_text effects.now.events effects.now.nodes.items)
-        (W.contents writer.old) output.old (W.contents writer.new) output.new }
+        W.contents writer.old writer.new }
 {
-    say_nodes(effects.events, effects.nodes.as_slice(), output, writer)
+    say_nodes(effects.events, effects.nodes.as_slice(), writer)
 }
 
 fn say_nodes<W: Write>(
     events: u32,
     nodes: &[RollbackEffect],
-    output: &mut Output,
-    writer: &mut W,
+    writer: &mut Writer<'_, W>,
 ) -> Said
     ensures { Says result (λ text. text ≡ effects_text events nodes.now)
-        (W.contents writer.old) output.old (W.contents writer.new) output.new }
+        W.contents writer.old writer.new }
 {
-    output.say_blocks(writer, head_line(events, nodes.len()).as_slice())?;
+    writer.say_blocks(head_line(events, nodes.len()).as_slice())?;
     'nodes: for effect in nodes {
-        say_effect(*effect, output, writer)?;
+        say_effect(*effect, writer)?;
     }
     Ok(())
 }
 
 /// Says what would go of a node.
-fn say_effect<W: Write>(effect: RollbackEffect, output: &mut Output, writer: &mut W) -> Said
-    ensures { (before said : Bytes) → IsSaid (W.contents writer.old) before said output.old →
-        IsSaidOrCut result (W.contents writer.new) before (said ++ effect_text effect) output.new }
+fn say_effect<W: Write>(effect: RollbackEffect, writer: &mut Writer<'_, W>) -> Said
+    ensures { SaysExactly result (effect_text effect) W.contents writer.old writer.new }
 {
-    output.say_blocks(writer, effect_line(effect).as_slice())
+    writer.say_blocks(effect_line(effect).as_slice())
 }
 
 /// How many events would go, and of how many nodes.

@@ -2,8 +2,7 @@
 
 ghost use Rattle.std.specs.Prelude.{◌≡◌, ◌≤◌, ◌++◌, length, flat_map};
 ghost use Rattle.ga_text.specs.Lines.{Bytes};
-ghost use Rattle.ga_text.specs.Output.{IsSaid, IsSaidOrCut};
-ghost use Rattle.ga_text.specs.kept.{Says};
+ghost use Rattle.ga_text.specs.Output.{Says, SaysExactly};
 ghost use Rattle.ga_race_detector.specs.Readings.{back_of};
 ghost use Rattle.ga_answers.specs.Races.{race_text, reading_text, before_or_behind, races_head, race_lines_text, last_line, listed_text, TellsRaces};
 
@@ -14,7 +13,7 @@ use ga_grid::NodeId;
 use ga_lab::Lab;
 use ga_race_detector::{Race, Races, Reading, find_races};
 use ga_text::{
-    Output, TextBuffer, WriteFailed, push_node, push_number, push_step, push_text, push_word,
+    Writer, TextBuffer, WriteFailed, push_node, push_number, push_step, push_text, push_word,
 };
 use std::alloc::Global;
 use std::io::Write;
@@ -28,17 +27,14 @@ pub fn say_races<W: Write>(
     alloc: Global,
     lab: &mut Lab,
     only: Option<NodeId>,
-    output: &mut Output,
-    writer: &mut W,
+    writer: &mut Writer<'_, W>,
 ) -> Result<(), WriteFailed>
-    ensures said { (before said : Bytes) → IsSaid (W.contents writer.old) before said output.old →
-        (text : Bytes) × TellsRaces lab.old only text
-        × IsSaidOrCut result (W.contents writer.new) before (said ++ text) output.new }
+    ensures said { Says result (TellsRaces lab.old only) W.contents writer.old writer.new }
     ensures same { lab.new ≡ lab.old }
 {
     match find_races(alloc, lab, only) {
-        Ok(races) => say_found(only, &races, output, writer),
-        Err(fault) => output.say(writer, refusal_text(fault)),
+        Ok(races) => say_found(only, &races, writer),
+        Err(fault) => writer.say(refusal_text(fault)),
     }
 }
 
@@ -46,28 +42,27 @@ pub fn say_races<W: Write>(
 fn say_found<W: Write>(
     only: Option<NodeId>,
     races: &Races,
-    output: &mut Output,
-    writer: &mut W,
+    writer: &mut Writer<'_, W>,
 ) -> Said
     ensures { Says result (λ text. text ≡ listed_text only races.now.list.items races.now.readings.items races.now.looks races.now.quiet)
-        (W.contents writer.old) output.old (W.contents writer.new) output.new }
+        W.contents writer.old writer.new }
 {
     let list = races.list.as_slice();
     let readings = races.readings.as_slice();
     let count = list.len() as u64 + readings.len() as u64;
-    say_list(list, count, output, writer)?;
+    say_list(list, count, writer)?;
     let last = last_line(only, list, races.looks, races.quiet);
-    say_rest(readings, last, output, writer)
+    say_rest(readings, last, writer)
 }
 
 /// Says that so many lines follow, then each of these.
-fn say_list<W: Write>(races: &[Race], count: u64, output: &mut Output, writer: &mut W) -> Said
+fn say_list<W: Write>(races: &[Race], count: u64, writer: &mut Writer<'_, W>) -> Said
     ensures { Says result (λ text. text ≡ race_lines_text races.now count)
-        (W.contents writer.old) output.old (W.contents writer.new) output.new }
+        W.contents writer.old writer.new }
 {
-    output.say_blocks(writer, head_line(count).as_slice())?;
+    writer.say_blocks(head_line(count).as_slice())?;
     'races: for race in races {
-        say_race(*race, output, writer)?;
+        say_race(*race, writer)?;
     }
     Ok(())
 }
@@ -76,32 +71,29 @@ fn say_list<W: Write>(races: &[Race], count: u64, output: &mut Output, writer: &
 fn say_rest<W: Write>(
     readings: &[Reading],
     last: &'static [u8],
-    output: &mut Output,
-    writer: &mut W,
+    writer: &mut Writer<'_, W>,
 ) -> Said
     ensures { Says result (λ text. text ≡ flat_map reading_text readings.now ++ last.now)
-        (W.contents writer.old) output.old (W.contents writer.new) output.new }
+        W.contents writer.old writer.new }
 {
     'readings: for reading in readings {
-        say_reading(*reading, output, writer)?;
+        say_reading(*reading, writer)?;
     }
-    output.say_blocks(writer, last)
+    writer.say_blocks(last)
 }
 
 /// Says one of them.
-fn say_reading<W: Write>(reading: Reading, output: &mut Output, writer: &mut W) -> Said
-    ensures { (before said : Bytes) → IsSaid (W.contents writer.old) before said output.old →
-        IsSaidOrCut result (W.contents writer.new) before (said ++ reading_text reading) output.new }
+fn say_reading<W: Write>(reading: Reading, writer: &mut Writer<'_, W>) -> Said
+    ensures { SaysExactly result (reading_text reading) W.contents writer.old writer.new }
 {
-    output.say_blocks(writer, reading_line(reading).as_slice())
+    writer.say_blocks(reading_line(reading).as_slice())
 }
 
 /// Says one of them.
-fn say_race<W: Write>(race: Race, output: &mut Output, writer: &mut W) -> Said
-    ensures { (before said : Bytes) → IsSaid (W.contents writer.old) before said output.old →
-        IsSaidOrCut result (W.contents writer.new) before (said ++ race_text race) output.new }
+fn say_race<W: Write>(race: Race, writer: &mut Writer<'_, W>) -> Said
+    ensures { SaysExactly result (race_text race) W.contents writer.old writer.new }
 {
-    output.say_blocks(writer, race_line(race).as_slice())
+    writer.say_blocks(race_line(race).as_slice())
 }
 
 /// How many lines of steps follow.

@@ -1,10 +1,10 @@
 //! Rings of nodes that can never go on, told line by line.
 
+ghost use Rattle.ga_text.specs.Output.{Says};
 ghost use Rattle.std.specs.Prelude.{◌≡◌, ◌++◌, ◌+◌, ◌≤◌, [], Some};
 ghost use Rattle.ga_grid.specs.Grid.{number_where_any};
 ghost use Rattle.ga_grid.specs.Chip.{records_of};
 ghost use Rattle.ga_causal.specs.Dependence.{is_marked};
-ghost use Rattle.ga_text.specs.kept.{Says};
 ghost use Rattle.ga_answers.specs.Waiting.{awaited_at, sole, sole_awaited, name_text, ring_names, ring_line, ring_text, all_rings};
 
 use crate::Said;
@@ -12,7 +12,7 @@ use arrayvec::ArrayVec;
 use ga_grid::{Chip, NodeId, neighbour};
 use ga_ports::Side;
 use ga_races::awaits;
-use ga_text::{Output, push_node, push_text};
+use ga_text::{Writer, push_node, push_text};
 use std::io::Write;
 
 /// Room for a line: a name behind a space for each node, and one more behind the last that is followed.
@@ -25,15 +25,14 @@ type RingLine = ArrayVec<u8, RING_ROOM>;
 pub(crate) fn say_rings<W: Write>(
     chip: &Chip,
     stuck: &[bool; 144],
-    output: &mut Output,
-    writer: &mut W,
+    writer: &mut Writer<'_, W>,
 ) -> Said
     ensures { Says result (λ text. text ≡ all_rings (records_of chip.now) (is_marked stuck.now))
-        (W.contents writer.old) output.old (W.contents writer.new) output.new }
+        W.contents writer.old writer.new }
 {
     'nodes: for number in 0..144u8 {
         let line = line_of_ring(chip, stuck, NodeId::new(number));
-        output.say_blocks(writer, line.as_slice())?;
+        writer.say_blocks(line.as_slice())?;
     }
     Ok(())
 }

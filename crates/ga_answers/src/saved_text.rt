@@ -4,8 +4,7 @@ ghost use Rattle.std.specs.Prelude.{◌≡◌, ◌++◌, flat_map};
 ghost use Rattle.std.specs.List.{slice_get};
 ghost use Rattle.ga_text.specs.Lines.{Bytes};
 ghost use Rattle.ga_lab.specs.Machine.{actor_of};
-ghost use Rattle.ga_text.specs.Output.{IsSaid, IsSaidOrCut};
-ghost use Rattle.ga_text.specs.kept.{Says};
+ghost use Rattle.ga_text.specs.Output.{Says, SaysExactly};
 ghost use Rattle.ga_answers.specs.Saved.{step_line, with_feed, saved_text};
 ghost use Rattle.ga_answers.specs.kept.{actor_in, line_at, cause_line};
 
@@ -14,7 +13,7 @@ use arrayvec::ArrayVec;
 use ga_event::{Cause, Event};
 use ga_grid::NodeId;
 use ga_lab::{Lab, Made};
-use ga_text::{Output, TextBuffer, WriteFailed, push_node, push_text};
+use ga_text::{Writer, TextBuffer, WriteFailed, push_node, push_text};
 use std::io::Write;
 
 /// `save`: says a line `step NNN` for each kept event. Takes memory for the list of the events, and time by how many they are; where
@@ -24,37 +23,34 @@ use std::io::Write;
 /// A write failed.
 pub fn say_saved<W: Write>(
     lab: &Lab,
-    output: &mut Output,
-    writer: &mut W,
+    writer: &mut Writer<'_, W>,
 ) -> Result<(), WriteFailed>
-    ensures { (before said : Bytes) → IsSaid (W.contents writer.old) before said output.old →
-        IsSaidOrCut result (W.contents writer.new) before (said ++ saved_text lab.now) output.new }
+    ensures { SaysExactly result (saved_text lab.now) W.contents writer.old writer.new }
 {
     // So the kept events are those that are listed.
     let _chip = lab.chip();
     match lab.causes() {
-        Ok(causes) => say_listed(causes.as_slice(), output, writer),
-        Err(_) => say_unlisted(lab, output, writer),
+        Ok(causes) => say_listed(causes.as_slice(), writer),
+        Err(_) => say_unlisted(lab, writer),
     }
 }
 
 /// Says the lines of these events.
-fn say_listed<W: Write>(causes: &[Cause], output: &mut Output, writer: &mut W) -> Said
+fn say_listed<W: Write>(causes: &[Cause], writer: &mut Writer<'_, W>) -> Said
     ensures { Says result (λ text. text ≡ flat_map cause_line causes.now)
-        (W.contents writer.old) output.old (W.contents writer.new) output.new }
+        W.contents writer.old writer.new }
 {
     'causes: for cause in causes {
-        say_event(cause.event, output, writer)?;
+        say_event(cause.event, writer)?;
     }
     Ok(())
 }
 
 /// Says the line of an event.
-fn say_event<W: Write>(event: Event, output: &mut Output, writer: &mut W) -> Said
-    ensures { (before said : Bytes) → IsSaid (W.contents writer.old) before said output.old →
-        IsSaidOrCut result (W.contents writer.new) before (said ++ with_feed (step_line (actor_of event))) output.new }
+fn say_event<W: Write>(event: Event, writer: &mut Writer<'_, W>) -> Said
+    ensures { SaysExactly result (with_feed (step_line (actor_of event))) W.contents writer.old writer.new }
 {
-    output.say_blocks(writer, step_line(actor_of(event)).as_slice())
+    writer.say_blocks(step_line(actor_of(event)).as_slice())
 }
 
 /// The node that makes the event: of a pass the writer.
@@ -68,25 +64,25 @@ fn actor_of(event: Event) -> NodeId
 }
 
 /// Says the lines of the kept events, each of which is looked up by itself.
-fn say_unlisted<W: Write>(lab: &Lab, output: &mut Output, writer: &mut W) -> Said
+fn say_unlisted<W: Write>(lab: &Lab, writer: &mut Writer<'_, W>) -> Said
     ensures { Says result (λ text. text ≡ saved_text lab.now)
-        (W.contents writer.old) output.old (W.contents writer.new) output.new }
+        W.contents writer.old writer.new }
 {
     'places: for place in 0..lab.counts().kept {
-        say_step(lab, place, output, writer)?;
+        say_step(lab, place, writer)?;
     }
     Ok(())
 }
 
 /// Says the line of the event at a place.
-fn say_step<W: Write>(lab: &Lab, place: u32, output: &mut Output, writer: &mut W) -> Said
+fn say_step<W: Write>(lab: &Lab, place: u32, writer: &mut Writer<'_, W>) -> Said
     ensures { Says result (λ text. text ≡ line_at (slice_get lab.now.kept place))
-        (W.contents writer.old) output.old (W.contents writer.new) output.new }
+        W.contents writer.old writer.new }
 {
     // So the kept events are those that are told.
     let _chip = lab.chip();
     match lab.made_at(place) {
-        Some(made) => output.say_blocks(writer, step_line(actor(&made)).as_slice()),
+        Some(made) => writer.say_blocks(step_line(actor(&made)).as_slice()),
         None => Ok(()),
     }
 }

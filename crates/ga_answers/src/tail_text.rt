@@ -4,7 +4,7 @@ ghost use Rattle.std.specs.Prelude.{◌≡◌, ◌≤◌, ◌-◌, ℕ, ◌++◌
 ghost use Rattle.ga_node.specs.Record.{record_of};
 ghost use Rattle.ga_event.specs.Told.{steps_of};
 ghost use Rattle.ga_text.specs.Lines.{Bytes};
-ghost use Rattle.ga_text.specs.Output.{IsSaid, IsSaidOrCut};
+ghost use Rattle.ga_text.specs.Output.{SaysExactly};
 ghost use Rattle.ga_lab.specs.Machine.{standing};
 ghost use Rattle.ga_origin.specs.Fetched.{fetched_cell as cell_fetched};
 ghost use Rattle.ga_origin.specs.Origins.{node_after};
@@ -17,7 +17,7 @@ use ga_lab::{Lab, Walk};
 use ga_node::{Node, Place};
 use ga_notes::Notes;
 use ga_origin::{Value, fetched_near};
-use ga_text::Output;
+use ga_text::Writer;
 use std::io::Write;
 
 /// The slot of a fetch.
@@ -162,14 +162,12 @@ fn say_tail<W: Write>(
     node: NodeId,
     cell: Option<u8>,
     slot: usize,
-    output: &mut Output,
-    writer: &mut W,
+    writer: &mut Writer<'_, W>,
 ) -> Said
-    ensures { (before said : Bytes) → IsSaid (W.contents writer.old) before said output.old →
-        IsSaidOrCut result (W.contents writer.new) before (said ++ tail_text notes.now node cell slot) output.new }
+    ensures { SaysExactly result (tail_text notes.now node cell slot) W.contents writer.old writer.new }
 {
-    say_noted(notes, node, cell, slot, output, writer)?;
-    output.say(writer, b"\n")
+    say_noted(notes, node, cell, slot, writer)?;
+    writer.say(b"\n")
 }
 
 /// Says what the source says of a slot of a cell.
@@ -178,14 +176,12 @@ fn say_noted<W: Write>(
     node: NodeId,
     cell: Option<u8>,
     slot: usize,
-    output: &mut Output,
-    writer: &mut W,
+    writer: &mut Writer<'_, W>,
 ) -> Said
-    ensures { (before said : Bytes) → IsSaid (W.contents writer.old) before said output.old →
-        IsSaidOrCut result (W.contents writer.new) before (said ++ noted_text notes.now node cell slot) output.new }
+    ensures { SaysExactly result (noted_text notes.now node cell slot) W.contents writer.old writer.new }
 {
-    output.say_blocks(writer, noted(notes, node, cell))?;
-    output.say_blocks(writer, noted_slot(notes, node, cell, slot))
+    writer.say_blocks(noted(notes, node, cell))?;
+    writer.say_blocks(noted_slot(notes, node, cell, slot))
 }
 
 /// Ends a line that tells of a step, by where a walk of some node stands.
@@ -199,16 +195,14 @@ pub(crate) fn say_step_tail<W: Write>(
     at: NodeId,
     node: NodeId,
     step: u32,
-    output: &mut Output,
-    writer: &mut W,
+    writer: &mut Writer<'_, W>,
 ) -> Said
     requires { near.now ≡ standing lab.now at near.now.step }
-    ensures { (before said : Bytes) → IsSaid (W.contents writer.old) before said output.old →
-        IsSaidOrCut result (W.contents writer.new) before (said ++ step_tail notes.now lab.now node step) output.new }
+    ensures { SaysExactly result (step_tail notes.now lab.now node step) W.contents writer.old writer.new }
 {
     let cell = step_cell(lab, notes, near, at, node, step);
     let slot = step_slot(lab, notes, near, at, node, step, cell);
-    say_tail(notes, node, cell, slot, output, writer)
+    say_tail(notes, node, cell, slot, writer)
 }
 
 /// Ends a line that tells of the step to which a node is walked back.
@@ -220,14 +214,12 @@ pub(crate) fn say_walk_tail<W: Write>(
     notes: &Option<Notes>,
     node: NodeId,
     walk: &Walk<'_>,
-    output: &mut Output,
-    writer: &mut W,
+    writer: &mut Writer<'_, W>,
 ) -> Said
     requires { walk.now ≡ standing lab.now node walk.now.step }
-    ensures { (before said : Bytes) → IsSaid (W.contents writer.old) before said output.old →
-        IsSaidOrCut result (W.contents writer.new) before (said ++ step_tail notes.now lab.now node walk.now.step) output.new }
+    ensures { SaysExactly result (step_tail notes.now lab.now node walk.now.step) W.contents writer.old writer.new }
 {
-    say_step_tail(lab, notes, walk, node, node, walk.step(), output, writer)
+    say_step_tail(lab, notes, walk, node, node, walk.step(), writer)
 }
 
 /// Ends a line that tells of a value: of the step that made it, or of the cell where it was loaded; by where a walk of some node
@@ -241,17 +233,15 @@ pub(crate) fn say_value_tail<W: Write>(
     near: &Walk<'_>,
     at: NodeId,
     value: Value,
-    output: &mut Output,
-    writer: &mut W,
+    writer: &mut Writer<'_, W>,
 ) -> Said
     requires { near.now ≡ standing lab.now at near.now.step }
-    ensures { (before said : Bytes) → IsSaid (W.contents writer.old) before said output.old →
-        IsSaidOrCut result (W.contents writer.new) before (said ++ value_tail notes.now lab.now value) output.new }
+    ensures { SaysExactly result (value_tail notes.now lab.now value) W.contents writer.old writer.new }
 {
     if value.step == 0 {
         let cell = part_cell(value.part);
-        say_tail(notes, value.node, cell, FETCH, output, writer)
+        say_tail(notes, value.node, cell, FETCH, writer)
     } else {
-        say_step_tail(lab, notes, near, at, value.node, value.step, output, writer)
+        say_step_tail(lab, notes, near, at, value.node, value.step, writer)
     }
 }

@@ -5,8 +5,7 @@ ghost use Rattle.ga_text.specs.Lines.{Bytes};
 ghost use Rattle.arrayvec.specs.ArrayVec.{array_vec_len};
 ghost use Rattle.ga_event.specs.Flow.{IsPart};
 ghost use Rattle.ga_lab.specs.Machine.{stands, standing};
-ghost use Rattle.ga_text.specs.Output.{IsSaid, IsSaidOrCut};
-ghost use Rattle.ga_text.specs.kept.{Says};
+ghost use Rattle.ga_text.specs.Output.{Says, SaysExactly};
 ghost use Rattle.ga_answers.specs.Trees.{blanks, tree_row_text, rows_by, value_text, did_text, head_text, more_text, TellsAsked, TellsWhence};
 ghost use Rattle.ga_answers.specs.kept.{is_first};
 
@@ -20,7 +19,7 @@ use ga_grid::NodeId;
 use ga_lab::{Lab, LabFault, Walk};
 use ga_notes::Notes;
 use ga_origin::{Row, Value, asked_behind, whence_near};
-use ga_text::{Output, STEP_ROOM, TextBuffer, WriteFailed, push_node, push_step, push_text};
+use ga_text::{Writer, STEP_ROOM, TextBuffer, WriteFailed, push_node, push_step, push_text};
 use std::alloc::Global;
 use std::io::Write;
 
@@ -41,20 +40,17 @@ pub fn say_whence<W: Write>(
     notes: &Option<Notes>,
     node: NodeId,
     step: u32,
-    output: &mut Output,
-    writer: &mut W,
+    writer: &mut Writer<'_, W>,
 ) -> Result<(), WriteFailed>
-    ensures { (before said : Bytes) → IsSaid (W.contents writer.old) before said output.old →
-        (text : Bytes) × TellsWhence notes.now lab.now node step text
-        × IsSaidOrCut result (W.contents writer.new) before (said ++ text) output.new }
+    ensures { Says result (TellsWhence notes.now lab.now node step) W.contents writer.old writer.new }
 {
     if !lab.stands((node, step)) {
-        return output.say(writer, refusal_text(LabFault::NoStep));
+        return writer.say(refusal_text(LabFault::NoStep));
     }
     let near = lab.walk(node, step);
     match asked_behind(lab, &near, node) {
-        Some(value) => say_asked(alloc, lab, notes, &near, node, value, output, writer),
-        None => say_head(lab, notes, &near, node, output, writer),
+        Some(value) => say_asked(alloc, lab, notes, &near, node, value, writer),
+        None => say_head(lab, notes, &near, node, writer),
     }
 }
 
@@ -66,21 +62,20 @@ fn say_asked<W: Write>(
     near: &Walk<'_>,
     node: NodeId,
     value: Value,
-    output: &mut Output,
-    writer: &mut W,
+    writer: &mut Writer<'_, W>,
 ) -> Said
     requires part { IsPart value.part }
     requires near { near.now ≡ standing lab.now node near.now.step }
     ensures { Says result (λ text. TellsAsked notes.now lab.now node near.now.step (Some value) text)
-        (W.contents writer.old) output.old (W.contents writer.new) output.new }
+        W.contents writer.old writer.new }
 {
     match whence_near(alloc, lab, near, node, value, MOST_ROWS) {
         Ok(listing) => {
             let rows = listing.rows.as_slice();
-            say_rows(lab, notes, near, node, rows, output, writer)?;
-            output.say_blocks(writer, more(listing.is_whole))
+            say_rows(lab, notes, near, node, rows, writer)?;
+            writer.say_blocks(more(listing.is_whole))
         }
-        Err(_) => output.say(writer, refusal_text(LabFault::Memory)),
+        Err(_) => writer.say(refusal_text(LabFault::Memory)),
     }
 }
 
@@ -108,18 +103,17 @@ fn say_rows<W: Write>(
     near: &Walk<'_>,
     node: NodeId,
     rows: &[Row],
-    output: &mut Output,
-    writer: &mut W,
+    writer: &mut Writer<'_, W>,
 ) -> Said
     requires { near.now ≡ standing lab.now node near.now.step }
     ensures { Says result (λ text. text ≡ rows_by notes.now lab.now node near.now.step (is_first near.now.step rows.now) rows.now)
-        (W.contents writer.old) output.old (W.contents writer.new) output.new }
+        W.contents writer.old writer.new }
 {
     if is_first(near.step(), rows) {
-        return say_lines(lab, notes, near, node, 0, rows, output, writer);
+        return say_lines(lab, notes, near, node, 0, rows, writer);
     }
-    say_head(lab, notes, near, node, output, writer)?;
-    say_lines(lab, notes, near, node, 1, rows, output, writer)
+    say_head(lab, notes, near, node, writer)?;
+    say_lines(lab, notes, near, node, 1, rows, writer)
 }
 
 /// Says the step asked for, to which its node is walked back.
@@ -128,15 +122,14 @@ fn say_head<W: Write>(
     notes: &Option<Notes>,
     near: &Walk<'_>,
     node: NodeId,
-    output: &mut Output,
-    writer: &mut W,
+    writer: &mut Writer<'_, W>,
 ) -> Said
     requires { near.now ≡ standing lab.now node near.now.step }
     ensures { Says result (λ text. text ≡ head_text notes.now lab.now node near.now.step)
-        (W.contents writer.old) output.old (W.contents writer.new) output.new }
+        W.contents writer.old writer.new }
 {
-    output.say_blocks(writer, head_line(lab, node, near.step()).as_slice())?;
-    say_walk_tail(lab, notes, node, near, output, writer)
+    writer.say_blocks(head_line(lab, node, near.step()).as_slice())?;
+    say_walk_tail(lab, notes, node, near, writer)
 }
 
 /// Says the lines of some rows, each so much deeper, by where a walk of some node stands.
@@ -147,15 +140,14 @@ fn say_lines<W: Write>(
     at: NodeId,
     deeper: u8,
     rows: &[Row],
-    output: &mut Output,
-    writer: &mut W,
+    writer: &mut Writer<'_, W>,
 ) -> Said
     requires { near.now ≡ standing lab.now at near.now.step }
     ensures { Says result (λ text. text ≡ flat_map (tree_row_text notes.now lab.now deeper) rows.now)
-        (W.contents writer.old) output.old (W.contents writer.new) output.new }
+        W.contents writer.old writer.new }
 {
     'rows: for row in rows {
-        say_row(lab, notes, near, at, deeper, *row, output, writer)?;
+        say_row(lab, notes, near, at, deeper, *row, writer)?;
     }
     Ok(())
 }
@@ -168,26 +160,23 @@ pub(crate) fn say_row<W: Write>(
     at: NodeId,
     deeper: u8,
     row: Row,
-    output: &mut Output,
-    writer: &mut W,
+    writer: &mut Writer<'_, W>,
 ) -> Said
     requires { near.now ≡ standing lab.now at near.now.step }
-    ensures { (before said : Bytes) → IsSaid (W.contents writer.old) before said output.old →
-        IsSaidOrCut result (W.contents writer.new) before (said ++ tree_row_text notes.now lab.now deeper row) output.new }
+    ensures { SaysExactly result (tree_row_text notes.now lab.now deeper row) W.contents writer.old writer.new }
 {
-    say_blanks(u64::from(row.depth) + u64::from(deeper), output, writer)?;
-    output.say_blocks(writer, value_line(lab, row.value).as_slice())?;
-    say_value_tail(lab, notes, near, at, row.value, output, writer)
+    say_blanks(u64::from(row.depth) + u64::from(deeper), writer)?;
+    writer.say_blocks(value_line(lab, row.value).as_slice())?;
+    say_value_tail(lab, notes, near, at, row.value, writer)
 }
 
 /// Says two blanks for each level.
-fn say_blanks<W: Write>(levels: u64, output: &mut Output, writer: &mut W) -> Said
-    ensures { (before said : Bytes) → IsSaid (W.contents writer.old) before said output.old →
-        IsSaidOrCut result (W.contents writer.new) before (said ++ blanks levels) output.new }
+fn say_blanks<W: Write>(levels: u64, writer: &mut Writer<'_, W>) -> Said
+    ensures { SaysExactly result (blanks levels) W.contents writer.old writer.new }
 {
     let mut left = levels;
     'levels: while left > 0 {
-        output.say(writer, b"  ")?;
+        writer.say(b"  ")?;
         left -= 1;
     }
     Ok(())

@@ -6,8 +6,7 @@ ghost use Rattle.arrayvec.specs.ArrayVec.{array_vec_len};
 ghost use Rattle.ga_grid.specs.Grid.{number_where_any};
 ghost use Rattle.ga_grid.specs.Chip.{records_of};
 ghost use Rattle.ga_causal.specs.Dependence.{is_marked};
-ghost use Rattle.ga_text.specs.Output.{IsSaid, IsSaidOrCut};
-ghost use Rattle.ga_text.specs.kept.{Says};
+ghost use Rattle.ga_text.specs.Output.{Says, SaysExactly};
 ghost use Rattle.ga_answers.specs.Waiting.{doing_word, does_text, beside_text, awaited_text, awaiting_text, waiting_text, busy_text, all_waiting, name_if, busy_names, node_count, idle_tail, stuck_line, stuck_text, idle_line, idle_text};
 ghost use Rattle.ga_answers.specs.Telling.{TellsWho};
 
@@ -20,7 +19,7 @@ use ga_node::{Node, Wait};
 use ga_ports::Side;
 use ga_races::{awaits, find_stuck};
 use ga_search::find_idle;
-use ga_text::{NUMBER_ROOM, Output, TextBuffer, WriteFailed, push_node, push_number, push_text};
+use ga_text::{NUMBER_ROOM, Writer, TextBuffer, WriteFailed, push_node, push_number, push_text};
 use std::io::Write;
 
 /// The most bytes of what a node does.
@@ -52,32 +51,29 @@ type StuckLine = ArrayVec<u8, STUCK_ROOM>;
 ///
 /// # Errors
 /// A write failed.
-pub fn say_who<W: Write>(lab: &Lab, output: &mut Output, writer: &mut W) -> Result<(), WriteFailed>
-    ensures { (before said : Bytes) → IsSaid (W.contents writer.old) before said output.old →
-        (text : Bytes) × TellsWho lab.now text
-        × IsSaidOrCut result (W.contents writer.new) before (said ++ text) output.new }
+pub fn say_who<W: Write>(lab: &Lab, writer: &mut Writer<'_, W>) -> Result<(), WriteFailed>
+    ensures { Says result (TellsWho lab.now) W.contents writer.old writer.new }
 {
     let chip = lab.chip();
     let stuck = find_stuck(chip);
     let idle = find_idle(lab);
-    say_waiting(chip, &idle, output, writer)?;
-    output.say_blocks(writer, stuck_line(&stuck, &idle).as_slice())?;
-    say_rings(chip, &stuck, output, writer)?;
-    output.say_blocks(writer, idle_line(&idle).as_slice())
+    say_waiting(chip, &idle, writer)?;
+    writer.say_blocks(stuck_line(&stuck, &idle).as_slice())?;
+    say_rings(chip, &stuck, writer)?;
+    writer.say_blocks(idle_line(&idle).as_slice())
 }
 
 /// Says the lines of the nodes that wait and are not idle.
 fn say_waiting<W: Write>(
     chip: &Chip,
     idle: &[bool; 144],
-    output: &mut Output,
-    writer: &mut W,
+    writer: &mut Writer<'_, W>,
 ) -> Said
     ensures { Says result (λ text. text ≡ all_waiting (records_of chip.now) (is_marked idle.now))
-        (W.contents writer.old) output.old (W.contents writer.new) output.new }
+        W.contents writer.old writer.new }
 {
     'nodes: for number in 0..144u8 {
-        say_node(chip, idle, NodeId::new(number), output, writer)?;
+        say_node(chip, idle, NodeId::new(number), writer)?;
     }
     Ok(())
 }
@@ -87,14 +83,11 @@ fn say_node<W: Write>(
     chip: &Chip,
     idle: &[bool; 144],
     node: NodeId,
-    output: &mut Output,
-    writer: &mut W,
+    writer: &mut Writer<'_, W>,
 ) -> Said
-    ensures { (before said : Bytes) → IsSaid (W.contents writer.old) before said output.old →
-        IsSaidOrCut result (W.contents writer.new) before
-        (said ++ busy_text (records_of chip.now) (is_marked idle.now) node.number) output.new }
+    ensures { SaysExactly result (busy_text (records_of chip.now) (is_marked idle.now) node.number) W.contents writer.old writer.new }
 {
-    output.say_blocks(writer, busy_line(chip, idle, node).as_slice())
+    writer.say_blocks(busy_line(chip, idle, node).as_slice())
 }
 
 /// The line of a node that waits, where it is not idle.

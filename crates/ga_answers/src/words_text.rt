@@ -2,8 +2,7 @@
 
 ghost use Rattle.std.specs.Prelude.{◌≡◌, ◌++◌};
 ghost use Rattle.ga_text.specs.Lines.{Bytes};
-ghost use Rattle.ga_text.specs.Output.{IsSaid, IsSaidOrCut};
-ghost use Rattle.ga_text.specs.kept.{Says};
+ghost use Rattle.ga_text.specs.Output.{Says, SaysExactly};
 ghost use Rattle.ga_answers.specs.Texts.{sent_text, words_head, linked_text, link_words_text};
 
 use crate::Said;
@@ -13,7 +12,7 @@ use ga_lab::Lab;
 use ga_races::are_linked;
 use ga_search::{Sent, Words, count_words};
 use ga_text::{
-    Output, TextBuffer, WriteFailed, push_node, push_number, push_spaced, push_step, push_text,
+    Writer, TextBuffer, WriteFailed, push_node, push_number, push_spaced, push_step, push_text,
 };
 use std::io::Write;
 
@@ -25,17 +24,14 @@ pub fn say_words<W: Write>(
     lab: &Lab,
     from: NodeId,
     to: NodeId,
-    output: &mut Output,
-    writer: &mut W,
+    writer: &mut Writer<'_, W>,
 ) -> Result<(), WriteFailed>
-    ensures { (before said : Bytes) → IsSaid (W.contents writer.old) before said output.old →
-        (text : Bytes) × (text ≡ link_words_text lab.now from to)
-        × IsSaidOrCut result (W.contents writer.new) before (said ++ text) output.new }
+    ensures { Says result (λ text. text ≡ link_words_text lab.now from to) W.contents writer.old writer.new }
 {
     if are_linked(from, to) {
-        say_linked(lab, from, to, output, writer)
+        say_linked(lab, from, to, writer)
     } else {
-        output.say(writer, b"no 34 nolink\n")
+        writer.say(b"no 34 nolink\n")
     }
 }
 
@@ -44,20 +40,19 @@ fn say_linked<W: Write>(
     lab: &Lab,
     from: NodeId,
     to: NodeId,
-    output: &mut Output,
-    writer: &mut W,
+    writer: &mut Writer<'_, W>,
 ) -> Said
     ensures { Says result (λ text. text ≡ linked_text lab.now from to)
-        (W.contents writer.old) output.old (W.contents writer.new) output.new }
+        W.contents writer.old writer.new }
 {
     let count = count_words(lab, from, to);
-    output.say_blocks(writer, head_line(from, to, count).as_slice())?;
+    writer.say_blocks(head_line(from, to, count).as_slice())?;
     let mut words = Words::new(from, to);
     'telling: for _ in 0..count {
         let Some(sent) = words.next(lab) else {
             return Ok(());
         };
-        say_sent(from, to, &sent, output, writer)?;
+        say_sent(from, to, &sent, writer)?;
     }
     Ok(())
 }
@@ -67,13 +62,11 @@ fn say_sent<W: Write>(
     from: NodeId,
     to: NodeId,
     sent: &Sent,
-    output: &mut Output,
-    writer: &mut W,
+    writer: &mut Writer<'_, W>,
 ) -> Said
-    ensures { (before said : Bytes) → IsSaid (W.contents writer.old) before said output.old →
-        IsSaidOrCut result (W.contents writer.new) before (said ++ sent_text from to sent.now) output.new }
+    ensures { SaysExactly result (sent_text from to sent.now) W.contents writer.old writer.new }
 {
-    output.say_blocks(writer, sent_line(from, to, sent).as_slice())
+    writer.say_blocks(sent_line(from, to, sent).as_slice())
 }
 
 /// The link, and how many words of it are kept.

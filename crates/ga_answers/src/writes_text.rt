@@ -1,10 +1,9 @@
 //! The steps that wrote a cell, told line by line.
 
 ghost use Rattle.std.specs.Prelude.{◌≡◌, ◌<◌, Some, ◌++◌};
-ghost use Rattle.ga_text.specs.Output.{IsSaid, IsSaidOrCut};
+ghost use Rattle.ga_text.specs.Output.{Says};
 ghost use Rattle.ga_text.specs.Lines.{Bytes};
 ghost use Rattle.ga_event.specs.Told.{steps_of};
-ghost use Rattle.ga_text.specs.kept.{Says};
 ghost use Rattle.ga_answers.specs.Writing.{written_text, cell_writes, writes_text};
 
 use crate::Said;
@@ -13,7 +12,7 @@ use arrayvec::ArrayVec;
 use ga_grid::NodeId;
 use ga_lab::Lab;
 use ga_origin::{CellWrite, CellWrites};
-use ga_text::{Output, TextBuffer, WriteFailed, push_spaced, push_step, push_text};
+use ga_text::{Writer, TextBuffer, WriteFailed, push_spaced, push_step, push_text};
 use std::io::Write;
 
 /// `writes NNN HH`: tells the steps of a node that wrote at an address of its memory, the newest first. Takes no memory.
@@ -24,15 +23,12 @@ pub fn say_writes<W: Write>(
     lab: &Lab,
     node: NodeId,
     address: u8,
-    output: &mut Output,
-    writer: &mut W,
+    writer: &mut Writer<'_, W>,
 ) -> Result<(), WriteFailed>
-    ensures { (before said : Bytes) → IsSaid (W.contents writer.old) before said output.old →
-        (text : Bytes) × (text ≡ writes_text lab.now node address)
-        × IsSaidOrCut result (W.contents writer.new) before (said ++ text) output.new }
+    ensures { Says result (λ text. text ≡ writes_text lab.now node address) W.contents writer.old writer.new }
 {
     if address < 128 {
-        say_cell(lab, node, address % 64, output, writer)
+        say_cell(lab, node, address % 64, writer)
     } else {
         Ok(())
     }
@@ -43,16 +39,15 @@ fn say_cell<W: Write>(
     lab: &Lab,
     node: NodeId,
     cell: u8,
-    output: &mut Output,
-    writer: &mut W,
+    writer: &mut Writer<'_, W>,
 ) -> Said
     requires { cell < 64 }
     ensures { Says result (λ text. text ≡ cell_writes lab.now node cell (steps_of node.number lab.now.kept))
-        (W.contents writer.old) output.old (W.contents writer.new) output.new }
+        W.contents writer.old writer.new }
 {
     let mut writes = CellWrites::new(lab, node, cell);
     'going: while let Some(written) = writes.next() {
-        output.say_blocks(writer, written_line(node, written).as_slice())?;
+        writer.say_blocks(written_line(node, written).as_slice())?;
     }
     Ok(())
 }

@@ -1,5 +1,5 @@
 //! The commands that change the machine.
-ghost use Rattle.ga_text.specs.kept.{Says};
+ghost use Rattle.ga_text.specs.Output.{Says};
 ghost use Rattle.ga_console.specs.Replies.{Does};
 ghost use Rattle.ga_console.specs.declared.command.Command.TheVariants.{Step, Back, Rewind};
 
@@ -7,29 +7,29 @@ use super::reply::Said;
 use ga_display::{refusal_text, say_made, say_removed};
 use ga_grid::NodeId;
 use ga_lab::Lab;
-use ga_text::Output;
+use ga_text::Writer;
 use std::io::Write;
 
 /// `step NNN`: makes the node's next event.
 #[inline(always)]
-pub fn step<W: Write>(lab: &mut Lab, node: NodeId, output: &mut Output, writer: &mut W) -> Said
+pub fn step<W: Write>(lab: &mut Lab, node: NodeId, writer: &mut Writer<'_, W>) -> Said
     ensures { Says result (λ text. Does lab.old (Step node) text lab.new)
-        (W.contents writer.old) output.old (W.contents writer.new) output.new }
+        W.contents writer.old writer.new }
 {
     match lab.step_inlined(node) {
-        Ok(made) => { say_made(output, writer, made) }
-        Err(fault) => output.say(writer, refusal_text(fault)),
+        Ok(made) => { say_made(writer, made) }
+        Err(fault) => writer.say(refusal_text(fault)),
     }
 }
 
 /// `back`: takes the newest event back.
-pub fn back<W: Write>(lab: &mut Lab, output: &mut Output, writer: &mut W) -> Said
+pub fn back<W: Write>(lab: &mut Lab, writer: &mut Writer<'_, W>) -> Said
     ensures { Says result (λ text. Does lab.old Back text lab.new)
-        (W.contents writer.old) output.old (W.contents writer.new) output.new }
+        W.contents writer.old writer.new }
 {
     match lab.undo() {
-        Ok(()) => { say_removed(output, writer, 1, lab.counts().kept) }
-        Err(fault) => output.say(writer, refusal_text(fault)),
+        Ok(()) => { say_removed(writer, 1, lab.counts().kept) }
+        Err(fault) => writer.say(refusal_text(fault)),
     }
 }
 
@@ -38,14 +38,13 @@ pub fn rewind<W: Write>(
     lab: &mut Lab,
     node: NodeId,
     step: u32,
-    output: &mut Output,
-    writer: &mut W,
+    writer: &mut Writer<'_, W>,
 ) -> Said
     ensures { Says result (λ text. Does lab.old (Rewind node step) text lab.new)
-        (W.contents writer.old) output.old (W.contents writer.new) output.new }
+        W.contents writer.old writer.new }
 {
     match lab.rewind(node, step) {
-        Ok(removed) => { say_removed(output, writer, removed, lab.counts().kept) }
-        Err(fault) => output.say(writer, refusal_text(fault)),
+        Ok(removed) => { say_removed(writer, removed, lab.counts().kept) }
+        Err(fault) => writer.say(refusal_text(fault)),
     }
 }

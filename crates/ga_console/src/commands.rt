@@ -2,12 +2,12 @@
 ghost use Rattle.std.specs.Prelude.{◌≡◌, ◌-◌, ◌++◌, Some};
 ghost use Rattle.ga_text.specs.Lines.{Bytes};
 ghost use Rattle.ga_text.specs.Input.{IsWithin, input_limit};
-ghost use Rattle.ga_text.specs.Output.{IsSaid, IsSaidOrCut};
+ghost use Rattle.ga_text.specs.Output.{IsSaid, IsSaidOrCut, IsSameStream};
 ghost use Rattle.ga_console.specs.Session.{Serves, Written};
 
 use super::ahead::{Ahead, ahead_of};
 use super::responder::{Responder, Turn};
-use ga_text::{Input, LineBuffer, LineEnd, Output, WriteFailed, read_line};
+use ga_text::{Input, LineBuffer, LineEnd, Writer, WriteFailed, read_line};
 use std::alloc::Global;
 use std::io::{Read, Write};
 
@@ -32,21 +32,21 @@ pub fn serve<S: Responder, R: Read, W: Write>(
     alloc: Global,
     input: &mut Input,
     reader: &mut R,
-    output: &mut Output,
-    writer: &mut W,
+    writer: &mut Writer<'_, W>,
     session: &mut S,
 ) -> Result<Ending, WriteFailed>
     requires { IsWithin input.old }
-    ensures { (left before said : Bytes) → R.remaining reader.old ≡ Some left →
-        IsSaid (W.contents writer.old) before said output.old →
+    ensures same { IsSameStream writer.old writer.new }
+    ensures serves { (left before said : Bytes) → R.remaining reader.old ≡ Some left →
+        IsSaid (W.contents writer.old.stream.now) before said writer.old.pending.items →
         (read rest text sent : Bytes)
         × (input.old.bytes ++ left ≡ read ++ rest) × (R.remaining reader.new ≡ Some rest)
-        × (W.contents writer.new ≡ Some (before ++ sent))
+        × (W.contents writer.new.stream.now ≡ Some (before ++ sent))
         × Serves S.answers (input_limit - input.old.taken) session.old read rest text session.new result
         × Written result (said ++ text) sent }
 {
-    let ending = answer_lines(alloc, input, reader, output, writer, session)?;
-    output.send(writer)?;
+    let ending = answer_lines(alloc, input, reader, writer, session)?;
+    writer.send()?;
     Ok(ending)
 }
 
@@ -55,17 +55,17 @@ fn answer_lines<S: Responder, R: Read, W: Write>(
     alloc: Global,
     input: &mut Input,
     reader: &mut R,
-    output: &mut Output,
-    writer: &mut W,
+    writer: &mut Writer<'_, W>,
     session: &mut S,
 ) -> Result<Ending, WriteFailed>
     requires { IsWithin input.old }
-    ensures { (left before said : Bytes) → R.remaining reader.old ≡ Some left →
-        IsSaid (W.contents writer.old) before said output.old →
+    ensures same { IsSameStream writer.old writer.new }
+    ensures serves { (left before said : Bytes) → R.remaining reader.old ≡ Some left →
+        IsSaid (W.contents writer.old.stream.now) before said writer.old.pending.items →
         (read rest text : Bytes)
         × (input.old.bytes ++ left ≡ read ++ rest) × (R.remaining reader.new ≡ Some rest)
         × Serves S.answers (input_limit - input.old.taken) session.old read rest text session.new result
-        × IsSaidOrCut result (W.contents writer.new) before (said ++ text) output.new }
+        × IsSaidOrCut result (W.contents writer.new.stream.now) before (said ++ text) writer.new.pending.items }
 {
     let mut line = LineBuffer::new();
     'lines: loop {
@@ -73,11 +73,11 @@ fn answer_lines<S: Responder, R: Read, W: Write>(
         match ahead_of(text) {
             Ahead::Spelled(command, count) => {
                 input.skip(count);
-                session.obey(alloc, command, output, writer)?;
+                session.obey(alloc, command, writer)?;
                 continue 'lines;
             }
             Ahead::Other(size) => {
-                let turn = session.answer(alloc, &text[..size], output, writer)?;
+                let turn = session.answer(alloc, &text[..size], writer)?;
                 input.skip(size);
                 match turn {
                     Turn::Quit => return Ok(Ending::Quit),
@@ -86,8 +86,8 @@ fn answer_lines<S: Responder, R: Read, W: Write>(
             }
             Ahead::Nothing => {}
         }
-        match read_line(input, reader, output, writer, &mut line)? {
-            LineEnd::Feed => match session.answer(alloc, line.as_slice(), output, writer)? {
+        match read_line(input, reader, writer, &mut line)? {
+            LineEnd::Feed => match session.answer(alloc, line.as_slice(), writer)? {
                 Turn::Quit => return Ok(Ending::Quit),
                 Turn::Answered => {}
             },
@@ -95,13 +95,13 @@ fn answer_lines<S: Responder, R: Read, W: Write>(
                 if line.is_empty() {
                     return Ok(Ending::Ended);
                 }
-                return match session.answer(alloc, line.as_slice(), output, writer)? {
+                return match session.answer(alloc, line.as_slice(), writer)? {
                     Turn::Quit => Ok(Ending::Quit),
                     Turn::Answered => Ok(Ending::Ended),
                 };
             }
             LineEnd::Past => {
-                output.say(writer, b"no 33 input\n")?;
+                writer.say(b"no 33 input\n")?;
                 return Ok(Ending::Past);
             }
             LineEnd::ReadFailed => return Ok(Ending::ReadFailed),

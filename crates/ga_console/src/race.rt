@@ -1,4 +1,5 @@
 //! A race of workers on the chip of an image.
+ghost use Rattle.ga_text.specs.Output.{WritesText, ReadsAndWrites};
 ghost use Rattle.std.specs.Prelude.{◌≡◌, ◌<◌, ◌≤◌, ◌*◌, ◌++◌, ℕ, map, length, Some, IfOk, IfSome, All, vec_len, slice_get};
 ghost use Rattle.ga_text.specs.Lines.{Bytes};
 ghost use Rattle.ga_grid.specs.Chip.{records_of};
@@ -28,10 +29,8 @@ pub fn race_report<T: Threads + Wait + Sync, R: Read, W: Write>(
 ) -> Status
     requires { (1 ≤ workers) × (workers ≤ 16) }
     // Where the streams tell their bytes: what was read, and what was written for it by the status.
-    ensures { (left before : Bytes) →
-        R.remaining reader.old ≡ Some left → W.contents writer.old ≡ Some before →
-        (read rest text : Bytes) × (left ≡ read ++ rest) × (R.remaining reader.new ≡ Some rest)
-        × (W.contents writer.new ≡ Some (before ++ text)) × Reports limit workers calls read rest text result }
+    ensures { ReadsAndWrites (λ read rest text. Reports limit workers calls read rest text result)
+        (R.remaining reader.old) (R.remaining reader.new) (W.contents writer.old) (W.contents writer.new) }
 {
     match read_whole(alloc, reader) {
         WholeRead::Whole(image) => run_image(rt, alloc, writer, image, workers, calls, limit),
@@ -53,9 +52,7 @@ fn run_image<T: Threads + Wait + Sync, W: Write>(
     limit: u32,
 ) -> Status
     requires { (1 ≤ workers) × (workers ≤ 16) }
-    ensures { (before : Bytes) → W.contents writer.old ≡ Some before →
-        (text : Bytes) × (W.contents writer.new ≡ Some (before ++ text))
-        × Races limit workers calls image.items text result }
+    ensures { WritesText (λ text. Races limit workers calls image.items text result) (W.contents writer.old) (W.contents writer.new) }
 {
     match parse(alloc, image.as_slice()) {
         Ok(chip) => match race_on(rt, alloc, chip, workers, calls, limit) {
@@ -124,9 +121,8 @@ fn list_of(alloc: Global, worker: u32, calls: u32) -> Result<Vec<Call>, AllocErr
 
 /// Writes the three lines of a race.
 fn report<W: Write>(writer: &mut W, closed: &Closed) -> Status
-    ensures { (before : Bytes) → W.contents writer.old ≡ Some before →
-        (text : Bytes) × (W.contents writer.new ≡ Some (before ++ text))
-        × Writes (report_text (length closed.now.log.items) closed.now.lab.made (length closed.now.lab.kept)) text result }
+    ensures { WritesText (λ text. Writes (report_text (length closed.now.log.items) closed.now.lab.made (length closed.now.lab.kept)) text result)
+        (W.contents writer.old) (W.contents writer.new) }
 {
     let mut text = TextBuffer::new();
     put_report(&mut text, closed);

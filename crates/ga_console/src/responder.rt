@@ -1,14 +1,14 @@
 //! What answers the lines of a session.
+ghost use Rattle.ga_text.specs.Output.{Says};
 ghost use Rattle.std.specs.Prelude.{◌≡◌};
 ghost use Rattle.ga_text.specs.Lines.{Bytes};
 ghost use Rattle.ga_lab.specs.Machine.{State};
-ghost use Rattle.ga_text.specs.kept.{Says};
 ghost use Rattle.ga_console.specs.kept.Run.{Turns, AnswersCommand};
 
 use super::command::Command;
 use super::reply;
 use ga_lab::Lab;
-use ga_text::{Output, WriteFailed};
+use ga_text::{Writer, WriteFailed};
 use std::alloc::Global;
 use std::io::Write;
 
@@ -41,11 +41,10 @@ pub trait Responder: Drop {
         &mut self,
         alloc: Global,
         line: &[u8],
-        output: &mut Output,
-        writer: &mut W,
+        writer: &mut Writer<'_, W>,
     ) -> Result<Turn, WriteFailed>
         ensures { Says result (Turns answers self.old line.now self.new result)
-            (W.contents writer.old) output.old (W.contents writer.new) output.new };
+            W.contents writer.old writer.new };
 
     /// Answers a line that spells a command of the debugger.
     ///
@@ -55,11 +54,10 @@ pub trait Responder: Drop {
         &mut self,
         alloc: Global,
         command: Command,
-        output: &mut Output,
-        writer: &mut W,
+        writer: &mut Writer<'_, W>,
     ) -> Result<(), WriteFailed>
         ensures { Says result (AnswersCommand answers self.old command self.new)
-            (W.contents writer.old) output.old (W.contents writer.new) output.new };
+            W.contents writer.old writer.new };
 }
 
 impl Responder for Lab {
@@ -77,10 +75,9 @@ impl Responder for Lab {
         &mut self,
         alloc: Global,
         line: &[u8],
-        output: &mut Output,
-        writer: &mut W,
+        writer: &mut Writer<'_, W>,
     ) -> Result<Turn, WriteFailed> {
-        reply::answer(alloc, self, line, output, writer)
+        reply::answer(alloc, self, line, writer)
     }
 
     #[inline(always)]
@@ -88,9 +85,8 @@ impl Responder for Lab {
         &mut self,
         alloc: Global,
         command: Command,
-        output: &mut Output,
-        writer: &mut W,
+        writer: &mut Writer<'_, W>,
     ) -> Result<(), WriteFailed> {
-        reply::obey(alloc, self, command, output, writer)
+        reply::obey(alloc, self, command, writer)
     }
 }

@@ -1,4 +1,5 @@
 //! A whole session.
+ghost use Rattle.ga_text.specs.Output.{WritesText, ReadsAndWrites, ReadsOnAndWrites};
 ghost use Rattle.std.specs.Prelude.{◌≡◌, ◌++◌, Some, IfOk, IfErr};
 ghost use Rattle.ga_text.specs.Lines.{Bytes};
 ghost use Rattle.ga_text.specs.Input.{IsWithin};
@@ -10,7 +11,7 @@ use super::responder::Responder;
 use ga_display::put_fault;
 use ga_image::{ImageCause, ImageFault, parse};
 use ga_lab::Lab;
-use ga_text::{ImageEnd, Input, Output, TextBuffer, WriteFailed, read_image, write_all};
+use ga_text::{ImageEnd, Input, Writer, TextBuffer, WriteFailed, read_image, write_all};
 use std::alloc::Global;
 use std::io::{Read, Write};
 
@@ -46,10 +47,8 @@ pub fn session<R: Read, W: Write>(
     limit: u32,
 ) -> Status
     // Where the streams tell their bytes: what was read, and what was written for it by the status.
-    ensures { (left before : Bytes) →
-        R.remaining reader.old ≡ Some left → W.contents writer.old ≡ Some before →
-        (read rest text : Bytes) × (left ≡ read ++ rest) × (R.remaining reader.new ≡ Some rest)
-        × (W.contents writer.new ≡ Some (before ++ text)) × Runs limit read rest text result }
+    ensures { ReadsAndWrites (λ read rest text. Runs limit read rest text result)
+        (R.remaining reader.old) (R.remaining reader.new) (W.contents writer.old) (W.contents writer.new) }
 {
     session_with::<Lab, R, W>(alloc, reader, writer, limit)
 }
@@ -61,10 +60,8 @@ pub fn session_with<S: Responder, R: Read, W: Write>(
     writer: &mut W,
     limit: u32,
 ) -> Status
-    ensures { (left before : Bytes) →
-        R.remaining reader.old ≡ Some left → W.contents writer.old ≡ Some before →
-        (read rest text : Bytes) × (left ≡ read ++ rest) × (R.remaining reader.new ≡ Some rest)
-        × (W.contents writer.new ≡ Some (before ++ text)) × RunsBy S.answers S.begin limit read rest text result }
+    ensures { ReadsAndWrites (λ read rest text. RunsBy S.answers S.begin limit read rest text result)
+        (R.remaining reader.old) (R.remaining reader.new) (W.contents writer.old) (W.contents writer.new) }
 {
     let mut input = Input::new();
     let mut image = Vec::new(alloc);
@@ -94,18 +91,14 @@ fn after_image<S: Responder, R: Read, W: Write>(
     limit: u32,
 ) -> Status
     requires { IsWithin input.old }
-    ensures { (left before : Bytes) →
-        R.remaining reader.old ≡ Some left → W.contents writer.old ≡ Some before →
-        (read rest text : Bytes)
-        × (input.old.bytes ++ left ≡ read ++ rest) × (R.remaining reader.new ≡ Some rest)
-        × (W.contents writer.new ≡ Some (before ++ text))
-        × AfterImage S.answers S.begin limit image.items input.old.taken input.old.bytes read rest text result }
+    ensures { ReadsOnAndWrites input.old.bytes (λ read rest text. AfterImage S.answers S.begin limit image.items input.old.taken input.old.bytes read rest text result)
+        (R.remaining reader.old) (R.remaining reader.new) (W.contents writer.old) (W.contents writer.new) }
 {
     match open_image(alloc, image, limit) {
         Ok(lab) => {
             let mut session = S::open(lab);
-            let mut output = Output::ready();
-            status_of(serve(alloc, input, reader, &mut output, writer, &mut session))
+            let mut said = Writer::ready(writer);
+            status_of(serve(alloc, input, reader, &mut said, &mut session))
         }
         Err(fault) => refuse(writer, fault),
     }
@@ -128,8 +121,7 @@ pub fn open_image(alloc: Global, image: Vec<u8>, limit: u32) -> Result<Lab, Imag
 
 /// Writes the text of a refused image.
 pub fn refuse<W: Write>(writer: &mut W, fault: ImageFault) -> Status
-    ensures { (before : Bytes) → W.contents writer.old ≡ Some before →
-        (text : Bytes) × (W.contents writer.new ≡ Some (before ++ text)) × Refuses fault text result }
+    ensures { WritesText (λ text. Refuses fault text result) (W.contents writer.old) (W.contents writer.new) }
 {
     let mut text = TextBuffer::new();
     put_fault(&mut text, fault);

@@ -4,7 +4,6 @@ ghost use Rattle.std.specs.Prelude.{◌≡◌, ◌≤◌, [], Bool, Ok, Err, Som
 ghost use Rattle.std.specs.Str.{IsTrimAsciiEnd};
 ghost use Rattle.std.specs.Str.Lossy.{utf8_lossy};
 ghost use Rattle.ga_text.specs.Lines.{Bytes, Text};
-ghost use Rattle.ga_text.specs.Output.{IsSaid};
 ghost use Rattle.serde_json.specs.View.{view};
 ghost use Rattle.ga_lab.specs.Machine.{chip_of};
 ghost use Rattle.ga_adapter.specs.Shown.{IsVariable};
@@ -19,7 +18,7 @@ use ga_explorer::answer_line;
 use ga_grid::NodeId;
 use ga_protocol::ClientRequest;
 use ga_responses::{Debuggee, evaluate, first_shown, framed_node_asked, is_stuck};
-use ga_text::{Output, PENDING_ROOM};
+use ga_text::{Writer, PENDING_ROOM};
 use serde_json::{Value, json};
 use std::alloc::{AllocError, Global};
 
@@ -71,19 +70,18 @@ pub(crate) fn command_text(
     ensures told { IfOk result (λ told. Commands program.old line.now program.new (option_map (λ text. text.items) told)) }
     ensures unmoved { OnErr result (has_moved program.old.lab program.new.lab ≡ false → program.new ≡ program.old) }
 {
-    let mut output = Output::new();
     let mut answer = Vec::new(alloc);
     answer.reserve(PENDING_ROOM)?;
+    let mut said = Writer::new(&mut answer);
     let _is_replayed = program.lab.stands((NodeId::new(0), 0));
     match answer_line(
         alloc,
         &mut program.lab,
         &program.source,
         front_of_line(line),
-        &mut output,
-        &mut answer,
+        &mut said,
     ) {
-        Ok(Turn::Answered) => match output.send(&mut answer) {
+        Ok(Turn::Answered) => match said.send() {
             Ok(()) => Ok(Some(answer)),
             Err(_) => Err(AllocError),
         },

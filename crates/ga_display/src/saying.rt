@@ -1,7 +1,7 @@
 //! The texts of answers, said to the output.
 ghost use Rattle.std.specs.Prelude.{◌≡◌, ◌++◌};
 ghost use Rattle.ga_text.specs.Lines.{Bytes};
-ghost use Rattle.ga_text.specs.Output.{IsSaid, IsSaidOrCut};
+ghost use Rattle.ga_text.specs.Output.{SaysExactly};
 ghost use Rattle.ga_display.specs.Texts.{made_text, removed_text, node_text, memory_text, counts_text, trace_text, chain_text};
 ghost use Rattle.ga_node.specs.Record.{record_of};
 
@@ -10,7 +10,7 @@ use super::node_text::{push_memory_line, push_node_line};
 use ga_grid::NodeId;
 use ga_lab::{Counts, Made};
 use ga_node::Node;
-use ga_text::{LINE_ROOM, Output, WriteFailed};
+use ga_text::{LINE_ROOM, Writer, WriteFailed};
 use ga_word::Word18;
 use std::io::Write;
 
@@ -20,15 +20,13 @@ use std::io::Write;
 /// A write failed.
 #[inline(always)]
 pub fn say_made<W: Write>(
-    output: &mut Output,
-    writer: &mut W,
+    writer: &mut Writer<'_, W>,
     made: Made,
 ) -> Result<(), WriteFailed>
-    ensures { (before said : Bytes) → IsSaid (W.contents writer.old) before said output.old →
-        IsSaidOrCut result (W.contents writer.new) before (said ++ made_text made) output.new }
+    ensures { SaysExactly result (made_text made) W.contents writer.old writer.new }
 {
-    output.make_room(writer, LINE_ROOM)?;
-    push_made(output.pending_mut(), made);
+    writer.make_room(LINE_ROOM)?;
+    push_made(&mut writer.pending, made);
     Ok(())
 }
 
@@ -37,16 +35,14 @@ pub fn say_made<W: Write>(
 /// # Errors
 /// A write failed.
 pub fn say_removed<W: Write>(
-    output: &mut Output,
-    writer: &mut W,
+    writer: &mut Writer<'_, W>,
     removed: u32,
     kept: u32,
 ) -> Result<(), WriteFailed>
-    ensures { (before said : Bytes) → IsSaid (W.contents writer.old) before said output.old →
-        IsSaidOrCut result (W.contents writer.new) before (said ++ removed_text removed kept) output.new }
+    ensures { SaysExactly result (removed_text removed kept) W.contents writer.old writer.new }
 {
-    output.make_room(writer, LINE_ROOM)?;
-    push_removed(output.pending_mut(), removed, kept);
+    writer.make_room(LINE_ROOM)?;
+    push_removed(&mut writer.pending, removed, kept);
     Ok(())
 }
 
@@ -55,16 +51,14 @@ pub fn say_removed<W: Write>(
 /// # Errors
 /// A write failed.
 pub fn say_node<W: Write>(
-    output: &mut Output,
-    writer: &mut W,
+    writer: &mut Writer<'_, W>,
     node: NodeId,
     at: &Node,
 ) -> Result<(), WriteFailed>
-    ensures { (before said : Bytes) → IsSaid (W.contents writer.old) before said output.old →
-        IsSaidOrCut result (W.contents writer.new) before (said ++ node_text node (record_of at.now)) output.new }
+    ensures { SaysExactly result (node_text node (record_of at.now)) W.contents writer.old writer.new }
 {
-    output.make_room(writer, LINE_ROOM)?;
-    push_node_line(output.pending_mut(), node, at);
+    writer.make_room(LINE_ROOM)?;
+    push_node_line(&mut writer.pending, node, at);
     Ok(())
 }
 
@@ -73,17 +67,15 @@ pub fn say_node<W: Write>(
 /// # Errors
 /// A write failed.
 pub fn say_memory<W: Write>(
-    output: &mut Output,
-    writer: &mut W,
+    writer: &mut Writer<'_, W>,
     node: NodeId,
     address: u8,
     word: Word18,
 ) -> Result<(), WriteFailed>
-    ensures { (before said : Bytes) → IsSaid (W.contents writer.old) before said output.old →
-        IsSaidOrCut result (W.contents writer.new) before (said ++ memory_text node address word) output.new }
+    ensures { SaysExactly result (memory_text node address word) W.contents writer.old writer.new }
 {
-    output.make_room(writer, LINE_ROOM)?;
-    push_memory_line(output.pending_mut(), node, address, word);
+    writer.make_room(LINE_ROOM)?;
+    push_memory_line(&mut writer.pending, node, address, word);
     Ok(())
 }
 
@@ -92,15 +84,13 @@ pub fn say_memory<W: Write>(
 /// # Errors
 /// A write failed.
 pub fn say_counts<W: Write>(
-    output: &mut Output,
-    writer: &mut W,
+    writer: &mut Writer<'_, W>,
     counts: Counts,
 ) -> Result<(), WriteFailed>
-    ensures { (before said : Bytes) → IsSaid (W.contents writer.old) before said output.old →
-        IsSaidOrCut result (W.contents writer.new) before (said ++ counts_text counts.kept counts.made counts.limit) output.new }
+    ensures { SaysExactly result (counts_text counts.kept counts.made counts.limit) W.contents writer.old writer.new }
 {
-    output.make_room(writer, LINE_ROOM)?;
-    push_counts(output.pending_mut(), counts);
+    writer.make_room(LINE_ROOM)?;
+    push_counts(&mut writer.pending, counts);
     Ok(())
 }
 
@@ -109,16 +99,14 @@ pub fn say_counts<W: Write>(
 /// # Errors
 /// A write failed.
 pub fn say_trace<W: Write>(
-    output: &mut Output,
-    writer: &mut W,
+    writer: &mut Writer<'_, W>,
     node: NodeId,
     count: usize,
 ) -> Result<(), WriteFailed>
-    ensures { (before said : Bytes) → IsSaid (W.contents writer.old) before said output.old →
-        IsSaidOrCut result (W.contents writer.new) before (said ++ trace_text node count) output.new }
+    ensures { SaysExactly result (trace_text node count) W.contents writer.old writer.new }
 {
-    output.make_room(writer, LINE_ROOM)?;
-    push_trace(output.pending_mut(), node, count);
+    writer.make_room(LINE_ROOM)?;
+    push_trace(&mut writer.pending, node, count);
     Ok(())
 }
 
@@ -127,14 +115,12 @@ pub fn say_trace<W: Write>(
 /// # Errors
 /// A write failed.
 pub fn say_chain_count<W: Write>(
-    output: &mut Output,
-    writer: &mut W,
+    writer: &mut Writer<'_, W>,
     count: usize,
 ) -> Result<(), WriteFailed>
-    ensures { (before said : Bytes) → IsSaid (W.contents writer.old) before said output.old →
-        IsSaidOrCut result (W.contents writer.new) before (said ++ chain_text count) output.new }
+    ensures { SaysExactly result (chain_text count) W.contents writer.old writer.new }
 {
-    output.make_room(writer, LINE_ROOM)?;
-    push_chain(output.pending_mut(), count);
+    writer.make_room(LINE_ROOM)?;
+    push_chain(&mut writer.pending, count);
     Ok(())
 }

@@ -11,7 +11,8 @@ use Rattle.ga_console.specs.declared.run.Status.{Status}
 use Rattle.ga_console.specs.declared.run.Status.TheVariants.{ImageRefused}
 use Rattle.ga_explorer.specs.declared.opening.Unopened.{Unopened}
 use Rattle.ga_explorer.specs.declared.opening.Unopened.TheVariants.{Image, Source}
-use Rattle.ga_text.specs.kept.{Says}
+use Rattle.ga_text.specs.Output.{Says}
+use Rattle.ga_text.specs.declared.output.Writer.{Writer}
 use Rattle.ga_text.specs.declared.output.WriteFailed.{WriteFailed}
 use Rattle.ga_explorer.specs.Commands.{Tells}
 use Rattle.ga_explorer.specs.declared.commands.Question.{Question}
@@ -46,7 +47,7 @@ IsOpened limit text written (Err status) = (why : Unopened) × IsUnopened text w
 -- ---- what is told to a question, and written
 
 -- what is said is told to the question that is meant
-pub record IsTold (result : Result (Unit {0}) WriteFailed) (e : Exploring) (asked : Question) (contents : Option Bytes) (pending : Text) (held : Option Bytes) (left : Text) : Type 0 where
+pub record IsTold {W : Type 0} (result : Result (Unit {0}) WriteFailed) (e : Exploring) (asked : Question) (contents : W → Option Bytes) (old new : Writer W) : Type 0 where
   pub meant : Question
   pub is : asked ≡ meant
-  pub said : Says result (Tells e meant) contents pending held left
+  pub said : Says result (Tells e meant) contents old new

@@ -18,7 +18,7 @@ use ga_grid::NodeId;
 use ga_lab::Lab;
 use ga_notes::Notes;
 use ga_search::Schedule;
-use ga_text::{Output, WriteFailed, cut, node_in};
+use ga_text::{Writer, WriteFailed, cut, node_in};
 use std::alloc::Global;
 use std::io::Write;
 
@@ -187,37 +187,36 @@ pub(crate) fn told<W: Write>(
     lab: &mut Lab,
     notes: &Option<Notes>,
     asked: Question,
-    output: &mut Output,
-    writer: &mut W,
+    writer: &mut Writer<'_, W>,
 ) -> Result<(), WriteFailed>
-    ensures said { IsTold result (exploring lab.old notes.now) asked (W.contents writer.old) output.old (W.contents writer.new) output.new }
+    ensures said { IsTold result (exploring lab.old notes.now) asked W.contents writer.old writer.new }
     ensures same { lab.new ≡ lab.old }
 {
     match asked {
         Question::Effects { node, which } => {
             let step = which.meant(lab, node);
-            say_effects(alloc, lab, node, step, output, writer)
+            say_effects(alloc, lab, node, step, writer)
         }
-        Question::Words { from, to } => say_words(lab, from, to, output, writer),
-        Question::Writes { node, address } => say_writes(lab, node, address, output, writer),
+        Question::Words { from, to } => say_words(lab, from, to, writer),
+        Question::Writes { node, address } => say_writes(lab, node, address, writer),
         Question::At { node, which, most } => {
             let step = which.meant(lab, node);
-            say_around(lab, notes, node, step, most, output, writer)
+            say_around(lab, notes, node, step, most, writer)
         }
         Question::Whence { node, which } => {
             let step = which.meant(lab, node);
-            say_whence(alloc, lab, notes, node, step, output, writer)
+            say_whence(alloc, lab, notes, node, step, writer)
         }
         Question::Because { node, which, most } => {
             let step = which.meant(lab, node);
-            say_because(lab, notes, node, step, most, output, writer)
+            say_because(lab, notes, node, step, most, writer)
         }
-        Question::Races { only } => say_races(alloc, lab, only, output, writer),
-        Question::Who => say_who(lab, output, writer),
-        Question::Chip => output.say_blocks(writer, glance(lab).as_slice()),
-        Question::Save => say_saved(lab, output, writer),
-        Question::Help => say_help(output, writer),
-        Question::HelpOf(place) => say_command(place, output, writer),
+        Question::Races { only } => say_races(alloc, lab, only, writer),
+        Question::Who => say_who(lab, writer),
+        Question::Chip => writer.say_blocks(glance(lab).as_slice()),
+        Question::Save => say_saved(lab, writer),
+        Question::Help => say_help(writer),
+        Question::HelpOf(place) => say_command(place, writer),
     }
 }
 

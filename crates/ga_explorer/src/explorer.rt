@@ -2,8 +2,7 @@
 
 ghost use Rattle.std.specs.Prelude.{◌≡◌, ◌≤◌, ◌++◌, length, Some, None, IfSome, IfNone, IsTrue, false};
 ghost use Rattle.ga_text.specs.Lines.{Bytes};
-ghost use Rattle.ga_text.specs.Output.{IsSaid, IsSaidOrCut};
-ghost use Rattle.ga_text.specs.kept.{Says};
+ghost use Rattle.ga_text.specs.Output.{Says};
 ghost use Rattle.ga_explorer.specs.Commands.{request_in, Explored};
 ghost use Rattle.ga_explorer.specs.kept.{exploring};
 ghost use Rattle.ga_explorer.specs.Answers.{ExploresOrQuits, AnswersOther, IsOfDebugger, IsNoCommand};
@@ -16,7 +15,7 @@ use ga_image::LINE_LIMIT;
 use ga_lab::Lab;
 use ga_notes::Notes;
 use ga_search::{conditions_asked, run_schedule};
-use ga_text::{Output, WriteFailed};
+use ga_text::{Writer, WriteFailed};
 use std::alloc::Global;
 use std::io::Write;
 use std::marker::Model;
@@ -78,10 +77,9 @@ impl Responder for Explorer {
         &mut self,
         alloc: Global,
         line: &[u8],
-        output: &mut Output,
-        writer: &mut W,
+        writer: &mut Writer<'_, W>,
     ) -> Result<Turn, WriteFailed> {
-        answer_line(alloc, &mut self.lab, &self.notes, line, output, writer)
+        answer_line(alloc, &mut self.lab, &self.notes, line, writer)
     }
 
     #[inline(always)]
@@ -89,10 +87,9 @@ impl Responder for Explorer {
         &mut self,
         alloc: Global,
         command: Command,
-        output: &mut Output,
-        writer: &mut W,
+        writer: &mut Writer<'_, W>,
     ) -> Result<(), WriteFailed> {
-        self.lab.obey(alloc, command, output, writer)
+        self.lab.obey(alloc, command, writer)
     }
 }
 
@@ -105,19 +102,17 @@ pub fn answer_line<W: Write>(
     lab: &mut Lab,
     notes: &Option<Notes>,
     line: &[u8],
-    output: &mut Output,
-    writer: &mut W,
+    writer: &mut Writer<'_, W>,
 ) -> Result<Turn, WriteFailed>
-    ensures { (before said : Bytes) → IsSaid (W.contents writer.old) before said output.old →
-        (answer : Bytes) × ExploresOrQuits (record { lab = lab.old; notes = notes.now }) line.now (record { lab = lab.new; notes = notes.now }) result answer
-        × IsSaidOrCut result (W.contents writer.new) before (said ++ answer) output.new }
+    ensures { Says result (ExploresOrQuits (record { lab = lab.old; notes = notes.now }) line.now (record { lab = lab.new; notes = notes.now }) result)
+        W.contents writer.old writer.new }
 {
     match asked_by(notes, line) {
         Some(asked) => {
-            explored(alloc, lab, notes, asked, output, writer)?;
+            explored(alloc, lab, notes, asked, writer)?;
             Ok(Turn::Answered)
         }
-        None => answer_other(alloc, lab, line, output, writer),
+        None => answer_other(alloc, lab, line, writer),
     }
 }
 
@@ -130,11 +125,10 @@ fn explored<W: Write>(
     lab: &mut Lab,
     notes: &Option<Notes>,
     asked: ExplorerCommand,
-    output: &mut Output,
-    writer: &mut W,
+    writer: &mut Writer<'_, W>,
 ) -> Result<(), WriteFailed>
     ensures { Says result (λ text. Explored (exploring lab.old notes.now) asked text (exploring lab.new notes.now))
-        (W.contents writer.old) output.old (W.contents writer.new) output.new }
+        W.contents writer.old writer.new }
 {
     match asked {
         ExplorerCommand::Run {
@@ -144,12 +138,12 @@ fn explored<W: Write>(
         } => {
             let watched = conditions_asked(&until);
             let ran = run_schedule(lab, schedule, u64::from(most), watched);
-            output.say_blocks(writer, ga_answers::ran_text(&ran, watched.len()).as_slice())
+            writer.say_blocks(ga_answers::ran_text(&ran, watched.len()).as_slice())
         }
         ExplorerCommand::BackUntil { only, until } => {
-            ga_answers::say_back(lab, conditions_asked(&until), only, output, writer)
+            ga_answers::say_back(lab, conditions_asked(&until), only, writer)
         }
-        ExplorerCommand::Tell(question) => told(alloc, lab, notes, question, output, writer),
+        ExplorerCommand::Tell(question) => told(alloc, lab, notes, question, writer),
     }
 }
 
@@ -173,17 +167,16 @@ fn answer_other<W: Write>(
     alloc: Global,
     lab: &mut Lab,
     line: &[u8],
-    output: &mut Output,
-    writer: &mut W,
+    writer: &mut Writer<'_, W>,
 ) -> Result<Turn, WriteFailed>
     ensures { Says result (Turns AnswersOther lab.old line.now lab.new result)
-        (W.contents writer.old) output.old (W.contents writer.new) output.new }
+        W.contents writer.old writer.new }
 {
     if is_no_command(line) {
-        say_no_command(line, output, writer)?;
+        say_no_command(line, writer)?;
         return Ok(Turn::Answered);
     }
-    lab.answer(alloc, line, output, writer)
+    lab.answer(alloc, line, writer)
 }
 
 /// Whether a line is not too long and spells no command of the debugger.

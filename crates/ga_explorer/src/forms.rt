@@ -2,15 +2,14 @@
 
 ghost use Rattle.std.specs.Prelude.{◌≡◌, ◌++◌, codes, map, option_map, option_copied, slice_get};
 ghost use Rattle.ga_text.specs.Lines.{Bytes};
-ghost use Rattle.ga_text.specs.Output.{IsSaid, IsSaidOrCut};
-ghost use Rattle.ga_text.specs.kept.{Says};
+ghost use Rattle.ga_text.specs.Output.{Says, SaysExactly};
 ghost use Rattle.ga_explorer.specs.Forms.{form_row_text, form_rows_text, about_text, place_from};
 ghost use Rattle.ga_explorer.specs.Commands.{rows, command_text, place_of_form};
 ghost use Rattle.ga_explorer.specs.NoCommand.{form_of_command, near_form_in, form_for, is_near, are_exchanged, is_mark, is_return, has_blank_end, is_upper, cure, no_command};
 ghost use Rattle.ga_explorer.specs.kept.{entry_of};
 
 use crate::commands::rows;
-use ga_text::{Output, WriteFailed, cut};
+use ga_text::{Writer, WriteFailed, cut};
 use std::fmt;
 use std::io::Write;
 
@@ -32,29 +31,28 @@ pub(crate) struct Row {
 ///
 /// # Errors
 /// A write failed.
-pub(crate) fn say_help<W: Write>(output: &mut Output, writer: &mut W) -> Result<(), WriteFailed>
+pub(crate) fn say_help<W: Write>(writer: &mut Writer<'_, W>) -> Result<(), WriteFailed>
     ensures { Says result (λ text. text ≡ form_rows_text rows)
-        (W.contents writer.old) output.old (W.contents writer.new) output.new }
+        W.contents writer.old writer.new }
 {
-    say_rows(rows(), output, writer)
+    say_rows(rows(), writer)
 }
 
-fn say_rows<W: Write>(rows: &[Row], output: &mut Output, writer: &mut W) -> Result<(), WriteFailed>
+fn say_rows<W: Write>(rows: &[Row], writer: &mut Writer<'_, W>) -> Result<(), WriteFailed>
     ensures { Says result (λ text. text ≡ form_rows_text (map entry_of rows.now))
-        (W.contents writer.old) output.old (W.contents writer.new) output.new }
+        W.contents writer.old writer.new }
 {
     'rows: for row in rows {
-        say_row(row, output, writer)?;
+        say_row(row, writer)?;
     }
     Ok(())
 }
 
-fn say_row<W: Write>(row: &Row, output: &mut Output, writer: &mut W) -> Result<(), WriteFailed>
-    ensures { (before said : Bytes) → IsSaid (W.contents writer.old) before said output.old →
-        IsSaidOrCut result (W.contents writer.new) before (said ++ form_row_text (entry_of row.now)) output.new }
+fn say_row<W: Write>(row: &Row, writer: &mut Writer<'_, W>) -> Result<(), WriteFailed>
+    ensures { SaysExactly result (form_row_text (entry_of row.now)) W.contents writer.old writer.new }
 {
-    output.say_blocks(writer, row.form)?;
-    output.say_blocks(writer, row.does)
+    writer.say_blocks(row.form)?;
+    writer.say_blocks(row.does)
 }
 
 /// What `ga144 explore --help` says of the commands that only tell, a line each.
@@ -75,24 +73,22 @@ impl fmt::Display for Usage {
 /// A write failed.
 pub(crate) fn say_command<W: Write>(
     place: usize,
-    output: &mut Output,
-    writer: &mut W,
+    writer: &mut Writer<'_, W>,
 ) -> Result<(), WriteFailed>
     ensures { Says result (λ text. text ≡ command_text place)
-        (W.contents writer.old) output.old (W.contents writer.new) output.new }
+        W.contents writer.old writer.new }
 {
     match row_in(rows(), place) {
-        Some(row) => say_about(row, output, writer),
+        Some(row) => say_about(row, writer),
         None => Ok(()),
     }
 }
 
-fn say_about<W: Write>(row: &Row, output: &mut Output, writer: &mut W) -> Result<(), WriteFailed>
-    ensures { (before said : Bytes) → IsSaid (W.contents writer.old) before said output.old →
-        IsSaidOrCut result (W.contents writer.new) before (said ++ about_text (entry_of row.now)) output.new }
+fn say_about<W: Write>(row: &Row, writer: &mut Writer<'_, W>) -> Result<(), WriteFailed>
+    ensures { SaysExactly result (about_text (entry_of row.now)) W.contents writer.old writer.new }
 {
-    say_row(row, output, writer)?;
-    output.say_blocks(writer, row.more)
+    say_row(row, writer)?;
+    writer.say_blocks(row.more)
 }
 
 /// The place among some commands of the one with this name.
@@ -129,23 +125,21 @@ pub(crate) fn row_in(rows: &'static [Row], place: usize) -> Option<&'static Row>
 /// A write failed.
 pub(crate) fn say_no_command<W: Write>(
     line: &[u8],
-    output: &mut Output,
-    writer: &mut W,
+    writer: &mut Writer<'_, W>,
 ) -> Result<(), WriteFailed>
     ensures { Says result (λ text. text ≡ no_command line.now)
-        (W.contents writer.old) output.old (W.contents writer.new) output.new }
+        W.contents writer.old writer.new }
 {
-    output.say(writer, b"no 31 syntax: ")?;
-    say_cure(line, output, writer)
+    writer.say(b"no 31 syntax: ")?;
+    say_cure(line, writer)
 }
 
 /// Says what to write in place of a line that is no command.
-fn say_cure<W: Write>(line: &[u8], output: &mut Output, writer: &mut W) -> Result<(), WriteFailed>
-    ensures { (before said : Bytes) → IsSaid (W.contents writer.old) before said output.old →
-        IsSaidOrCut result (W.contents writer.new) before (said ++ (cure line.now ++ codes "\n")) output.new }
+fn say_cure<W: Write>(line: &[u8], writer: &mut Writer<'_, W>) -> Result<(), WriteFailed>
+    ensures { SaysExactly result ((cure line.now ++ codes "\n")) W.contents writer.old writer.new }
 {
-    output.say_blocks(writer, cure(line))?;
-    output.say(writer, b"\n")
+    writer.say_blocks(cure(line))?;
+    writer.say(b"\n")
 }
 
 /// What to write in place of a line that is no command.

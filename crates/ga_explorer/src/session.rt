@@ -1,11 +1,12 @@
 //! A whole session of exploring.
+ghost use Rattle.ga_text.specs.Output.{ReadsAndWrites};
 ghost use Rattle.std.specs.Prelude.{◌≡◌, ◌++◌, Some};
 ghost use Rattle.ga_text.specs.Lines.{Bytes};
 ghost use Rattle.ga_explorer.specs.Session.{RunsExploring};
 
 use crate::beginning::begin;
 use ga_console::{Status, serve, status_of};
-use ga_text::{Input, Output};
+use ga_text::{Input, Writer};
 use std::alloc::Global;
 use std::io::{Read, Write};
 
@@ -20,17 +21,15 @@ pub fn explore<R: Read, W: Write, E: Write>(
     limit: u32,
 ) -> Status
     // Where the streams tell their bytes: what was read, and what was written for it by the status.
-    ensures { (left before : Bytes) →
-        R.remaining reader.old ≡ Some left → W.contents writer.old ≡ Some before →
-        (read rest text : Bytes) × (left ≡ read ++ rest) × (R.remaining reader.new ≡ Some rest)
-        × (W.contents writer.new ≡ Some (before ++ text)) × RunsExploring limit read rest text result }
+    ensures { ReadsAndWrites (λ read rest text. RunsExploring limit read rest text result)
+        (R.remaining reader.old) (R.remaining reader.new) (W.contents writer.old) (W.contents writer.new) }
 {
     let mut input = Input::new();
     match begin(alloc, &mut input, reader, writer, errors, limit) {
         Ok(begun) => {
             let mut session = begun;
-            let mut output = Output::ready();
-            status_of(serve(alloc, &mut input, reader, &mut output, writer, &mut session))
+            let mut said = Writer::ready(writer);
+            status_of(serve(alloc, &mut input, reader, &mut said, &mut session))
         }
         Err(status) => status,
     }

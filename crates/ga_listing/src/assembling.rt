@@ -1,4 +1,5 @@
 //! Source in, the image of its chip out.
+ghost use Rattle.ga_text.specs.Output.{WritesText, ReadsAndWrites};
 ghost use Rattle.std.specs.Prelude.{◌≡◌, ◌++◌, Some, IfSome};
 ghost use Rattle.ga_text.specs.Lines.{Bytes};
 ghost use Rattle.ga_console.specs.kept.Run.{Writes};
@@ -24,10 +25,8 @@ pub fn assemble_source<R: Read, W: Write, E: Write>(
     errors: &mut E,
 ) -> Status
     // Where the streams tell their bytes: what was read, and what was written for it by the status.
-    ensures { (left before : Bytes) →
-        R.remaining reader.old ≡ Some left → W.contents writer.old ≡ Some before →
-        (read rest text : Bytes) × (left ≡ read ++ rest) × (R.remaining reader.new ≡ Some rest)
-        × (W.contents writer.new ≡ Some (before ++ text)) × Assembles read rest text result }
+    ensures { ReadsAndWrites (λ read rest text. Assembles read rest text result)
+        (R.remaining reader.old) (R.remaining reader.new) (W.contents writer.old) (W.contents writer.new) }
 {
     match read_source(alloc, reader, errors) {
         Ok(source) => assemble_text(alloc, writer, errors, source),
@@ -42,8 +41,7 @@ fn assemble_text<W: Write, E: Write>(
     errors: &mut E,
     source: Vec<u8>,
 ) -> Status
-    ensures { (before : Bytes) → W.contents writer.old ≡ Some before →
-        (text : Bytes) × (W.contents writer.new ≡ Some (before ++ text)) × Assembly source.items text result }
+    ensures { WritesText (λ text. Assembly source.items text result) (W.contents writer.old) (W.contents writer.new) }
 {
     match image_of(alloc, errors, source) {
         Some(image) => write_text(writer, image),

@@ -1,4 +1,5 @@
 //! An image in, source of the same memories and registers out.
+ghost use Rattle.ga_text.specs.Output.{WritesText, ReadsAndWrites};
 ghost use Rattle.std.specs.Prelude.{◌≡◌, ◌⊎◌, ◌<◌, ◌≤◌, ◌++◌, [], ◌∷◌, length, codes, Some, IfOk, IfErr, OnOk};
 ghost use Rattle.std.specs.List.{All};
 ghost use Rattle.ga_image.specs.Fault.{no_memory};
@@ -36,10 +37,8 @@ pub fn disassemble<R: Read, W: Write, E: Write>(
     errors: &mut E,
 ) -> Status
     // Where the streams tell their bytes: what was read, and what was written for it by the status.
-    ensures { (left before : Bytes) →
-        R.remaining reader.old ≡ Some left → W.contents writer.old ≡ Some before →
-        (read rest text : Bytes) × (left ≡ read ++ rest) × (R.remaining reader.new ≡ Some rest)
-        × (W.contents writer.new ≡ Some (before ++ text)) × Disassembles read rest text result }
+    ensures { ReadsAndWrites (λ read rest text. Disassembles read rest text result)
+        (R.remaining reader.old) (R.remaining reader.new) (W.contents writer.old) (W.contents writer.new) }
 {
     match read_whole(alloc, reader) {
         WholeRead::Whole(image) => disassemble_text(alloc, writer, errors, image),
@@ -57,8 +56,7 @@ fn disassemble_text<W: Write, E: Write>(
     errors: &mut E,
     image: Vec<u8>,
 ) -> Status
-    ensures { (before : Bytes) → W.contents writer.old ≡ Some before →
-        (text : Bytes) × (W.contents writer.new ≡ Some (before ++ text)) × Disassembly image.items text result }
+    ensures { WritesText (λ text. Disassembly image.items text result) (W.contents writer.old) (W.contents writer.new) }
 {
     match source_for(alloc, errors, image) {
         Ok(text) => write_text(writer, text),

@@ -1,4 +1,5 @@
 //! Source in, a listing of its cells out.
+ghost use Rattle.ga_text.specs.Output.{WritesText, ReadsAndWrites};
 ghost use Rattle.std.specs.Prelude.{◌≡◌, ◌≤◌, ◌<◌, ◌++◌, [], ◌∷◌, codes, length, Some, None, IfOk, IfSome, OnOk, slice_index};
 ghost use Rattle.ga_text.specs.Lines.{Bytes};
 ghost use Rattle.hex.specs.Hex.{lower_digits};
@@ -33,10 +34,8 @@ pub fn list_source<R: Read, W: Write, E: Write>(
     errors: &mut E,
 ) -> Status
     // Where the streams tell their bytes: what was read, and what was written for it by the status.
-    ensures { (left before : Bytes) →
-        R.remaining reader.old ≡ Some left → W.contents writer.old ≡ Some before →
-        (read rest text : Bytes) × (left ≡ read ++ rest) × (R.remaining reader.new ≡ Some rest)
-        × (W.contents writer.new ≡ Some (before ++ text)) × Lists read rest text result }
+    ensures { ReadsAndWrites (λ read rest text. Lists read rest text result)
+        (R.remaining reader.old) (R.remaining reader.new) (W.contents writer.old) (W.contents writer.new) }
 {
     match read_source(alloc, reader, errors) {
         Ok(source) => list_text(alloc, writer, errors, source.as_slice()),
@@ -51,8 +50,7 @@ fn list_text<W: Write, E: Write>(
     errors: &mut E,
     source: &[u8],
 ) -> Status
-    ensures { (before : Bytes) → W.contents writer.old ≡ Some before →
-        (text : Bytes) × (W.contents writer.new ≡ Some (before ++ text)) × Listing source.now text result }
+    ensures { WritesText (λ text. Listing source.now text result) (W.contents writer.old) (W.contents writer.new) }
 {
     match listing_of(alloc, source) {
         Ok(listed) => write_listed(writer, errors, listed),

@@ -4,7 +4,7 @@ ghost use Rattle.std.specs.Prelude.{◌≡◌, ◌++◌, Some, nat_lt};
 ghost use Rattle.std.specs.List.{list_any};
 ghost use Rattle.ga_text.specs.Lines.{Bytes};
 ghost use Rattle.ga_lab.specs.declared.fault.LabFault.TheVariants.{Memory};
-ghost use Rattle.ga_text.specs.Output.{IsSaidOrCut};
+ghost use Rattle.ga_text.specs.Output.{IsSaidOrCut, IsSameStream, WritesText, ReadsAndWrites};
 ghost use Rattle.ga_display.specs.Texts.{refusal_text};
 ghost use Rattle.ga_orders.specs.Settled.{begun_from};
 ghost use Rattle.ga_answers.specs.Saved.{saved_text};
@@ -24,7 +24,7 @@ use ga_console::Status;
 use ga_display::refusal_text;
 use ga_explorer::begin;
 use ga_lab::{Lab, LabFault};
-use ga_text::{Input, Output, WriteFailed};
+use ga_text::{Input, Writer, WriteFailed};
 use std::alloc::Global;
 use std::io::{Read, Write};
 use std::sync::atomic::AtomicU64;
@@ -67,10 +67,8 @@ pub fn check_orders<S: Threads + Sync, R: Read, W: Write, E: Write>(
     made: &AtomicU64,
 ) -> Verdict
     // Where the streams tell their bytes: what was read, and what was written for it by the verdict.
-    ensures { (left before : Bytes) →
-        R.remaining reader.old ≡ Some left → W.contents writer.old ≡ Some before →
-        (read rest text : Bytes) × (left ≡ read ++ rest) × (R.remaining reader.new ≡ Some rest)
-        × (W.contents writer.new ≡ Some (before ++ text)) × ChecksOrders limit settles asked read rest text result }
+    ensures { ReadsAndWrites (λ read rest text. ChecksOrders limit settles asked read rest text result)
+        (R.remaining reader.old) (R.remaining reader.new) (W.contents writer.old) (W.contents writer.new) }
 {
     let mut input = Input::new();
     match begin(alloc, &mut input, reader, writer, errors, limit) {
@@ -101,8 +99,8 @@ fn tell_settled<S: Threads + Sync, W: Write>(
     made: &AtomicU64,
     writer: &mut W,
 ) -> Verdict
-    ensures { (before : Bytes) → W.contents writer.old ≡ Some before →
-        (text : Bytes) × (W.contents writer.new ≡ Some (before ++ text)) × TellsOrders asked (begun_from settles lab.old) text result }
+    ensures { WritesText (λ text. TellsOrders asked (begun_from settles lab.old) text result)
+        (W.contents writer.old) (W.contents writer.new) }
 {
     match settle(lab, settles) {
         Ok(()) => tell_orders(rt, alloc, lab, bounds, asked, workers, made, writer),
@@ -121,8 +119,7 @@ fn tell_orders<S: Threads + Sync, W: Write>(
     made: &AtomicU64,
     writer: &mut W,
 ) -> Verdict
-    ensures { (before : Bytes) → W.contents writer.old ≡ Some before →
-        (text : Bytes) × (W.contents writer.new ≡ Some (before ++ text)) × TellsOrders asked lab.old text result }
+    ensures { WritesText (λ text. TellsOrders asked lab.old text result) (W.contents writer.old) (W.contents writer.new) }
 {
     match check_shared(rt, alloc, lab, bounds, 0, workers, made) {
         Ok(tally) => {
@@ -149,8 +146,7 @@ fn tell_asked<S: Threads + Sync, W: Write>(
     made: &AtomicU64,
     writer: &mut W,
 ) -> Verdict
-    ensures { (before : Bytes) → W.contents writer.old ≡ Some before →
-        (text : Bytes) × (W.contents writer.new ≡ Some (before ++ text)) × TellsOrders asked lab.old text result }
+    ensures { WritesText (λ text. TellsOrders asked lab.old text result) (W.contents writer.old) (W.contents writer.new) }
 {
     match check_shared(rt, alloc, lab, bounds, asked, workers, made) {
         Ok(tally) => tell_tally(asked, &tally, writer),
@@ -168,8 +164,7 @@ fn tell_looks<W: Write>(
     made: &AtomicU64,
     writer: &mut W,
 ) -> Verdict
-    ensures { (before : Bytes) → W.contents writer.old ≡ Some before →
-        (text : Bytes) × (W.contents writer.new ≡ Some (before ++ text)) × TellsLooks asked lab.old text result }
+    ensures { WritesText (λ text. TellsLooks asked lab.old text result) (W.contents writer.old) (W.contents writer.new) }
 {
     match check_looks(alloc, lab, bounds, asked, made) {
         Ok(tally) => tell_tally(asked, &tally, writer),
@@ -194,9 +189,8 @@ fn searched(verdict: Verdict) -> Verdict
 
 /// Tells how many orders there are, and how they end, or that there is none of the number that is asked for.
 fn tell_tally<W: Write>(asked: u64, tally: &Tally, writer: &mut W) -> Verdict
-    ensures { (before : Bytes) → W.contents writer.old ≡ Some before →
-        (text : Bytes) × (W.contents writer.new ≡ Some (before ++ text))
-        × IsTextOut (tally_text asked tally.now) (tally_verdict asked tally.now) text result }
+    ensures { WritesText (λ text. IsTextOut (tally_text asked tally.now) (tally_verdict asked tally.now) text result)
+        (W.contents writer.old) (W.contents writer.new) }
 {
     if is_missing(asked, tally) {
         tell_none(asked, tally, writer)
@@ -214,49 +208,44 @@ fn is_missing(asked: u64, tally: &Tally) -> bool
 
 /// Tells how many orders there are, and how they end.
 fn tell_all<W: Write>(tally: &Tally, writer: &mut W) -> Verdict
-    ensures { (before : Bytes) → W.contents writer.old ≡ Some before →
-        (text : Bytes) × (W.contents writer.new ≡ Some (before ++ text))
-        × IsTextOut (orders_text tally.now) (verdict_of tally.now) text result }
+    ensures { WritesText (λ text. IsTextOut (orders_text tally.now) (verdict_of tally.now) text result)
+        (W.contents writer.old) (W.contents writer.new) }
 {
-    let mut output = Output::new();
-    let said = say_orders(tally, &mut output, writer);
-    sent(said, verdict_of(tally), &mut output, writer)
+    let mut out = Writer::new(writer);
+    let said = say_orders(tally, &mut out);
+    sent(said, verdict_of(tally), &mut out)
 }
 
 /// Tells that there is no order of this number.
 fn tell_none<W: Write>(asked: u64, tally: &Tally, writer: &mut W) -> Verdict
-    ensures { (before : Bytes) → W.contents writer.old ≡ Some before →
-        (text : Bytes) × (W.contents writer.new ≡ Some (before ++ text))
-        × IsTextOut (no_order_text asked tally.now) (no_order_verdict tally.now) text result }
+    ensures { WritesText (λ text. IsTextOut (no_order_text asked tally.now) (no_order_verdict tally.now) text result)
+        (W.contents writer.old) (W.contents writer.new) }
 {
-    let mut output = Output::new();
-    let said = say_no_order(asked, tally, &mut output, writer);
-    sent(said, no_order_verdict(tally), &mut output, writer)
+    let mut out = Writer::new(writer);
+    let said = say_no_order(asked, tally, &mut out);
+    sent(said, no_order_verdict(tally), &mut out)
 }
 
 /// Tells the session that leads to where a lab stands.
 fn tell_session<W: Write>(lab: &Lab, writer: &mut W) -> Verdict
-    ensures { (before : Bytes) → W.contents writer.old ≡ Some before →
-        (text : Bytes) × (W.contents writer.new ≡ Some (before ++ text)) × IsTextOut (saved_text lab.now) Alike text result }
+    ensures { WritesText (λ text. IsTextOut (saved_text lab.now) Alike text result) (W.contents writer.old) (W.contents writer.new) }
 {
-    let mut output = Output::new();
-    let said = say_saved(lab, &mut output, writer);
-    sent(said, Verdict::Alike, &mut output, writer)
+    let mut out = Writer::new(writer);
+    let said = say_saved(lab, &mut out);
+    sent(said, Verdict::Alike, &mut out)
 }
 
 /// Tells that memory was wanting.
 fn tell_no_memory<W: Write>(writer: &mut W) -> Verdict
-    ensures { (before : Bytes) → W.contents writer.old ≡ Some before →
-        (text : Bytes) × (W.contents writer.new ≡ Some (before ++ text))
-        × IsTextOut (refusal_text Memory) (Ended ImageRefused) text result }
+    ensures { WritesText (λ text. IsTextOut (refusal_text Memory) (Ended ImageRefused) text result)
+        (W.contents writer.old) (W.contents writer.new) }
 {
-    let mut output = Output::new();
-    let said = output.say(writer, refusal_text(LabFault::Memory));
+    let mut out = Writer::new(writer);
+    let said = out.say(refusal_text(LabFault::Memory));
     sent(
         said,
         Verdict::Ended(Status::ImageRefused),
-        &mut output,
-        writer,
+        &mut out,
     )
 }
 
@@ -264,14 +253,14 @@ fn tell_no_memory<W: Write>(writer: &mut W) -> Verdict
 fn sent<W: Write>(
     said: Result<(), WriteFailed>,
     verdict: Verdict,
-    output: &mut Output,
-    writer: &mut W,
+    writer: &mut Writer<'_, W>,
 ) -> Verdict
-    ensures { (before whole : Bytes) → IsSaidOrCut said (W.contents writer.old) before whole output.old →
-        (text : Bytes) × (W.contents writer.new ≡ Some (before ++ text)) × IsTextOut whole verdict text result }
+    ensures same { IsSameStream writer.old writer.new }
+    ensures written { (before whole : Bytes) → IsSaidOrCut said (W.contents writer.old.stream.now) before whole writer.old.pending.items →
+        (text : Bytes) × (W.contents writer.new.stream.now ≡ Some (before ++ text)) × IsTextOut whole verdict text result }
 {
     match said {
-        Ok(()) => match output.send(writer) {
+        Ok(()) => match writer.send() {
             Ok(()) => verdict,
             Err(_) => Verdict::Ended(Status::StreamFault),
         },

@@ -3,8 +3,7 @@
 ghost use Rattle.std.specs.Prelude.{◌≡◌, ◌+◌, ◌≤◌, ◌++◌, length, codes, true, false, if◌then◌else◌, []};
 ghost use Rattle.arrayvec.specs.ArrayVec.{array_vec_len};
 ghost use Rattle.ga_text.specs.Lines.{Bytes};
-ghost use Rattle.ga_text.specs.Output.{IsSaid, IsSaidOrCut};
-ghost use Rattle.ga_text.specs.kept.{Says};
+ghost use Rattle.ga_text.specs.Output.{Says, SaysExactly};
 ghost use Rattle.ga_orders.specs.OrderTexts.{counted_text, alike_text, kinds_head, bound_text, orders_head, fate_at, stop_item, doing_item, stop_items, doing_items, doing_tail, unstopped_text, end_text, verb_text, end_kind_line, end_kind_text, orders_with, orders_text, no_order_text};
 ghost use Rattle.ga_answers.specs.Waiting.{name_text};
 
@@ -12,7 +11,7 @@ use arrayvec::ArrayVec;
 use ga_check::tally::{EndKind, Fate, Tally};
 use ga_grid::NodeId;
 use ga_text::{
-    NODE_ROOM, NUMBER_ROOM, Output, TextBuffer, WriteFailed, push_node, push_number, push_text,
+    NODE_ROOM, NUMBER_ROOM, Writer, TextBuffer, WriteFailed, push_node, push_number, push_text,
 };
 use std::io::Write;
 
@@ -59,28 +58,26 @@ type KindLine = ArrayVec<u8, KIND_ROOM>;
 /// A write failed.
 pub(crate) fn say_orders<W: Write>(
     tally: &Tally,
-    output: &mut Output,
-    writer: &mut W,
+    writer: &mut Writer<'_, W>,
 ) -> Result<(), WriteFailed>
     ensures { Says result (λ text. text ≡ orders_text tally.now)
-        (W.contents writer.old) output.old (W.contents writer.new) output.new }
+        W.contents writer.old writer.new }
 {
-    say_kinds(tally, tally.kinds.as_slice(), output, writer)
+    say_kinds(tally, tally.kinds.as_slice(), writer)
 }
 
 /// Says how many orders there are, then each of these kinds of end.
 fn say_kinds<W: Write>(
     tally: &Tally,
     kinds: &[EndKind],
-    output: &mut Output,
-    writer: &mut W,
+    writer: &mut Writer<'_, W>,
 ) -> Result<(), WriteFailed>
     ensures { Says result (λ text. text ≡ orders_with tally.now kinds.now)
-        (W.contents writer.old) output.old (W.contents writer.new) output.new }
+        W.contents writer.old writer.new }
 {
-    output.say_blocks(writer, head_line(tally, kinds.len()).as_slice())?;
+    writer.say_blocks(head_line(tally, kinds.len()).as_slice())?;
     'kinds: for kind in kinds {
-        say_kind(kind, output, writer)?;
+        say_kind(kind, writer)?;
     }
     Ok(())
 }
@@ -88,13 +85,11 @@ fn say_kinds<W: Write>(
 /// Says a kind of end.
 fn say_kind<W: Write>(
     kind: &EndKind,
-    output: &mut Output,
-    writer: &mut W,
+    writer: &mut Writer<'_, W>,
 ) -> Result<(), WriteFailed>
-    ensures { (before said : Bytes) → IsSaid (W.contents writer.old) before said output.old →
-        IsSaidOrCut result (W.contents writer.new) before (said ++ end_kind_text kind.now) output.new }
+    ensures { SaysExactly result (end_kind_text kind.now) W.contents writer.old writer.new }
 {
-    output.say_blocks(writer, kind_line(kind).as_slice())
+    writer.say_blocks(kind_line(kind).as_slice())
 }
 
 /// Says that there is no order of this number, and how many there are.
@@ -104,13 +99,12 @@ fn say_kind<W: Write>(
 pub(crate) fn say_no_order<W: Write>(
     asked: u64,
     tally: &Tally,
-    output: &mut Output,
-    writer: &mut W,
+    writer: &mut Writer<'_, W>,
 ) -> Result<(), WriteFailed>
     ensures { Says result (λ text. text ≡ no_order_text asked tally.now)
-        (W.contents writer.old) output.old (W.contents writer.new) output.new }
+        W.contents writer.old writer.new }
 {
-    output.say_blocks(writer, no_order_line(asked, tally).as_slice())
+    writer.say_blocks(no_order_line(asked, tally).as_slice())
 }
 
 /// That there is no order of this number, and how many there are.

@@ -1,4 +1,5 @@
 //! A whole session whose answers are dropped.
+ghost use Rattle.ga_text.specs.Output.{WritesText, ReadsAndWrites, ReadsOnAndWrites};
 ghost use Rattle.std.specs.Prelude.{◌≡◌, ◌-◌, ◌++◌, Some};
 ghost use Rattle.ga_text.specs.Lines.{Bytes};
 ghost use Rattle.ga_text.specs.Input.{IsWithin, input_limit};
@@ -10,7 +11,7 @@ use ga_console::{Status, serve, status_of};
 use ga_display::refusal_text;
 use ga_explorer::{Explorer, begin};
 use ga_lab::LabFault;
-use ga_text::{Input, Output, write_all};
+use ga_text::{Input, Writer, write_all};
 use std::alloc::Global;
 use std::io::{Read, Write};
 
@@ -28,10 +29,8 @@ pub fn follow_session<R: Read, W: Write, E: Write>(
     errors: &mut E,
     limit: u32,
 ) -> Result<Explorer, Status>
-    ensures { (left before : Bytes) →
-        R.remaining reader.old ≡ Some left → W.contents writer.old ≡ Some before →
-        (read rest text : Bytes) × (left ≡ read ++ rest) × (R.remaining reader.new ≡ Some rest)
-        × (W.contents writer.new ≡ Some (before ++ text)) × FollowsTo limit read rest text result }
+    ensures { ReadsAndWrites (λ read rest text. FollowsTo limit read rest text result)
+        (R.remaining reader.old) (R.remaining reader.new) (W.contents writer.old) (W.contents writer.new) }
 {
     let mut input = Input::new();
     match begin(alloc, &mut input, reader, writer, errors, limit) {
@@ -49,19 +48,15 @@ fn follow<R: Read, W: Write>(
     explorer: Explorer,
 ) -> Result<Explorer, Status>
     requires { IsWithin input.old }
-    ensures { (left before : Bytes) →
-        R.remaining reader.old ≡ Some left → W.contents writer.old ≡ Some before →
-        (read rest text : Bytes)
-        × (input.old.bytes ++ left ≡ read ++ rest) × (R.remaining reader.new ≡ Some rest)
-        × (W.contents writer.new ≡ Some (before ++ text))
-        × Goes (input_limit - input.old.taken) explorer read rest text result }
+    ensures { ReadsOnAndWrites input.old.bytes (λ read rest text. Goes (input_limit - input.old.taken) explorer read rest text result)
+        (R.remaining reader.old) (R.remaining reader.new) (W.contents writer.old) (W.contents writer.new) }
 {
     let mut session = Silent {
         explorer,
         short: false,
     };
-    let mut output = Output::new();
-    let ending = serve(alloc, input, reader, &mut output, writer, &mut session);
+    let mut said = Writer::new(writer);
+    let ending = serve(alloc, input, reader, &mut said, &mut session);
     match status_of(ending) {
         Status::Done => reached(writer, session),
         _ => Err(Status::StreamFault),
@@ -70,8 +65,7 @@ fn follow<R: Read, W: Write>(
 
 /// What was reached, or the refusal for want of memory.
 fn reached<W: Write>(writer: &mut W, session: Silent) -> Result<Explorer, Status>
-    ensures { (before : Bytes) → W.contents writer.old ≡ Some before →
-        (text : Bytes) × (W.contents writer.new ≡ Some (before ++ text)) × Ends session.explorer session.short text result }
+    ensures { WritesText (λ text. Ends session.explorer session.short text result) (W.contents writer.old) (W.contents writer.new) }
 {
     if session.short {
         return Err(decline(writer, LabFault::Memory));
@@ -81,8 +75,7 @@ fn reached<W: Write>(writer: &mut W, session: Silent) -> Result<Explorer, Status
 
 /// Writes a refusal.
 pub(crate) fn decline<W: Write>(writer: &mut W, fault: LabFault) -> Status
-    ensures { (before : Bytes) → W.contents writer.old ≡ Some before →
-        (text : Bytes) × (W.contents writer.new ≡ Some (before ++ text)) × Declines fault text result }
+    ensures { WritesText (λ text. Declines fault text result) (W.contents writer.old) (W.contents writer.new) }
 {
     match write_all(writer, refusal_text(fault)) {
         Ok(()) => Status::ImageRefused,

@@ -1,4 +1,5 @@
 //! A whole session that ends with a picture.
+ghost use Rattle.ga_text.specs.Output.{WritesText, ReadsAndWrites};
 ghost use Rattle.std.specs.Prelude.{◌≡◌, ◌++◌, Some};
 ghost use Rattle.ga_text.specs.Lines.{Bytes};
 ghost use Rattle.ga_picture.specs.Drawn.{Draws, Pictures, IsOut};
@@ -24,10 +25,8 @@ pub fn draw_session<R: Read, W: Write, E: Write>(
     limit: u32,
 ) -> Status
     // Where the streams tell their bytes: what was read, and what was written for it by the status.
-    ensures { (left before : Bytes) →
-        R.remaining reader.old ≡ Some left → W.contents writer.old ≡ Some before →
-        (read rest text : Bytes) × (left ≡ read ++ rest) × (R.remaining reader.new ≡ Some rest)
-        × (W.contents writer.new ≡ Some (before ++ text)) × Draws limit view read rest text result }
+    ensures { ReadsAndWrites (λ read rest text. Draws limit view read rest text result)
+        (R.remaining reader.old) (R.remaining reader.new) (W.contents writer.old) (W.contents writer.new) }
 {
     match follow_session(alloc, reader, writer, errors, limit) {
         Ok(explorer) => write_picture(writer, &mut explorer.into_lab(), view),
@@ -37,8 +36,7 @@ pub fn draw_session<R: Read, W: Write, E: Write>(
 
 /// Writes the picture of a lab's kept events, or why there is none.
 fn write_picture<W: Write>(writer: &mut W, lab: &mut Lab, view: View) -> Status
-    ensures { (before : Bytes) → W.contents writer.old ≡ Some before →
-        (text : Bytes) × (W.contents writer.new ≡ Some (before ++ text)) × Pictures lab.old view text result }
+    ensures { WritesText (λ text. Pictures lab.old view text result) (W.contents writer.old) (W.contents writer.new) }
 {
     match picture(lab, view) {
         Ok(text) => write_out(writer, text.as_bytes()),
@@ -48,8 +46,7 @@ fn write_picture<W: Write>(writer: &mut W, lab: &mut Lab, view: View) -> Status
 
 /// Writes a picture.
 fn write_out<W: Write>(writer: &mut W, picture: &[u8]) -> Status
-    ensures { (before : Bytes) → W.contents writer.old ≡ Some before →
-        (text : Bytes) × (W.contents writer.new ≡ Some (before ++ text)) × IsOut picture.now text result }
+    ensures { WritesText (λ text. IsOut picture.now text result) (W.contents writer.old) (W.contents writer.new) }
 {
     match write_all(writer, picture) {
         Ok(()) => Status::Done,

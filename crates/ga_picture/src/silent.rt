@@ -11,7 +11,7 @@ ghost use Rattle.ga_explorer.specs.Answers.{Explores};
 use ga_console::{Command, Responder, Turn};
 use ga_explorer::Explorer;
 use ga_lab::Lab;
-use ga_text::{Output, WriteFailed};
+use ga_text::{Writer, WriteFailed};
 use std::alloc::Global;
 use std::io::Write;
 
@@ -31,11 +31,11 @@ impl Silent {
             × Notes self.old.short answer self.new.short }
         ensures ends { result ≡ Quit → self.new.short ≡ self.old.short }
     {
-        let mut output = Output::new();
-        let mut said = Vec::new(alloc);
-        match self.explorer.answer(alloc, line, &mut output, &mut said) {
+        let mut answer = Vec::new(alloc);
+        let mut said = Writer::new(&mut answer);
+        match self.explorer.answer(alloc, line, &mut said) {
             Ok(Turn::Answered) => {
-                self.note(&mut output, &mut said);
+                self.note(&mut said);
                 Turn::Answered
             }
             Ok(Turn::Quit) => Turn::Quit,
@@ -51,21 +51,21 @@ impl Silent {
         ensures { (answer : Bytes) × AnswersCommand Explores self.old.explorer command self.new.explorer answer
             × Notes self.old.short answer self.new.short }
     {
-        let mut output = Output::new();
-        let mut said = Vec::new(alloc);
-        match self.explorer.obey(alloc, command, &mut output, &mut said) {
-            Ok(()) => self.note(&mut output, &mut said),
+        let mut answer = Vec::new(alloc);
+        let mut said = Writer::new(&mut answer);
+        match self.explorer.obey(alloc, command, &mut said) {
+            Ok(()) => self.note(&mut said),
             Err(WriteFailed) => self.short = true,
         }
     }
 
     /// Takes note of an answer that tells of want of memory.
-    fn note(&mut self, output: &mut Output, said: &mut Vec<u8>)
+    fn note(&mut self, said: &mut Writer<'_, Vec<u8>>)
         ensures same { self.new.explorer ≡ self.old.explorer }
-        ensures noted { (answer : Bytes) → IsSaid (Some said.old.items) [] answer output.old → Notes self.old.short answer self.new.short }
+        ensures noted { (answer : Bytes) → IsSaid (Some said.old.stream.now.items) [] answer said.old.pending.items → Notes self.old.short answer self.new.short }
     {
-        match output.send(said) {
-            Ok(()) => self.short = self.short || is_short(said.as_slice()),
+        match said.send() {
+            Ok(()) => self.short = self.short || is_short(said.stream.as_slice()),
             Err(WriteFailed) => self.short = true,
         }
     }
@@ -102,8 +102,7 @@ impl Responder for Silent {
         &mut self,
         alloc: Global,
         line: &[u8],
-        _output: &mut Output,
-        _writer: &mut W,
+        _writer: &mut Writer<'_, W>,
     ) -> Result<Turn, WriteFailed> {
         Ok(self.hear(alloc, line))
     }
@@ -112,8 +111,7 @@ impl Responder for Silent {
         &mut self,
         alloc: Global,
         command: Command,
-        _output: &mut Output,
-        _writer: &mut W,
+        _writer: &mut Writer<'_, W>,
     ) -> Result<(), WriteFailed> {
         self.hear_command(alloc, command);
         Ok(())

@@ -3,7 +3,6 @@ pub mod Digits
 pub mod Parsing
 pub mod Input
 pub mod Output
-pub mod Lending
 pub mod Image
 pub mod ReadLine
 pub mod kept

@@ -6,6 +6,7 @@ use Rattle.ga_text.specs.Image.{EndsAtEnd, HasNoEnd}
 use Rattle.ga_text.specs.declared.whole.WholeRead.{WholeRead}
 use Rattle.ga_text.specs.declared.whole.WholeRead.TheVariants.{Whole, TooLong, ReadFailed, NoMemory}
 use Rattle.ga_text.specs.declared.output.WriteFailed.{WriteFailed}
+use Rattle.ga_text.specs.declared.output.Writer.{Writer}
 
 -- ---- what reading a whole input does (docs/REFERENCE.md, "Source"; this project's own)
 
@@ -53,3 +54,56 @@ pub record IsCut (contents : Option Bytes) (before said : Text) : Type 0 where
 abbrev pub IsSaidOrCut : {T : Type 0} → Result T WriteFailed → Option Bytes → Bytes → Text → Text → Type 0
 IsSaidOrCut (Ok done) contents before said pending = IsSaid contents before said pending
 IsSaidOrCut (Err failed) contents before said pending = IsCut contents before said
+
+-- A writer writes to the stream that it wrote to before.
+abbrev pub IsSameStream : {W : Type 0} → Writer W → Writer W → Type 0
+IsSameStream old new = new.stream.ghost_name ≡ old.stream.ghost_name
+
+-- Nothing more is said between two states of a writer, but what was said may be written.
+abbrev pub SaysNothing : {T W : Type 0} → Result T WriteFailed → (W → Option Bytes) → Writer W → Writer W → Type 0
+SaysNothing result contents old new =
+    IsSameStream old new
+    × ((before said : Text)
+    → IsSaid (contents old.stream.now) before said old.pending.items
+    → IsSaidOrCut result (contents new.stream.now) before said new.pending.items)
+
+-- This text is said, or cut short by a failed write.
+abbrev pub SaysExactly : {T W : Type 0} → Result T WriteFailed → Text → (W → Option Bytes) → Writer W → Writer W → Type 0
+SaysExactly result text contents old new =
+    IsSameStream old new
+    × ((before said : Text)
+    → IsSaid (contents old.stream.now) before said old.pending.items
+    → IsSaidOrCut result (contents new.stream.now) before (said ++ text) new.pending.items)
+
+-- Such a text is said, or cut short by a failed write.
+abbrev pub Says : {T W : Type 0} → Result T WriteFailed → (Text → Type 0) → (W → Option Bytes) → Writer W → Writer W → Type 0
+Says result IsText contents old new =
+    IsSameStream old new
+    × ((before said : Text)
+    → IsSaid (contents old.stream.now) before said old.pending.items
+    → (text : Text)
+    × IsText text
+    × IsSaidOrCut result (contents new.stream.now) before (said ++ text) new.pending.items)
+
+-- ---- what a call does with streams that tell their bytes
+
+-- Behind what a stream held before, it holds such a text.
+abbrev pub WritesText : (Text → Type 0) → Option Bytes → Option Bytes → Type 0
+WritesText IsText old new = (before : Bytes) → old ≡ Some before → (text : Text) × (new ≡ Some (before ++ text)) × IsText text
+
+-- Of an input, of which these bytes were taken ahead, some is read and the rest is left; behind what a stream held before, it holds
+-- a text.
+abbrev pub ReadsOnAndWrites : Bytes → (Bytes → Bytes → Text → Type 0) → Option Bytes → Option Bytes → Option Bytes → Option Bytes → Type 0
+ReadsOnAndWrites ahead Does input left old new =
+    (unread before : Bytes)
+    → input ≡ Some unread
+    → old ≡ Some before
+    → (read rest text : Bytes)
+    × (ahead ++ unread ≡ read ++ rest)
+    × (left ≡ Some rest)
+    × (new ≡ Some (before ++ text))
+    × Does read rest text
+
+-- Of an input some is read and the rest is left; behind what a stream held before, it holds a text.
+abbrev pub ReadsAndWrites : (Bytes → Bytes → Text → Type 0) → Option Bytes → Option Bytes → Option Bytes → Option Bytes → Type 0
+ReadsAndWrites Does input left old new = ReadsOnAndWrites [] Does input left old new

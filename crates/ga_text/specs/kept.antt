@@ -44,22 +44,3 @@ HasFilled bytes Failed = bytes ≡ []
 abbrev pub TakesPart : Unread → Bytes → Unread → Bool → Type 0
 TakesPart old part new true = HasNoFeed part × (old.bytes ≡ part ++ 10 ∷ new.bytes) × (new.taken ≡ old.taken + length part + 1)
 TakesPart old part new false = HasNoFeed part × (old.bytes ≡ part) × (new.bytes ≡ []) × (new.taken ≡ old.taken + length part)
-
--- ---- what was said to an output, which gathers it before it writes
-
--- Such a text is said, or cut short by a failed write: contents and pending are what the writer holds and what waits before
--- the call, held and left the same after it.
-abbrev pub Says : {T : Type 0}
-    → Result T WriteFailed
-    → (Text → Type 0)
-    → Option Bytes
-    → Text
-    → Option Bytes
-    → Text
-    → Type 0
-Says result IsText contents pending held left =
-    (before said : Text)
-    → IsSaid contents before said pending
-    → (text : Text)
-    × IsText text
-    × IsSaidOrCut result held before (said ++ text) left

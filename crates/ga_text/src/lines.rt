@@ -2,11 +2,11 @@
 ghost use Rattle.std.specs.Prelude.{◌≡◌, ◌+◌, ◌≤◌, ◌<◌, ◌∷◌, ◌++◌, Some, length, take, Ok};
 ghost use Rattle.ga_text.specs.Lines.{Bytes, lines_of};
 ghost use Rattle.ga_text.specs.Input.{IsWithin};
-ghost use Rattle.ga_text.specs.Output.{IsSaid, IsSaidOrCut};
+ghost use Rattle.ga_text.specs.Output.{SaysNothing};
 ghost use Rattle.ga_text.specs.ReadLine.{ReadsLine};
 
 use super::input::{Fill, Input};
-use super::output::{Output, WriteFailed};
+use super::output::{WriteFailed, Writer};
 use arrayvec::ArrayVec;
 use std::io::{Read, Write};
 
@@ -33,16 +33,14 @@ pub enum LineEnd {
 pub fn read_line<R: Read, W: Write>(
     input: &mut Input,
     reader: &mut R,
-    output: &mut Output,
-    writer: &mut W,
+    writer: &mut Writer<'_, W>,
     line: &mut LineBuffer,
 ) -> Result<LineEnd, WriteFailed>
     requires { IsWithin input.old }
     ensures reads { (left : Bytes) → R.remaining reader.old ≡ Some left →
         (rest : Bytes) × (R.remaining reader.new ≡ Some rest)
         × ReadsLine input.old left line.new.items input.new rest result }
-    ensures said { (before said : Bytes) → IsSaid (W.contents writer.old) before said output.old →
-        IsSaidOrCut result (W.contents writer.new) before said output.new }
+    ensures said { SaysNothing result W.contents writer.old writer.new }
     ensures within { IsWithin input.new }
     ensures goes_on { result ≡ Ok LineEnd.Feed → input.old.taken < input.new.taken }
 {
@@ -51,7 +49,7 @@ pub fn read_line<R: Read, W: Write>(
         if input.take_line(line) {
             return Ok(LineEnd::Feed);
         }
-        output.send(writer)?;
+        writer.send()?;
         match input.fill(reader) {
             Fill::More => {}
             Fill::End => return Ok(LineEnd::Last),

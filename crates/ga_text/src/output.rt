@@ -1,13 +1,10 @@
-//! The output, gathered before it is written.
+//! What is said to a stream, gathered before it is written.
 ghost use Rattle.std.specs.Prelude.{◌≡◌, ◌++◌, ◌+◌, ◌≤◌, length, ℕ, List, [], OnOk};
 ghost use Rattle.ga_text.specs.Lines.{Bytes};
-ghost use Rattle.std.specs.Borrow.{sem};
-ghost use Rattle.ga_text.specs.Output.{IsSaid, IsSaidOrCut, ready};
-ghost use Rattle.ga_text.specs.Lending.{LendsPending};
+ghost use Rattle.ga_text.specs.Output.{IsSaid, IsSaidOrCut, SaysExactly, SaysNothing, ready};
 
 use arrayvec::ArrayVec;
 use std::io::Write;
-use std::marker::Model;
 use thiserror::Error;
 
 /// A write failed, or took none of the bytes that it was offered.
@@ -24,49 +21,48 @@ const CLEARED: usize = 1024;
 /// How many bytes can be said and not be written yet.
 pub const PENDING_ROOM: usize = 65536;
 
-/// What was said and is not written yet.
+/// A stream, with what was said to it and is not written yet.
 #[derive(Drop)]
-pub struct Output {
-    pending: ArrayVec<u8, PENDING_ROOM>,
+pub struct Writer<'w, W: Write> {
+    /// What was said and is not written yet.
+    pub pending: ArrayVec<u8, PENDING_ROOM>,
+    /// Where it is written.
+    pub stream: &'w mut W,
 }
 
-impl Model for Output {
-    ghost use Rattle.std.specs.Prelude.{ℕ, List};
-
-    ghost Value = { List ℕ };
-
-    ghost view = { λ o. o.pending.items };
-}
-
-impl Output {
-    /// An output to which nothing was said.
-    pub fn new() -> Self
-        ensures { result ≡ [] }
+impl<'w, W: Write> Writer<'w, W> {
+    /// A writer to which nothing was said.
+    pub fn new(stream: &'w mut W) -> Self
+        ensures same { result.stream.ghost_name ≡ stream.entry.ghost_name }
+        ensures stream { result.stream.now ≡ stream.old }
+        ensures nothing { result.pending.items ≡ [] }
     {
-        Output {
+        Writer {
             pending: ArrayVec::new(),
+            stream,
         }
     }
 
-    /// An output that begins with `ready`.
-    pub fn ready() -> Self
-        ensures { result ≡ ready }
+    /// A writer to which `ready` was said.
+    pub fn ready(stream: &'w mut W) -> Self
+        ensures same { result.stream.ghost_name ≡ stream.entry.ghost_name }
+        ensures stream { result.stream.now ≡ stream.old }
+        ensures said { result.pending.items ≡ ready }
     {
         let mut pending = ArrayVec::new();
         let _fits = pending.try_extend_from_slice(b"ready\n");
-        Output { pending }
+        Writer { pending, stream }
     }
 
     /// Says a text. What is pending is written first, where there is no room for both.
     ///
     /// # Errors
     /// A write failed.
-    pub fn say<W: Write>(&mut self, writer: &mut W, text: &[u8]) -> Result<(), WriteFailed>
+    pub fn say(&mut self, text: &[u8]) -> Result<(), WriteFailed>
         requires { length text.now ≤ PENDING_ROOM }
-        ensures { (before said : Bytes) → IsSaid (W.contents writer.old) before said self.old →
-            IsSaidOrCut result (W.contents writer.new) before (said ++ text.now) self.new }
+        ensures { SaysExactly result text.now W.contents self.old self.new }
     {
-        self.make_room(writer, text.len())?;
+        self.make_room(text.len())?;
         let _fits = self.pending.try_extend_from_slice(text);
         Ok(())
     }
@@ -75,14 +71,13 @@ impl Output {
     ///
     /// # Errors
     /// A write failed.
-    pub fn say_blocks<W: Write>(&mut self, writer: &mut W, text: &[u8]) -> Result<(), WriteFailed>
-        ensures { (before said : Bytes) → IsSaid (W.contents writer.old) before said self.old →
-            IsSaidOrCut result (W.contents writer.new) before (said ++ text.now) self.new }
+    pub fn say_blocks(&mut self, text: &[u8]) -> Result<(), WriteFailed>
+        ensures { SaysExactly result text.now W.contents self.old self.new }
     {
         let mut rest = text;
         'pieces: while !rest.is_empty() {
             let (block, after) = rest.split_at(rest.len().min(BLOCK));
-            self.say(writer, block)?;
+            self.say(block)?;
             rest = after;
         }
         Ok(())
@@ -93,40 +88,29 @@ impl Output {
     /// # Errors
     /// A write failed.
     #[inline(always)]
-    pub fn make_room<W: Write>(&mut self, writer: &mut W, count: usize) -> Result<(), WriteFailed>
+    pub fn make_room(&mut self, count: usize) -> Result<(), WriteFailed>
         requires { count ≤ PENDING_ROOM }
-        ensures said { (before said : Bytes) → IsSaid (W.contents writer.old) before said self.old →
-            IsSaidOrCut result (W.contents writer.new) before said self.new }
-        ensures room { OnOk result (length self.new + count ≤ PENDING_ROOM) }
+        ensures said { SaysNothing result W.contents self.old self.new }
+        ensures room { OnOk result (length self.new.pending.items + count ≤ PENDING_ROOM) }
     {
         if self.pending.remaining_capacity() >= count {
             return Ok(());
         }
-        self.send(writer)
-    }
-
-    /// What is pending, to be added to.
-    #[inline(always)]
-    pub fn pending_mut(&mut self) -> &mut ArrayVec<u8, PENDING_ROOM>
-        ensures* lends { sem 𝓛 (LendsPending self.entry result) }
-        ensures value { result.now.items ≡ self.old }
-    {
-        &mut self.pending
+        self.send()
     }
 
     /// Writes all that is pending, and hands it on.
     ///
     /// # Errors
     /// A write failed.
-    pub fn send<W: Write>(&mut self, writer: &mut W) -> Result<(), WriteFailed>
-        ensures said { (before said : Bytes) → IsSaid (W.contents writer.old) before said self.old →
-            IsSaidOrCut result (W.contents writer.new) before said self.new }
-        ensures sent { OnOk result (self.new ≡ []) }
+    pub fn send(&mut self) -> Result<(), WriteFailed>
+        ensures said { SaysNothing result W.contents self.old self.new }
+        ensures sent { OnOk result (self.new.pending.items ≡ []) }
     {
         if self.pending.is_empty() {
             return Ok(());
         }
-        write_all(writer, self.pending.as_slice())?;
+        write_all(self.stream, self.pending.as_slice())?;
         forget(&mut self.pending);
         Ok(())
     }

@@ -1,4 +1,4 @@
-use Rattle.std.proofs.Common.{◌≡◌, ◌-◌, ℕ, List, ◌++◌, [], refl, sym, ap, ◌∙◌, arith}
+use Rattle.std.proofs.Common.{rules, ◌≡◌, ◌-◌, ℕ, List, ◌++◌, [], refl, sym, ap, ◌∙◌, arith}
 use Rattle.ga_lab.specs.Machine.{Standing, standing}
 use Rattle.ga_origin.specs.Deciding.{newest_decided}
 use Rattle.ga_text.proofs.SaidLemmas.{cut_here, said_pending}
@@ -10,6 +10,7 @@ use Rattle.ga_answers.proofs.because_text.say_decisions.Goals as goal
 pub telling-init : goal.telling-init
 telling-init g c = record {
   decisions = c.before-decisions.ensures ∙ ap (standing c.args.lab.now c.args.node) (sym (ap (λ (z : Standing). z.step) c.before-decisions.ensures));
+  same = search rules;
   said = λ before said h. record {
     front = [];
     splits = ap (decisions_text c.args.notes.now c.args.lab.now c.args.node c.args.most) (ap (λ (z : Standing). z.step) c.before-decisions.ensures);
@@ -18,7 +19,7 @@ telling-init g c = record {
 }
 
 pub returns-in_default : goal.returns-in_default
-returns-in_default g c = λ before said h.
+returns-in_default g c = (search rules, λ before said h.
     let notes = c.args.notes.now in
     let s = c.args.lab.now in
     let node = c.args.node in
@@ -30,10 +31,10 @@ returns-in_default g c = λ before said h.
           (none_left notes s node c.telling.left at (omega (arith, c.telling-test.true))
           (sym c.in_default.is ∙ c.next.ensures.value ∙ ap (λ (w : Standing). newest_decided w.machine w.node at) c.telling.invariant.decisions))
           (c.telling.invariant.said before said h),
-    )
+    ))
 
 pub returns-in_err-say_decision : goal.returns-in_err-say_decision
-returns-in_err-say_decision g c = λ before said h.
+returns-in_err-say_decision g c = (search rules, λ before said h.
     let notes = c.args.notes.now in
     let s = c.args.lab.now in
     let node = c.args.node in
@@ -46,12 +47,13 @@ returns-in_err-say_decision g c = λ before said h.
       whole,
       refl,
       cut_here c.from_residual.result _ before (said ++ whole) _ c.from_residual.ensures.0
-          (line_cut _ before said whole _ (decision_text notes s node decision) _ done.front more done.splits (c.in_err-say_decision.ensures before (said ++ done.front) done.is_said)),
-    )
+          (line_cut _ before said whole _ (decision_text notes s node decision) _ done.front more done.splits (c.in_err-say_decision.ensures.1 before (said ++ done.front) done.is_said)),
+    ))
 
 pub telling-preserved : goal.telling-preserved
 telling-preserved g c = record {
   decisions = c.in-Some.ensures.same ∙ ap (λ (w : Standing). standing w.machine w.node c.next.new.self.step) c.telling.invariant.decisions;
+  same = search rules;
   said = λ before said h.
       let notes = c.args.notes.now in
       let s = c.args.lab.now in
@@ -62,13 +64,13 @@ telling-preserved g c = record {
       let done = c.telling.invariant.said before said h in
       let more = next_decision notes s node c.telling.left (c.telling.left - 1) at c.next.new.self.step decision (omega (arith, c.telling-test.true)) refl
       (c.in-Some.ensures.value ∙ ap (λ (w : Standing). newest_decided w.machine w.node at) c.telling.invariant.decisions) c.in-Some.ensures.step in
-      line_said _ before said whole _ (decision_text notes s node decision) _ done.front _ more done.splits (c.in_ok-say_decision.ensures before (said ++ done.front) done.is_said);
+      line_said _ before said whole _ (decision_text notes s node decision) _ done.front _ more done.splits (c.in_ok-say_decision.ensures.1 before (said ++ done.front) done.is_said);
 }
 
 pub returns : goal.returns
-returns g c = λ before said h.
+returns g c = (search rules, λ before said h.
     let whole : List ℕ = decisions_text c.args.notes.now c.args.lab.now c.args.node c.args.most (c.args.near.now.step - 1) in (
       whole,
       refl,
       all_said _ before said whole _ _ (no_more c.args.notes.now c.args.lab.now c.args.node c.telling.left c.telling.decisions.step (omega (arith, c.telling-test.false))) (c.telling.invariant.said before said h),
-    )
+    ))

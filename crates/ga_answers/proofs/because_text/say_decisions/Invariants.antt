@@ -8,8 +8,9 @@ use Rattle.ga_answers.proofs.because_text.say_decisions.Given as goal
 abbrev pub invariant-telling : goal.invariant-telling
 invariant-telling g l = record {
   decisions : l.decisions ≡ standing l.lab l.node l.decisions.step;
-  said : (before said : List ℕ) → IsSaid (g.W.Write.contents l.fn.writer) before said l.fn.output
-      → IsSaidUpTo (g.W.Write.contents l.writer) before said (decisions_text l.notes l.lab l.node l.most (l.near.step - 1)) (decisions_text l.notes l.lab l.node l.left l.decisions.step) l.output;
+  same : l.writer.stream.ghost_name ≡ l.fn.writer.stream.ghost_name;
+  said : (before said : List ℕ) → IsSaid (g.W.Write.contents l.fn.writer.stream.now) before said l.fn.writer.pending.items
+      → IsSaidUpTo (g.W.Write.contents l.writer.stream.now) before said (decisions_text l.notes l.lab l.node l.most (l.near.step - 1)) (decisions_text l.notes l.lab l.node l.left l.decisions.step) l.writer.pending.items;
 }
 
 abbrev pub decreases-telling : goal.decreases-telling

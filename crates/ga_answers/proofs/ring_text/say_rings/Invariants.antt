@@ -1,4 +1,4 @@
-use Rattle.std.proofs.Common.{ℕ, ◌-◌, List}
+use Rattle.std.proofs.Common.{◌≡◌, ℕ, ◌-◌, List}
 use Rattle.ga_grid.specs.Chip.{records_of}
 use Rattle.ga_causal.specs.Dependence.{is_marked}
 use Rattle.ga_text.specs.Output.{IsSaid}
@@ -7,6 +7,7 @@ use Rattle.ga_answers.proofs.Saying.{IsSaidUpTo}
 use Rattle.ga_answers.proofs.ring_text.say_rings.Given as goal
 
 abbrev pub invariant-nodes : goal.invariant-nodes
-invariant-nodes g l = (before said : List ℕ) → IsSaid (g.W.Write.contents l.fn.writer) before said l.fn.output
-    → IsSaidUpTo (g.W.Write.contents l.writer) before said (all_rings (records_of l.chip) (is_marked l.stuck))
-    (each_node (ring_text (records_of l.chip) (is_marked l.stuck)) l.number (144 - l.number)) l.output
+invariant-nodes g l = (l.writer.stream.ghost_name ≡ l.fn.writer.stream.ghost_name)
+    × ((before said : List ℕ) → IsSaid (g.W.Write.contents l.fn.writer.stream.now) before said l.fn.writer.pending.items
+    → IsSaidUpTo (g.W.Write.contents l.writer.stream.now) before said (all_rings (records_of l.chip) (is_marked l.stuck))
+    (each_node (ring_text (records_of l.chip) (is_marked l.stuck)) l.number (144 - l.number)) l.writer.pending.items)

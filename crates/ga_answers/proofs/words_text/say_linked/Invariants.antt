@@ -8,7 +8,8 @@ use Rattle.ga_answers.proofs.words_text.say_linked.Given as goal
 
 abbrev pub invariant-telling : goal.invariant-telling
 invariant-telling g l = record {
-  up_to : (before said : List ℕ) → IsSaid (g.W.Write.contents l.fn.writer) before said l.fn.output
-      → IsSaidUpTo (g.W.Write.contents l.writer) before said (linked_text l.lab l.from l.to) (flat_map (sent_text l.from l.to) (words_left l.lab l.words)) l.output;
+  same : l.writer.stream.ghost_name ≡ l.fn.writer.stream.ghost_name;
+  up_to : (before said : List ℕ) → IsSaid (g.W.Write.contents l.fn.writer.stream.now) before said l.fn.writer.pending.items
+      → IsSaidUpTo (g.W.Write.contents l.writer.stream.now) before said (linked_text l.lab l.from l.to) (flat_map (sent_text l.from l.to) (words_left l.lab l.words)) l.writer.pending.items;
   left : length (words_left l.lab l.words) + l.counter ≡ l.count;
 }

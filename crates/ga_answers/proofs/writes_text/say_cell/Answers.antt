@@ -10,6 +10,7 @@ use Rattle.ga_answers.proofs.writes_text.say_cell.Goals as goal
 pub going-init : goal.going-init
 going-init g c = record {
   writes = c.new-writes.ensures ∙ ap (search c.args.lab.now c.args.node c.args.cell) (sym (ap (λ (w : Search). w.step) c.new-writes.ensures));
+  same = refl;
   said = λ before said h. record {
     front = [];
     splits = ap (cell_writes c.args.lab.now c.args.node c.args.cell) (ap (λ (w : Search). w.step) c.new-writes.ensures);
@@ -18,7 +19,7 @@ going-init g c = record {
 }
 
 pub returns-in_err-say_blocks : goal.returns-in_err-say_blocks
-returns-in_err-say_blocks g c = λ before said h.
+returns-in_err-say_blocks g c = (c.in_err-say_blocks.ensures.0 ∙ c.going.invariant.same, λ before said h.
     let s = c.args.lab.now in
     let whole : List ℕ = cell_writes s c.args.node c.args.cell (steps_of c.args.node.number s.kept) in
     let line : List ℕ = c.as_slice.result.now in
@@ -28,12 +29,13 @@ returns-in_err-say_blocks g c = λ before said h.
       cut_here c.from_residual.result _ before (said ++ whole) _ c.from_residual.ensures.0
           (line_cut _ before said whole _ line _ done.front
           (next_write s c.args.node c.args.cell c.going.writes.step c.in-Some.written line (c.in-Some.ensures.value ∙ ap (λ (w : Search). newest_written w.machine w.node.number w.cell c.going.writes.step) c.going.invariant.writes) (c.as_slice.ensures.value ∙ c.written_line.ensures)) done.splits
-          (c.in_err-say_blocks.ensures before (said ++ done.front) done.is_said)),
-    )
+          (c.in_err-say_blocks.ensures.1 before (said ++ done.front) done.is_said)),
+    ))
 
 pub going-preserved : goal.going-preserved
 going-preserved g c = record {
   writes = c.in-Some.ensures.same ∙ ap (λ (w : Search). search w.machine w.node w.cell c.next.new.self.step) c.going.invariant.writes;
+  same = c.in_ok-say_blocks.ensures.0 ∙ c.going.invariant.same;
   said = λ before said h.
       let s = c.args.lab.now in
       let whole : List ℕ = cell_writes s c.args.node c.args.cell (steps_of c.args.node.number s.kept) in
@@ -43,7 +45,7 @@ going-preserved g c = record {
       line_said _ before said whole _ line _ done.front _
       (next_write s c.args.node c.args.cell c.going.writes.step c.in-Some.written line (c.in-Some.ensures.value ∙ ap (λ (w : Search). newest_written w.machine w.node.number w.cell c.going.writes.step) c.going.invariant.writes) (c.as_slice.ensures.value ∙ c.written_line.ensures)
       ∙ ap (λ (k : ℕ). line ++ cell_writes s c.args.node c.args.cell k) at) done.splits
-      (c.in_ok-say_blocks.ensures before (said ++ done.front) done.is_said);
+      (c.in_ok-say_blocks.ensures.1 before (said ++ done.front) done.is_said);
 }
 
 pub going-smaller : goal.going-smaller
@@ -52,10 +54,10 @@ going-smaller g c =
     omega (arith, c.in-Some.ensures.step, within.0, within.1)
 
 pub returns : goal.returns
-returns g c = λ before said h.
+returns g c = (c.going.invariant.same, λ before said h.
     let s = c.args.lab.now in
     let whole : List ℕ = cell_writes s c.args.node c.args.cell (steps_of c.args.node.number s.kept) in (
       whole,
       refl,
       all_said _ before said whole _ _ (no_write s c.args.node c.args.cell c.going.writes.step (sym c.in_default.is ∙ c.next.ensures.value ∙ ap (λ (w : Search). newest_written w.machine w.node.number w.cell c.going.writes.step) c.going.invariant.writes)) (c.going.invariant.said before said h),
-    )
+    ))

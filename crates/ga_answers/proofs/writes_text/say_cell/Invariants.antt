@@ -9,8 +9,9 @@ use Rattle.ga_answers.proofs.writes_text.say_cell.Given as goal
 abbrev pub invariant-going : goal.invariant-going
 invariant-going g l = record {
   writes : l.writes ≡ search l.lab l.node l.cell l.writes.step;
-  said : (before said : List ℕ) → IsSaid (g.W.Write.contents l.fn.writer) before said l.fn.output
-      → IsSaidUpTo (g.W.Write.contents l.writer) before said (cell_writes l.lab l.node l.cell (steps_of l.node.number l.lab.kept)) (cell_writes l.lab l.node l.cell l.writes.step) l.output;
+  same : l.writer.stream.ghost_name ≡ l.fn.writer.stream.ghost_name;
+  said : (before said : List ℕ) → IsSaid (g.W.Write.contents l.fn.writer.stream.now) before said l.fn.writer.pending.items
+      → IsSaidUpTo (g.W.Write.contents l.writer.stream.now) before said (cell_writes l.lab l.node l.cell (steps_of l.node.number l.lab.kept)) (cell_writes l.lab l.node l.cell l.writes.step) l.writer.pending.items;
 }
 
 abbrev pub decreases-going : goal.decreases-going

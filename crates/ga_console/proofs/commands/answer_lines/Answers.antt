@@ -20,15 +20,16 @@ serves_cut A room m read rest text last result is h = at_err (λ (r : Result End
 pub lines-init : goal.lines-init
 lines-init g c = record {
   within = c.requires;
+  same = refl;
   heard = λ left before said known held.
-      (left, [], known, said_pending _ before said c.args.output.now held, heard_none g.S.Responder.answers c.args.session.now (c.args.input.now.bytes ++ left) c.args.input.now.taken);
+      (left, [], known, said_pending _ before said c.args.writer.now.pending.items held, heard_none g.S.Responder.answers c.args.session.now (c.args.input.now.bytes ++ left) c.args.input.now.taken);
 }
 
-pub returns-in_err-read_line : goal.returns-in_err-read_line
-returns-in_err-read_line g c = λ left before said known held.
+pub returns-in_err-read_line-clause-serves : goal.returns-in_err-read_line-clause-serves
+returns-in_err-read_line-clause-serves g c = λ left before said known held.
     let inv = c.lines.invariant.heard left before said known held in
     let got = c.in_err-read_line.ensures.reads inv.0 inv.2 in
-    let told = c.in_err-read_line.ensures.said before (said ++ inv.1) inv.3 in
+    let told = c.in_err-read_line.ensures.said.1 before (said ++ inv.1) inv.3 in
     let part : List ℕ = got.2.part in
     let heard = inv.4 in (
       read_to heard part,
@@ -41,14 +42,14 @@ returns-in_err-read_line g c = λ left before said known held.
       cut_here c.from_residual-in_err-read_line.result _ before (said ++ inv.1) _ c.from_residual-in_err-read_line.ensures.0 told,
     )
 
-pub returns-in_err-answer-in-Feed : goal.returns-in_err-answer-in-Feed
-returns-in_err-answer-in-Feed g c = λ left before said known held.
+pub returns-in_err-answer-in-Feed-clause-serves : goal.returns-in_err-answer-in-Feed-clause-serves
+returns-in_err-answer-in-Feed-clause-serves g c = λ left before said known held.
     let inv = c.lines.invariant.heard left before said known held in
     let got = rw c.in-Feed.is at (c.in_ok-read_line.ensures.reads inv.0 inv.2) in
-    let told = c.in_ok-read_line.ensures.said before (said ++ inv.1) inv.3 in
+    let told = c.in_ok-read_line.ensures.said.1 before (said ++ inv.1) inv.3 in
     let part : List ℕ = got.2.part in
     let heard = inv.4 in
-    let turn = c.in_err-answer-in-Feed.ensures before (said ++ inv.1) told in
+    let turn = c.in_err-answer-in-Feed.ensures.1 before (said ++ inv.1) told in
     let answered = turn.1 part (c.as_slice.ensures.value ∙ got.2.is_line.kept) in
     let more = heard_push heard part (c.read_line.new.input.bytes ++ got.0) c.read_line.new.input.taken turn.0 c.answer-in-Feed.new.self
     got.2.is_line.splits got.2.is_line.no_feed got.2.counts answered.0 answered.1 in (
@@ -63,13 +64,13 @@ returns-in_err-answer-in-Feed g c = λ left before said known held.
           (cut_assoc _ before said inv.1 turn.0 turn.2),
     )
 
-pub returns-in-Quit-2 : goal.returns-in-Quit-2
-returns-in-Quit-2 g c = λ left before said known held.
+pub returns-in-Quit-2-clause-serves : goal.returns-in-Quit-2-clause-serves
+returns-in-Quit-2-clause-serves g c = λ left before said known held.
     let inv = c.lines.invariant.heard left before said known held in
     let got = rw c.in-Feed.is at (c.in_ok-read_line.ensures.reads inv.0 inv.2) in
-    let told = c.in_ok-read_line.ensures.said before (said ++ inv.1) inv.3 in
+    let told = c.in_ok-read_line.ensures.said.1 before (said ++ inv.1) inv.3 in
     let part : List ℕ = got.2.part in
-    let turn = rw c.in-Quit-2.is at (c.in_ok-answer-in-Feed.ensures before (said ++ inv.1) told) in
+    let turn = rw c.in-Quit-2.is at (c.in_ok-answer-in-Feed.ensures.1 before (said ++ inv.1) told) in
     let heard = heard_same inv.4 c.answer-in-Feed.new.self turn.1.1 in
     let quit = quit_part c.as_slice.result.now part (c.as_slice.ensures.value ∙ got.2.is_line.kept) turn.1.0 in (
       read_past heard part c.read_line.new.input.bytes,
@@ -84,13 +85,14 @@ returns-in-Quit-2 g c = λ left before said known held.
 pub lines-preserved : goal.lines-preserved
 lines-preserved g c = record {
   within = c.in_ok-read_line.ensures.within;
+  same = c.in_ok-answer-in-Feed.ensures.0 ∙ c.in_ok-read_line.ensures.said.0 ∙ c.lines.invariant.same;
   heard = λ left before said known held.
       let inv = c.lines.invariant.heard left before said known held in
       let got = rw c.in-Feed.is at (c.in_ok-read_line.ensures.reads inv.0 inv.2) in
-      let told = c.in_ok-read_line.ensures.said before (said ++ inv.1) inv.3 in
+      let told = c.in_ok-read_line.ensures.said.1 before (said ++ inv.1) inv.3 in
       let part : List ℕ = got.2.part in
       let heard = inv.4 in
-      let turn = rw c.in-Answered-2.is at (c.in_ok-answer-in-Feed.ensures before (said ++ inv.1) told) in
+      let turn = rw c.in-Answered-2.is at (c.in_ok-answer-in-Feed.ensures.1 before (said ++ inv.1) told) in
       let answered = turn.1 part (c.as_slice.ensures.value ∙ got.2.is_line.kept) in (
         got.0,
         inv.1 ++ turn.0,
@@ -101,11 +103,11 @@ lines-preserved g c = record {
       );
 }
 
-pub returns-then-is_empty : goal.returns-then-is_empty
-returns-then-is_empty g c = λ left before said known held.
+pub returns-then-is_empty-clause-serves : goal.returns-then-is_empty-clause-serves
+returns-then-is_empty-clause-serves g c = λ left before said known held.
     let inv = c.lines.invariant.heard left before said known held in
     let got = rw c.in-Last.is at (c.in_ok-read_line.ensures.reads inv.0 inv.2) in
-    let told = c.in_ok-read_line.ensures.said before (said ++ inv.1) inv.3 in
+    let told = c.in_ok-read_line.ensures.said.1 before (said ++ inv.1) inv.3 in
     let part : List ℕ = got.2.0.part in
     let heard = inv.4 in
     let none = empty_part c.read_line.new.line.items part got.2.0.is_line.kept c.if-is_empty.ensures in (
@@ -118,15 +120,15 @@ returns-then-is_empty g c = λ left before said known held.
       told,
     )
 
-pub returns-in_err-answer-in-Last : goal.returns-in_err-answer-in-Last
-returns-in_err-answer-in-Last g c = λ left before said known held.
+pub returns-in_err-answer-in-Last-clause-serves : goal.returns-in_err-answer-in-Last-clause-serves
+returns-in_err-answer-in-Last-clause-serves g c = λ left before said known held.
     let inv = c.lines.invariant.heard left before said known held in
     let got = rw c.in-Last.is at (c.in_ok-read_line.ensures.reads inv.0 inv.2) in
-    let told = c.in_ok-read_line.ensures.said before (said ++ inv.1) inv.3 in
+    let told = c.in_ok-read_line.ensures.said.1 before (said ++ inv.1) inv.3 in
     let part : List ℕ = got.2.0.part in
     let heard = inv.4 in
     let some = some_part c.read_line.new.line.items part got.2.0.is_line.kept c.if-is_empty.ensures in
-    let turn = c.in_err-answer-in-Last.ensures before (said ++ inv.1) told in
+    let turn = c.in_err-answer-in-Last.ensures.1 before (said ++ inv.1) told in
     let answered = turn.1 part (c.as_slice-in-Last.ensures.value ∙ got.2.0.is_line.kept) in (
       read_to heard part,
       got.0,
@@ -140,13 +142,13 @@ returns-in_err-answer-in-Last g c = λ left before said known held.
           (cut_assoc _ before said inv.1 turn.0 turn.2),
     )
 
-pub returns-in-Quit-3 : goal.returns-in-Quit-3
-returns-in-Quit-3 g c = λ left before said known held.
+pub returns-in-Quit-3-clause-serves : goal.returns-in-Quit-3-clause-serves
+returns-in-Quit-3-clause-serves g c = λ left before said known held.
     let inv = c.lines.invariant.heard left before said known held in
     let got = rw c.in-Last.is at (c.in_ok-read_line.ensures.reads inv.0 inv.2) in
-    let told = c.in_ok-read_line.ensures.said before (said ++ inv.1) inv.3 in
+    let told = c.in_ok-read_line.ensures.said.1 before (said ++ inv.1) inv.3 in
     let part : List ℕ = got.2.0.part in
-    let turn = rw c.in-Quit-3.is at (c.in_ok-answer-in-Last.ensures before (said ++ inv.1) told) in
+    let turn = rw c.in-Quit-3.is at (c.in_ok-answer-in-Last.ensures.1 before (said ++ inv.1) told) in
     let heard = heard_same inv.4 c.answer-in-Last.new.self turn.1.1 in
     let quit = quit_part c.as_slice-in-Last.result.now part (c.as_slice-in-Last.ensures.value ∙ got.2.0.is_line.kept) turn.1.0 in (
       read_to heard part,
@@ -158,15 +160,15 @@ returns-in-Quit-3 g c = λ left before said known held.
       said_nothing _ before (said ++ inv.1) turn.0 _ turn.1.2 turn.2,
     )
 
-pub returns-in-Answered-3 : goal.returns-in-Answered-3
-returns-in-Answered-3 g c = λ left before said known held.
+pub returns-in-Answered-3-clause-serves : goal.returns-in-Answered-3-clause-serves
+returns-in-Answered-3-clause-serves g c = λ left before said known held.
     let inv = c.lines.invariant.heard left before said known held in
     let got = rw c.in-Last.is at (c.in_ok-read_line.ensures.reads inv.0 inv.2) in
-    let told = c.in_ok-read_line.ensures.said before (said ++ inv.1) inv.3 in
+    let told = c.in_ok-read_line.ensures.said.1 before (said ++ inv.1) inv.3 in
     let part : List ℕ = got.2.0.part in
     let heard = inv.4 in
     let some = some_part c.read_line.new.line.items part got.2.0.is_line.kept c.if-is_empty.ensures in
-    let turn = rw c.in-Answered-3.is at (c.in_ok-answer-in-Last.ensures before (said ++ inv.1) told) in
+    let turn = rw c.in-Answered-3.is at (c.in_ok-answer-in-Last.ensures.1 before (said ++ inv.1) told) in
     let answered = turn.1 part (c.as_slice-in-Last.ensures.value ∙ got.2.0.is_line.kept) in (
       read_to heard part,
       got.0,
@@ -177,11 +179,11 @@ returns-in-Answered-3 g c = λ left before said known held.
       said_assoc _ before said inv.1 turn.0 _ turn.2,
     )
 
-pub returns-in_err-say-in-Past : goal.returns-in_err-say-in-Past
-returns-in_err-say-in-Past g c = λ left before said known held.
+pub returns-in_err-say-in-Past-clause-serves : goal.returns-in_err-say-in-Past-clause-serves
+returns-in_err-say-in-Past-clause-serves g c = λ left before said known held.
     let inv = c.lines.invariant.heard left before said known held in
     let got = rw c.in-Past.is at (c.in_ok-read_line.ensures.reads inv.0 inv.2) in
-    let told = c.in_ok-read_line.ensures.said before (said ++ inv.1) inv.3 in
+    let told = c.in_ok-read_line.ensures.said.1 before (said ++ inv.1) inv.3 in
     let part : List ℕ = got.2.takes.part in
     let heard = inv.4 in (
       read_over heard part got.2.byte,
@@ -193,14 +195,14 @@ returns-in_err-say-in-Past g c = λ left before said known held.
           (cut_short _ (16777216 - c.args.input.now.taken) c.args.session.now (read_over heard part got.2.byte) got.0 (inv.1 ++ no_input) _ (Ok Past)
           (heard_past heard part got.2.byte got.0 c.read_line.new.input.taken got.2.takes.is_line.no_feed got.2.takes.counts got.2.full)),
       cut_here c.from_residual-in_err-say-in-Past.result _ before (said ++ (inv.1 ++ no_input)) _ c.from_residual-in_err-say-in-Past.ensures.0
-          (cut_assoc _ before said inv.1 no_input (c.in_err-say-in-Past.ensures before (said ++ inv.1) told)),
+          (cut_assoc _ before said inv.1 no_input (c.in_err-say-in-Past.ensures.1 before (said ++ inv.1) told)),
     )
 
-pub returns-in-Past : goal.returns-in-Past
-returns-in-Past g c = λ left before said known held.
+pub returns-in-Past-clause-serves : goal.returns-in-Past-clause-serves
+returns-in-Past-clause-serves g c = λ left before said known held.
     let inv = c.lines.invariant.heard left before said known held in
     let got = rw c.in-Past.is at (c.in_ok-read_line.ensures.reads inv.0 inv.2) in
-    let told = c.in_ok-read_line.ensures.said before (said ++ inv.1) inv.3 in
+    let told = c.in_ok-read_line.ensures.said.1 before (said ++ inv.1) inv.3 in
     let part : List ℕ = got.2.takes.part in
     let heard = inv.4 in (
       read_over heard part got.2.byte,
@@ -209,14 +211,14 @@ returns-in-Past g c = λ left before said known held.
       split_over heard part got.2.byte got.0 got.2.takes.is_line.splits,
       got.1,
       heard_past heard part got.2.byte got.0 c.read_line.new.input.taken got.2.takes.is_line.no_feed got.2.takes.counts got.2.full,
-      said_assoc _ before said inv.1 no_input _ (c.in_ok-say-in-Past.ensures before (said ++ inv.1) told),
+      said_assoc _ before said inv.1 no_input _ (c.in_ok-say-in-Past.ensures.1 before (said ++ inv.1) told),
     )
 
-pub returns-in-ReadFailed : goal.returns-in-ReadFailed
-returns-in-ReadFailed g c = λ left before said known held.
+pub returns-in-ReadFailed-clause-serves : goal.returns-in-ReadFailed-clause-serves
+returns-in-ReadFailed-clause-serves g c = λ left before said known held.
     let inv = c.lines.invariant.heard left before said known held in
     let got = rw c.in-ReadFailed.is at (c.in_ok-read_line.ensures.reads inv.0 inv.2) in
-    let told = c.in_ok-read_line.ensures.said before (said ++ inv.1) inv.3 in
+    let told = c.in_ok-read_line.ensures.said.1 before (said ++ inv.1) inv.3 in
     let part : List ℕ = got.2.part in
     let heard = inv.4 in (
       read_to heard part,
@@ -228,11 +230,11 @@ returns-in-ReadFailed g c = λ left before said known held.
       told,
     )
 
-pub returns-in_err-obey-in-Spelled : goal.returns-in_err-obey-in-Spelled
-returns-in_err-obey-in-Spelled g c = λ left before said known held.
+pub returns-in_err-obey-in-Spelled-clause-serves : goal.returns-in_err-obey-in-Spelled-clause-serves
+returns-in_err-obey-in-Spelled-clause-serves g c = λ left before said known held.
     let inv = c.lines.invariant.heard left before said known held in
     let ahead = subst (λ (t : List ℕ). IsAhead t c.in-Spelled.command c.in-Spelled.count) c.unread-text.ensures c.in-Spelled.ensures in
-    let done = c.in_err-obey-in-Spelled.ensures before (said ++ inv.1) inv.3 in
+    let done = c.in_err-obey-in-Spelled.ensures.1 before (said ++ inv.1) inv.3 in
     let whole = ahead_whole c.lines.input.bytes c.skip.new.self.bytes inv.0 c.in-Spelled.command c.in-Spelled.count ahead c.skip.ensures.bytes in
     let more = heard_push inv.4 ahead.line (c.skip.new.self.bytes ++ inv.0) c.skip.new.self.taken done.0 c.obey.new.self
     whole ahead.no_feed (omega (arith, c.skip.ensures.taken, ahead.counts))
@@ -249,10 +251,11 @@ returns-in_err-obey-in-Spelled g c = λ left before said known held.
 pub lines-preserved-in-Spelled : goal.lines-preserved-in-Spelled
 lines-preserved-in-Spelled g c = record {
   within = c.skip.ensures.within;
+  same = c.in_ok-obey-in-Spelled.ensures.0 ∙ c.lines.invariant.same;
   heard = λ left before said known held.
       let inv = c.lines.invariant.heard left before said known held in
       let ahead = subst (λ (t : List ℕ). IsAhead t c.in-Spelled.command c.in-Spelled.count) c.unread-text.ensures c.in-Spelled.ensures in
-      let done = c.in_ok-obey-in-Spelled.ensures before (said ++ inv.1) inv.3 in (
+      let done = c.in_ok-obey-in-Spelled.ensures.1 before (said ++ inv.1) inv.3 in (
         inv.0,
         inv.1 ++ done.0,
         inv.2,
@@ -264,15 +267,15 @@ lines-preserved-in-Spelled g c = record {
       );
 }
 
-pub returns-in_err-turn-in-Other : goal.returns-in_err-turn-in-Other
-returns-in_err-turn-in-Other g c = λ left before said known held.
+pub returns-in_err-turn-in-Other-clause-serves : goal.returns-in_err-turn-in-Other-clause-serves
+returns-in_err-turn-in-Other-clause-serves g c = λ left before said known held.
     let inv = c.lines.invariant.heard left before said known held in
     let bytes : List ℕ = c.lines.input.bytes in
     let count : ℕ = c.in-Other.size in
     let ahead = subst (λ (t : List ℕ). IsLineAhead t count) c.unread-text.ensures c.in-Other.ensures in
     let part : List ℕ = take count bytes in
     let next : List ℕ = drop (count + 1) bytes in
-    let turn = c.in_err-turn-in-Other.ensures before (said ++ inv.1) inv.3 in
+    let turn = c.in_err-turn-in-Other.ensures.1 before (said ++ inv.1) inv.3 in
     let answered = turn.1 part (ap (take count) c.unread-text.ensures ∙ line_kept bytes count ahead) in
     let more = heard_push inv.4 part (next ++ inv.0) (c.lines.input.taken + length part + 1) turn.0 c.answer.new.self
     (line_whole bytes inv.0 count ahead) ahead.no_feed refl answered.0 answered.1 in (
@@ -287,14 +290,14 @@ returns-in_err-turn-in-Other g c = λ left before said known held.
           (cut_assoc _ before said inv.1 turn.0 turn.2),
     )
 
-pub returns-in-Quit : goal.returns-in-Quit
-returns-in-Quit g c = λ left before said known held.
+pub returns-in-Quit-clause-serves : goal.returns-in-Quit-clause-serves
+returns-in-Quit-clause-serves g c = λ left before said known held.
     let inv = c.lines.invariant.heard left before said known held in
     let bytes : List ℕ = c.lines.input.bytes in
     let count : ℕ = c.in-Other.size in
     let ahead = subst (λ (t : List ℕ). IsLineAhead t count) c.unread-text.ensures c.in-Other.ensures in
     let part : List ℕ = take count bytes in
-    let turn = rw c.in-Quit.is at (c.in_ok-turn-in-Other.ensures before (said ++ inv.1) inv.3) in
+    let turn = rw c.in-Quit.is at (c.in_ok-turn-in-Other.ensures.1 before (said ++ inv.1) inv.3) in
     let heard = heard_same inv.4 c.answer.new.self turn.1.1 in
     let whole = line_taken bytes c.skip-in-Other.new.self.bytes inv.0 count ahead c.skip-in-Other.ensures.bytes in (
       read_past heard part c.skip-in-Other.new.self.bytes,
@@ -310,13 +313,14 @@ returns-in-Quit g c = λ left before said known held.
 pub lines-preserved-in-Answered : goal.lines-preserved-in-Answered
 lines-preserved-in-Answered g c = record {
   within = c.skip-in-Other.ensures.within;
+  same = c.in_ok-turn-in-Other.ensures.0 ∙ c.lines.invariant.same;
   heard = λ left before said known held.
       let inv = c.lines.invariant.heard left before said known held in
       let bytes : List ℕ = c.lines.input.bytes in
       let count : ℕ = c.in-Other.size in
       let ahead = subst (λ (t : List ℕ). IsLineAhead t count) c.unread-text.ensures c.in-Other.ensures in
       let part : List ℕ = take count bytes in
-      let turn = rw c.in-Answered.is at (c.in_ok-turn-in-Other.ensures before (said ++ inv.1) inv.3) in
+      let turn = rw c.in-Answered.is at (c.in_ok-turn-in-Other.ensures.1 before (said ++ inv.1) inv.3) in
       let answered = turn.1 part (ap (take count) c.unread-text.ensures ∙ line_kept bytes count ahead) in (
         inv.0,
         inv.1 ++ turn.0,

@@ -7,8 +7,9 @@ use Rattle.ga_console.proofs.commands.answer_lines.Given as goal
 abbrev pub invariant-lines : goal.invariant-lines
 invariant-lines g l = record {
   within : IsWithin l.input;
-  heard : (left before said : List ℕ) → g.R.Read.remaining l.fn.reader ≡ Some left → IsSaid (g.W.Write.contents l.fn.writer) before said l.fn.output →
-      (rest text : List ℕ) × (g.R.Read.remaining l.reader ≡ Some rest) × IsSaid (g.W.Write.contents l.writer) before (said ++ text) l.output
+  same : l.writer.stream.ghost_name ≡ l.fn.writer.stream.ghost_name;
+  heard : (left before said : List ℕ) → g.R.Read.remaining l.fn.reader ≡ Some left → IsSaid (g.W.Write.contents l.fn.writer.stream.now) before said l.fn.writer.pending.items →
+      (rest text : List ℕ) × (g.R.Read.remaining l.reader ≡ Some rest) × IsSaid (g.W.Write.contents l.writer.stream.now) before (said ++ text) l.writer.pending.items
       × Heard g.S.Responder.answers l.fn.session (l.fn.input.bytes ++ left) l.fn.input.taken (l.input.bytes ++ rest) l.input.taken text l.session;
 }
 

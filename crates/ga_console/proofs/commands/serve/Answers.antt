@@ -8,9 +8,9 @@ use Rattle.ga_console.proofs.Heard.{cut_short}
 use Rattle.ga_text.proofs.SaidLemmas.{at_err}
 use Rattle.ga_console.proofs.commands.serve.Goals as goal
 
-pub returns-in_err-ending : goal.returns-in_err-ending
-returns-in_err-ending g c = λ left before said known held.
-    let done = c.in_err-ending.ensures left before said known held in (
+pub returns-in_err-ending-clause-serves : goal.returns-in_err-ending-clause-serves
+returns-in_err-ending-clause-serves g c = λ left before said known held.
+    let done = c.in_err-ending.ensures.serves left before said known held in (
       done.0,
       done.1,
       done.2,
@@ -23,10 +23,10 @@ returns-in_err-ending g c = λ left before said known held.
       at_err (λ (r : Result Ending WriteFailed). Written r (said ++ done.2) done.6.sent) c.from_residual.result c.from_residual.ensures.0 (λ why. done.6.front),
     )
 
-pub returns-in_err-send : goal.returns-in_err-send
-returns-in_err-send g c = λ left before said known held.
-    let done = c.in_ok-ending.ensures left before said known held in
-    let told = c.in_err-send.ensures.said before (said ++ done.2) done.6 in
+pub returns-in_err-send-clause-serves : goal.returns-in_err-send-clause-serves
+returns-in_err-send-clause-serves g c = λ left before said known held.
+    let done = c.in_ok-ending.ensures.serves left before said known held in
+    let told = c.in_err-send.ensures.said.1 before (said ++ done.2) done.6 in
     let cut = cut_short _ (16777216 - c.args.input.now.taken) c.args.session.now done.0 done.1 done.2 _ (Ok c.in_ok-ending.ending) done.5 in (
       done.0,
       done.1,
@@ -40,10 +40,10 @@ returns-in_err-send g c = λ left before said known held.
       at_err (λ (r : Result Ending WriteFailed). Written r (said ++ done.2) told.sent) c.from_residual-in_err-send.result c.from_residual-in_err-send.ensures.0 (λ why. told.front),
     )
 
-pub returns : goal.returns
-returns g c = λ left before said known held.
-    let done = c.in_ok-ending.ensures left before said known held in
-    let told = c.in_ok-send.ensures.said before (said ++ done.2) done.6 in
+pub returns-clause-serves : goal.returns-clause-serves
+returns-clause-serves g c = λ left before said known held.
+    let done = c.in_ok-ending.ensures.serves left before said known held in
+    let told = c.in_ok-send.ensures.said.1 before (said ++ done.2) done.6 in
     let whole : told.sent ≡ said ++ done.2 =
     sym (told.splits ∙ ap (λ (t : List ℕ). told.sent ++ t) c.in_ok-send.ensures.sent ∙ append-nil told.sent) in
     (done.0, done.1, done.2, told.sent, done.3, done.4, told.held, done.5, whole)

@@ -1,12 +1,12 @@
-use Rattle.std.proofs.Common.{ap, inl, refl}
+use Rattle.std.proofs.Common.{rules, ap, inl, refl}
 use Rattle.ga_node.specs.Record.{record_of}
 use Rattle.ga_display.specs.Texts.{node_text}
 use Rattle.ga_console.proofs.ReplyLemmas.{replies}
 use Rattle.ga_console.proofs.readings.node.Goals as goal
 
 pub returns : goal.returns
-returns g c = λ before said h. (
+returns g c = (search rules, λ before said h. (
   node_text c.args.node (record_of c.node.result.now),
   inl (replies _ _ c.args.lab.now c.args.lab.now (ap (node_text c.args.node) c.node.ensures.value) refl),
-  c.say_node.ensures before said h,
-)
+  c.say_node.ensures.1 before said h,
+))

@@ -1,17 +1,18 @@
-use Rattle.std.proofs.Common.{inl, inr, refl}
+use Rattle.std.proofs.Common.{rules, ap, ◌∙◌, inl, inr, refl}
 use Rattle.ga_text.specs.Output.{ready}
 use Rattle.ga_console.proofs.RunLemmas.{said_fresh, serves_from}
 use Rattle.ga_console.proofs.run.after_image.Goals as goal
 
 pub returns-in-Ok : goal.returns-in-Ok
 returns-in-Ok g c = λ left before known held.
-    let done = c.serve.ensures left before ready known (said_fresh _ before ready c.ready-output.result held c.ready-output.ensures) in (
+    let done = c.serve.ensures.serves left before ready known (said_fresh _ before ready _ (ap g.W.Write.contents c.ready-said.ensures.stream ∙ held) c.ready-said.ensures.said) in
+    let there = done.6 in (
       done.0,
       done.1,
       done.3,
       done.4,
       done.5,
-      done.6,
+      search rules,
       inl (c.in-Ok.lab, c.in-Ok.ensures.ok, c.serve.result, c.status_of.ensures, done.2, c.serve.new.session, serves_from _ _ _ _ _ _ _ _ _ c.open-session.ensures done.7, done.8),
     )
 

@@ -16,12 +16,15 @@ nothing_said items output i o = record { sent = []; held = ap (λ (z : List ℕ)
 
 pub returns-in-Ok-clause-told : goal.returns-in-Ok-clause-told
 returns-in-Ok-clause-told c =
-    let said = nothing_said c.reserve.new.self.items c.new-output.result (c.reserve.ensures.items ∙ c.new-answer.ensures.items) c.new-output.ensures in
-    let h = rw c.in-Ok-Answered.field-0-is at (c.in-Ok-Answered.ensures [] [] said) in
+    let stream = c.new-said.ensures.stream in
+    let empty = c.reserve.ensures.items ∙ c.new-answer.ensures.items in
+    let begun : c.new-said.result.stream.now.items ≡ [] = cc in
+    let said = nothing_said c.new-said.result.stream.now.items c.new-said.result.pending.items begun c.new-said.ensures.nothing in
+    let h = rw c.in-Ok-Answered.field-0-is at (c.in-Ok-Answered.ensures.1 [] [] said) in
     let part = h.1 c.args.line.now c.front_of_line.ensures in
-    let told = c.in-Ok.ensures.said [] h.0 h.2 in
+    let told = c.in-Ok.ensures.said.1 [] h.0 h.2 in
     let e : h.0 ≡ told.sent = told.splits ∙ ap (λ (z : List ℕ). told.sent ++ z) c.in-Ok.ensures.sent ∙ append-nil told.sent in
-    let whole : c.send.new.writer.items ≡ h.0 = cc in (
+    let whole : c.send.new.self.stream.now.items ≡ h.0 = cc in (
       refl,
       subst (λ (z : Text). Explores (parts_explored c.args.program.now.lab c.args.program.now.source) c.args.line.now z (parts_explored c.answer_line.new.lab c.args.program.now.source))
           (sym whole) part.0,
@@ -30,22 +33,31 @@ returns-in-Ok-clause-told c =
 
 pub returns-in-Err-send-clause-unmoved : goal.returns-in-Err-send-clause-unmoved
 returns-in-Err-send-clause-unmoved c = λ still.
-    let said = nothing_said c.reserve.new.self.items c.new-output.result (c.reserve.ensures.items ∙ c.new-answer.ensures.items) c.new-output.ensures in
-    let h = rw c.in-Ok-Answered.field-0-is at (c.in-Ok-Answered.ensures [] [] said) in
+    let stream = c.new-said.ensures.stream in
+    let empty = c.reserve.ensures.items ∙ c.new-answer.ensures.items in
+    let begun : c.new-said.result.stream.now.items ≡ [] = cc in
+    let said = nothing_said c.new-said.result.stream.now.items c.new-said.result.pending.items begun c.new-said.ensures.nothing in
+    let h = rw c.in-Ok-Answered.field-0-is at (c.in-Ok-Answered.ensures.1 [] [] said) in
     let part = h.1 c.args.line.now c.front_of_line.ensures in
     unmoved c.args.program.now c.args.line.now h.0 c.answer_line.new.lab c.stands-is_replayed.ensures.caused part.0 still
 
 pub returns-in-Ok-Quit-clause-told : goal.returns-in-Ok-Quit-clause-told
 returns-in-Ok-Quit-clause-told c =
-    let said = nothing_said c.reserve.new.self.items c.new-output.result (c.reserve.ensures.items ∙ c.new-answer.ensures.items) c.new-output.ensures in
-    let h = rw c.in-Ok-Quit.field-0-is at (c.in-Ok-Quit.ensures [] [] said) in (
+    let stream = c.new-said.ensures.stream in
+    let empty = c.reserve.ensures.items ∙ c.new-answer.ensures.items in
+    let begun : c.new-said.result.stream.now.items ≡ [] = cc in
+    let said = nothing_said c.new-said.result.stream.now.items c.new-said.result.pending.items begun c.new-said.ensures.nothing in
+    let h = rw c.in-Ok-Quit.field-0-is at (c.in-Ok-Quit.ensures.1 [] [] said) in (
       ap (λ (z : Exploring). let d : Debuggee = record c.args.program.now { lab = z.lab } in d) h.1.1,
       quit_part c.front_of_line.result.now c.args.line.now c.front_of_line.ensures h.1.0,
     )
 
 pub returns-in-Err-clause-unmoved : goal.returns-in-Err-clause-unmoved
 returns-in-Err-clause-unmoved c = λ still.
-    let said = nothing_said c.reserve.new.self.items c.new-output.result (c.reserve.ensures.items ∙ c.new-answer.ensures.items) c.new-output.ensures in
-    let h = c.in-Err.ensures [] [] said in
+    let stream = c.new-said.ensures.stream in
+    let empty = c.reserve.ensures.items ∙ c.new-answer.ensures.items in
+    let begun : c.new-said.result.stream.now.items ≡ [] = cc in
+    let said = nothing_said c.new-said.result.stream.now.items c.new-said.result.pending.items begun c.new-said.ensures.nothing in
+    let h = c.in-Err.ensures.1 [] [] said in
     let part = h.1 c.args.line.now c.front_of_line.ensures in
     unmoved c.args.program.now c.args.line.now h.0 c.answer_line.new.lab c.stands-is_replayed.ensures.caused part.0 still

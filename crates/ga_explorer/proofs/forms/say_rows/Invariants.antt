@@ -1,4 +1,4 @@
-use Rattle.std.proofs.Common.{ℕ, List, drop}
+use Rattle.std.proofs.Common.{◌≡◌, ℕ, List, drop}
 use Rattle.std.specs.Prelude.{map}
 use Rattle.ga_text.specs.Output.{IsSaid}
 use Rattle.ga_explorer.specs.Forms.{form_rows_text}
@@ -7,5 +7,6 @@ use Rattle.ga_answers.proofs.Saying.{IsSaidUpTo}
 use Rattle.ga_explorer.proofs.forms.say_rows.Given as goal
 
 abbrev pub invariant-rows : goal.invariant-rows
-invariant-rows g l = (before said : List ℕ) → IsSaid (g.W.Write.contents l.fn.writer) before said l.fn.output
-    → IsSaidUpTo (g.W.Write.contents l.writer) before said (form_rows_text (map entry_of l.rows)) (form_rows_text (map entry_of (drop l.row-index l.rows))) l.output
+invariant-rows g l = (l.writer.stream.ghost_name ≡ l.fn.writer.stream.ghost_name)
+    × ((before said : List ℕ) → IsSaid (g.W.Write.contents l.fn.writer.stream.now) before said l.fn.writer.pending.items
+    → IsSaidUpTo (g.W.Write.contents l.writer.stream.now) before said (form_rows_text (map entry_of l.rows)) (form_rows_text (map entry_of (drop l.row-index l.rows))) l.writer.pending.items)

@@ -1,4 +1,4 @@
-use Rattle.std.proofs.Common.{ℕ, ◌-◌, List, ◌++◌, refl, Some, sym, ap, subst, ◌∙◌, append_assoc}
+use Rattle.std.proofs.Common.{rules, ℕ, ◌-◌, List, ◌++◌, refl, Some, sym, ap, subst, ◌∙◌, append_assoc}
 use Rattle.std.proofs.lemmas.List.{append-nil}
 use Rattle.ga_text.specs.Output.{ready}
 use Rattle.ga_console.specs.Session.{Serves}
@@ -13,14 +13,15 @@ returns-in-Ok g c = λ left before known held.
     let begun = c.in-Ok.ensures.begun left before known held in
     let text : List ℕ = begun.4.1 in
     let silent = begun.3 ∙ ap Some (ap (λ (t : List ℕ). before ++ t) begun.4.0 ∙ append-nil before) in
-    let done = c.serve.ensures begun.0 before ready begun.2 (said_fresh _ before ready c.ready-output.result silent c.ready-output.ensures) in
+    let done = c.serve.ensures.serves begun.0 before ready begun.2 (said_fresh _ before ready _ (ap g.W.Write.contents c.ready-said.ensures.stream ∙ silent) c.ready-said.ensures.said) in
+    let there = done.6 in
     let P : ℕ → Type 0 = λ n. Serves Explores (16777216 - n) c.in-Ok.begun done.0 done.1 done.2 c.serve.new.session c.serve.result in (
       text ++ done.0,
       done.1,
       done.3,
       begun.4.2 ∙ ap (λ (l : List ℕ). text ++ l) done.4 ∙ sym (append_assoc text done.0 done.1),
       done.5,
-      done.6,
+      search rules,
       served c.serve.result c.status_of.ensures (record {
         text = text;
         commands = done.0;

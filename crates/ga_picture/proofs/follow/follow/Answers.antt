@@ -1,13 +1,14 @@
-use Rattle.std.proofs.Common.{[], ◌++◌, Some, sym, ap, ◌∙◌, append_assoc}
+use Rattle.std.proofs.Common.{rules, [], ◌++◌, Some, sym, ap, ◌∙◌, append_assoc}
 use Rattle.ga_console.proofs.RunLemmas.{said_fresh}
 use Rattle.ga_picture.proofs.Following.{goes_ended, goes_broken, stream_fault}
 use Rattle.ga_picture.proofs.follow.follow.Goals as goal
 
 pub returns-in-Done : goal.returns-in-Done
 returns-in-Done g c = λ left before known held.
-    let served = c.serve-ending.ensures left before [] known (said_fresh _ before [] c.new-output.result held c.new-output.ensures) in
+    let served = c.serve-ending.ensures.serves left before [] known (said_fresh _ before [] _ (ap g.W.Write.contents c.new-said.ensures.stream ∙ held) c.new-said.ensures.nothing) in
+    let there = served.6 in
     let done = sym c.status_of.ensures ∙ c.in-Done.is in
-    let last = c.reached.ensures (before ++ served.3) served.6 in (
+    let last = c.reached.ensures (before ++ served.3) (search rules) in (
       served.0,
       served.1,
       served.3 ++ last.0,
@@ -19,13 +20,14 @@ returns-in-Done g c = λ left before known held.
 
 pub returns-in_default : goal.returns-in_default
 returns-in_default g c = λ left before known held.
-    let served = c.serve-ending.ensures left before [] known (said_fresh _ before [] c.new-output.result held c.new-output.ensures) in
+    let served = c.serve-ending.ensures.serves left before [] known (said_fresh _ before [] _ (ap g.W.Write.contents c.new-said.ensures.stream ∙ held) c.new-said.ensures.nothing) in
+    let there = served.6 in
     let fault = stream_fault c.serve-ending.result (λ e. c.in_default.not-Done (c.status_of.ensures ∙ e)) in (
       served.0,
       served.1,
       served.3,
       served.4,
       served.5,
-      served.6,
+      search rules,
       goes_broken _ _ served.0 served.1 served.2 served.3 c.serve-ending.new.session c.serve-ending.result fault served.7 served.8,
     )

@@ -1,4 +1,4 @@
-use Rattle.std.proofs.Common.{[], ◌∷◌, ◌++◌, sym, arith, length-append}
+use Rattle.std.proofs.Common.{[], ◌∷◌, ◌++◌, refl, ◌∙◌, sym, arith, length-append}
 use Rattle.ga_text.proofs.SaidLemmas.{line_none, line_same, line_piece, line_all, at_err}
 use Rattle.std.specs.Prelude.{Result}
 use Rattle.ga_text.specs.ReadLine.{ReadsLine}
@@ -11,6 +11,7 @@ parts-init g c = record {
   within = c.requires;
   goes_on = omega arith;
   part = λ left known. ([], left, known, line_none _ _ c.clear.ensures, omega arith);
+  same = refl;
   said = λ before said h. h;
 }
 
@@ -58,7 +59,8 @@ parts-preserved g c = record {
         line_same _ _ _ inv.1 _ filled.2 (line_all _ _ _ inv.0 piece c.parts.input.bytes inv.1 inv.3 took.1.0 took.1.1 took.2),
         omega (arith, inv.4, took.1.3, c.in-More.ensures.taken, length-append inv.0 piece),
       );
-  said = λ before said h. c.in_ok-send.ensures.said before said (c.parts.invariant.said before said h);
+  same = c.in_ok-send.ensures.said.0 ∙ c.parts.invariant.same;
+  said = λ before said h. c.in_ok-send.ensures.said.1 before said (c.parts.invariant.said before said h);
 }
 
 pub returns-in-End-clause-reads : goal.returns-in-End-clause-reads

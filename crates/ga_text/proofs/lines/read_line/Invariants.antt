@@ -13,8 +13,9 @@ invariant-parts g l = record {
       (part : List ℕ) × (rest : List ℕ) × (g.R.Read.remaining l.reader ≡ Some rest)
       × IsLine (l.fn.input.bytes ++ left) l.line.items part (l.input.bytes ++ rest)
       × (l.input.taken ≡ l.fn.input.taken + length part);
-  said : (before said : List ℕ) → IsSaid (g.W.Write.contents l.fn.writer) before said l.fn.output
-      → IsSaid (g.W.Write.contents l.writer) before said l.output;
+  same : l.writer.stream.ghost_name ≡ l.fn.writer.stream.ghost_name;
+  said : (before said : List ℕ) → IsSaid (g.W.Write.contents l.fn.writer.stream.now) before said l.fn.writer.pending.items
+      → IsSaid (g.W.Write.contents l.writer.stream.now) before said l.writer.pending.items;
 }
 
 -- how many bytes may still be read

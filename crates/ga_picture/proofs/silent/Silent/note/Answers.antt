@@ -9,6 +9,6 @@ returns-after-self-clause-noted c = λ answer h e. elim c.if-self.branch [
   | else-self w ↦ (
     w.if-self.false,
     not_short w.is_short-self.result w.as_slice.result.now answer w.is_short-self.ensures (sym w.self-is ∙ e)
-        (w.as_slice.ensures.value ∙ heard_whole c.send.new.writer.items answer c.send.new.self (c.in-Ok.ensures.said [] answer h) c.in-Ok.ensures.sent),
+        (w.as_slice.ensures.value ∙ heard_whole c.send.new.self.stream.now.items answer c.send.new.self.pending.items (c.in-Ok.ensures.said.1 [] answer h) c.in-Ok.ensures.sent),
   )
 ]

@@ -1,9 +1,9 @@
-use Rattle.std.proofs.Common.{[]}
+use Rattle.std.proofs.Common.{rules, []}
 use Rattle.ga_text.proofs.SaidLemmas.{said_pending}
 use Rattle.ga_picture.proofs.Hearing.{silent_turn}
 use Rattle.ga_picture.proofs.silent.SilentResponder.answer.Goals as goal
 
 pub returns : goal.returns
-returns g c = λ before said h.
+returns g c = (search rules, λ before said h.
     let heard = c.hear.ensures.heard in
-    ([], silent_turn c.args.self.now c.hear.new.self c.args.line.now heard.0 c.hear.result heard.1 heard.2 c.hear.ensures.ends, said_pending _ before said _ h)
+    ([], silent_turn c.args.self.now c.hear.new.self c.args.line.now heard.0 c.hear.result heard.1 heard.2 c.hear.ensures.ends, said_pending _ before said _ h))

@@ -1,8 +1,8 @@
 use Rattle.std.proofs.Common.{◌++◌}
 use Rattle.ga_text.proofs.SaidLemmas.{cut_more, cut_here}
-use Rattle.ga_text.proofs.output.Output.say.Goals as goal
+use Rattle.ga_text.proofs.output.Writer.say.Goals as goal
 
 pub returns-in_err-make_room : goal.returns-in_err-make_room
-returns-in_err-make_room g c = λ before said h.
+returns-in_err-make_room g c = (c.in_err-make_room.ensures.said.0, λ before said h.
     cut_here c.from_residual.result _ before (said ++ c.args.text.now) _ c.from_residual.ensures.0
-    (cut_more _ before said c.args.text.now (c.in_err-make_room.ensures.said before said h))
+    (cut_more _ before said c.args.text.now (c.in_err-make_room.ensures.said.1 before said h)))

@@ -1,0 +1,12 @@
+use Rattle.std.proofs.Common.{ℕ, ◌≡◌, List, ◌++◌, length}
+use Rattle.ga_text.specs.Output.{IsSaid}
+use Rattle.ga_text.proofs.output.Writer.say_blocks.Given as goal
+
+-- what was said so far is a front of the text
+abbrev pub invariant-pieces : goal.invariant-pieces
+invariant-pieces g l = (l.self.stream.ghost_name ≡ l.fn.self.stream.ghost_name)
+    × ((before said : List ℕ) → IsSaid (g.W.Write.contents l.fn.self.stream.now) before said l.fn.self.pending.items
+    → (done : List ℕ) × (l.fn.text ≡ done ++ l.rest) × IsSaid (g.W.Write.contents l.self.stream.now) before (said ++ done) l.self.pending.items)
+
+abbrev pub decreases-pieces : goal.decreases-pieces
+decreases-pieces g l = length l.rest
