@@ -1,9 +1,8 @@
 pub mod Lines
 pub mod Digits
 pub mod Parsing
-pub mod Input
 pub mod Output
 pub mod Lending
 pub mod Image
-pub mod ReadLine
+pub mod Input
 pub mod kept
