@@ -15,8 +15,7 @@ use Rattle.ga_shared.specs.declared.closing.Closed.{Closed}
 use Rattle.ga_shared.specs.Log.{Raced}
 use Rattle.ga_text.specs.Lines.{lines_of}
 use Rattle.ga_image.specs.Grammar.{IsImage}
-use Rattle.ga_image.specs.FirstFault.{IsFirstFault}
-use Rattle.ga_image.specs.Fault.{no_memory}
+use Rattle.ga_image.specs.FirstFault.{IsFirstFault, no_memory}
 use Rattle.ga_image.specs.declared.fault.ImageFault.{ImageFault}
 use Rattle.ga_image.specs.declared.fault.ImageCause.TheVariants.{Memory}
 use Rattle.ga_lab.specs.Machine.{State}

@@ -1,7 +1,7 @@
 -- From the parts of a session to the whole.
 use Rattle.std.proofs.Common.{◌≡◌, ℕ, ◌-◌, ◌<◌, inl, inr, List, [], ◌∷◌, ◌++◌, length, Option, Some, refl, sym, ap, ◌∙◌, subst, arith, Result, Ok, Err}
 use Rattle.std.proofs.lemmas.List.{append-nil}
-use Rattle.ga_image.proofs.Sizes.{short_image}
+use Rattle.ga_image.proofs.Room.{short_image}
 use Rattle.ga_image.specs.declared.fault.ImageFault.{ImageFault}
 use Rattle.ga_text.specs.Input.{input_limit}
 use Rattle.ga_text.specs.Image.{HasNoEnd}

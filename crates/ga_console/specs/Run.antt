@@ -5,8 +5,7 @@ use Rattle.ga_node.specs.Record.{NodeState}
 use Rattle.ga_grid.specs.Chip.{records_of}
 use Rattle.ga_text.specs.Lines.{Bytes, Text, lines_of}
 use Rattle.ga_image.specs.Grammar.{IsImage}
-use Rattle.ga_image.specs.Fault.{no_memory}
-use Rattle.ga_image.specs.FirstFault.{IsFirstFault}
+use Rattle.ga_image.specs.FirstFault.{no_memory, IsFirstFault}
 use Rattle.ga_image.specs.declared.fault.ImageFault.{ImageFault}
 use Rattle.ga_text.specs.Input.{input_limit, block_size}
 use Rattle.ga_text.specs.Output.{Begins, ready}

@@ -1,6 +1,6 @@
 -- From the text that is read to a machine that is opened on it.
 use Rattle.std.proofs.Common.{◌≡◌, ℕ, ◌<◌, inl, inr, List, [], ◌∷◌, ◌++◌, length, true, false, refl, arith, Result, Ok, Err}
-use Rattle.ga_image.proofs.Sizes.{short_image}
+use Rattle.ga_image.proofs.Room.{short_image}
 use Rattle.ga_image.specs.declared.fault.ImageFault.{ImageFault}
 use Rattle.ga_text.specs.Input.{input_limit, Unread}
 use Rattle.ga_text.specs.Image.{HasNoEnd}

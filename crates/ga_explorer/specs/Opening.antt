@@ -6,7 +6,7 @@ use Rattle.std.specs.List.{All}
 use Rattle.ga_node.specs.Record.{NodeState}
 use Rattle.ga_grid.specs.Chip.{records_of}
 use Rattle.ga_text.specs.Lines.{Bytes, Text}
-use Rattle.ga_image.specs.Fault.{no_memory}
+use Rattle.ga_image.specs.FirstFault.{no_memory}
 use Rattle.ga_image.specs.declared.fault.ImageFault.{ImageFault}
 use Rattle.ga_source.specs.declared.program.Program.{Program}
 use Rattle.ga_source.specs.Programs.{IsAssembled}

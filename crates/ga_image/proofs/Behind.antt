@@ -10,19 +10,17 @@ use Rattle.ga_grid.specs.Grid.{node_of, yxx_of}
 use Rattle.ga_image.specs.declared.fault.ImageCause.TheVariants as cause
 use Rattle.ga_image.specs.declared.field.Field.{Field}
 use Rattle.ga_image.specs.declared.field.Field.TheVariants.{A, B, P, I, Io, Carry, Slot, Wait, Stop, Data, Return, Ram, Rom}
-use Rattle.ga_image.specs.declared.held.Held.{Held}
-use Rattle.ga_image.specs.kept.Forms.{HasCell}
-use Rattle.ga_image.specs.Fields.{writes, number_of, goes_past}
+use Rattle.ga_image.specs.declared.field.Held.{Held}
+use Rattle.ga_image.specs.kept.{HasCell}
+use Rattle.ga_image.specs.Fields.{writes, number_of, goes_past, held_at_load, held_after}
 use Rattle.ga_image.specs.Spelling.{Form, Node, Words, End, Spells}
-use Rattle.ga_image.specs.Held.{held_at_load, held_after}
 use Rattle.ga_image.specs.Grammar.{header, format_of, all_writes}
 use Rattle.ga_image.specs.Reading.{Progress, Stage, fault_of, line_fault, later_fault, form_in, is_misplaced, is_header, after_line, after_form, with_writes, with_block, nothing_given, start}
 use Rattle.ga_image.specs.Reading as stage
 use Rattle.ga_image.specs.FirstFault.{SpellFields, GivesLines, format_in, OneOf, IsEnd, BeginsBlockOf, BeginsBlock, GivesField, WasGiven}
 use Rattle.ga_image.proofs.Spellings.{kept_spelled}
-use Rattle.ga_image.proofs.Meanings.{none_flagged, marked, in_memory, line_later, past_later, short_past}
+use Rattle.ga_image.proofs.Meanings.{none_flagged, marked, in_memory, line_later, past_later, short_past, all_written}
 use Rattle.ga_image.proofs.Found.{not_short, neither, some_form, node_ok, field_ok, yxx_of_node, held-append, header_named}
-use Rattle.ga_image.proofs.Accepted.{all_written}
 use Rattle.ga_image.proofs.Room.{length-marked, past_start, known}
 use Rattle.ga_image.proofs.Standing.{IsAfter, StandsAt, later, one_form, node_no_words, node_no_end, end_no_words, header_formless}
 use Rattle.ga_image.proofs.LineCauses.{each_has_cell, in_block}

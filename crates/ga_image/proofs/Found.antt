@@ -12,18 +12,16 @@ use Rattle.ga_image.specs.declared.field.Field.{Field}
 use Rattle.ga_image.specs.declared.field.Field.TheVariants.{A, B, P, I, Io, Carry, Slot, Wait, Stop, Data, Return, Ram, Rom}
 use Rattle.ga_image.specs.declared.field.Format.{Format}
 use Rattle.ga_image.specs.declared.field.Format.TheVariants.{One, Two}
-use Rattle.ga_image.specs.declared.held.Held.{Held}
+use Rattle.ga_image.specs.declared.field.Held.{Held}
 use Rattle.ga_image.specs.declared.fault.ImageFault.{ImageFault}
 use Rattle.ga_image.specs.declared.fault.ImageCause.{ImageCause}
 use Rattle.ga_text.specs.Lines.{longest}
 use Rattle.ga_image.specs.Grammar.{with_word, header, is_header_of, format_of, Block, field_line_form, block_forms, all_writes, Fits, IsFieldLine, IsBlock, chip_with_words, loaded, IsImage}
 use Rattle.ga_image.specs.Reading.{Progress, Stage, node_of_stage, reading, refused, at_end, fault_of, line_fault, later_fault, node_fault, words_fault, is_misplaced, ends_unsteady, form_in, after_line, after_form, with_block, start, nothing_given, is_header, has_block, Gives}
 use Rattle.ga_image.specs.Spelling.{Form, Node, Words, End}
-use Rattle.ga_image.specs.Held.{held_at_load, with_held, held_after, is_unsteady}
-use Rattle.ga_image.specs.Fields.{writes, repeats, goes_past, is_too_great, greatest}
+use Rattle.ga_image.specs.Fields.{held_at_load, with_held, held_after, is_unsteady, writes, repeats, goes_past, is_too_great, greatest}
 use Rattle.ga_image.proofs.Spellings.{forms_spelled}
-use Rattle.ga_image.proofs.Meanings.{seen_twice, AreBelow, once_apart, or_false, reads, marked, repeats-append, line_later, past_later, still_later, short_past, same_format}
-use Rattle.ga_image.proofs.Accepted.{numbers, repeats_numbers, fields_below, all_written, opened, opened_ready, nodes_below, image_read}
+use Rattle.ga_image.proofs.Meanings.{seen_twice, AreBelow, once_apart, or_false, reads, marked, repeats-append, line_later, past_later, still_later, short_past, same_format, numbers, repeats_numbers, fields_below, all_written, opened, opened_ready, nodes_below, image_read}
 
 -- a line that is not refused has no fault
 pub passed : (fault : Option ImageCause) (line : ℕ) (others : Result (List NodeState) ImageFault) (chip : List NodeState) → refused fault line others ≡ Ok chip → (fault ≡ None) × (others ≡ Ok chip)

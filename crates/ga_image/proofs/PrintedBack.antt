@@ -16,19 +16,17 @@ use Rattle.ga_node.specs.Record.{NodeState, fresh_node, NodeRecord, record_of, f
 use Rattle.ga_grid.specs.Grid.{yxx_of, load_p_of, default_chip}
 use Rattle.ga_grid.specs.Chip.{nowhere, node_at, with_node, records_of, record_at, AreSteady}
 use Rattle.ga_grid.proofs.Chips.{node_at-with_node_same, node_at-with_node_other, length-with_node, records_of-with_node, node_at-default_chip, length-default_chip}
-use Rattle.ga_image.specs.declared.held.Held.{Held}
+use Rattle.ga_image.specs.declared.field.Held.{Held}
 use Rattle.ga_image.specs.declared.field.Field.{Field}
 use Rattle.ga_image.specs.declared.field.Field.TheVariants.{A, B, P, I, Io, Carry, Slot, Wait, Stop, Data, Return, Ram, Rom}
 use Rattle.ga_image.specs.declared.field.Format.TheVariants.{Two}
-use Rattle.ga_image.specs.Fields.{writes, number_of}
-use Rattle.ga_image.specs.Held.{held_at_load, held_after, is_unsteady}
+use Rattle.ga_image.specs.Fields.{writes, number_of, held_at_load, held_after, is_unsteady}
 use Rattle.ga_text.specs.Lines.{lines_of}
 use Rattle.ga_image.specs.Spelling.{Node, End}
 use Rattle.ga_image.specs.Grammar.{header, Block, field_line_form, block_forms, all_writes, IsFieldLine, IsBlock, with_field, with_word, chip_with_words, loaded, IsImage}
-use Rattle.ga_image.specs.Printing.{line_text, line_unless, word_unless, row_of_words, memory_lines, register_lines, state_lines, lines_beside, lines_at, block_unless, blocks_from, forms_of, printed}
-use Rattle.ga_image.specs.ReadBack.{HasSides, IsSoundRecord, AreSound, Describes}
+use Rattle.ga_image.specs.Printing.{line_text, line_unless, word_unless, row_of_words, memory_lines, register_lines, state_lines, lines_beside, lines_at, block_unless, blocks_from, forms_of, printed, HasSides, IsSoundRecord, AreSound, Describes}
 use Rattle.ga_image.proofs.Found.{held-append}
-use Rattle.ga_image.proofs.PrintedLines.{IsPrintable, forms_printed, no_feed_lines, no_feed_header, lines_again}
+use Rattle.ga_image.proofs.Pieces.{IsPrintable, forms_printed, no_feed_lines, no_feed_header, lines_again}
 use Rattle.ga_image.proofs.PrintedFields.{IsGood, all_append, lines_good, lines_apart}
 use Rattle.ga_image.proofs.PrintedStates.{given, writes_append, made_of, node_given, record_made, same_word}
 

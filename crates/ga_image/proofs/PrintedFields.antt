@@ -17,9 +17,8 @@ use Rattle.ga_image.specs.declared.field.Field.{Field}
 use Rattle.ga_image.specs.declared.field.Field.TheVariants.{A, B, P, I, Io, Carry, Slot, Wait, Stop, Data, Return, Ram, Rom}
 use Rattle.ga_image.specs.Fields.{writes, number_of}
 use Rattle.ga_image.specs.Grammar.{all_writes, IsFieldLine}
-use Rattle.ga_image.specs.Printing.{AreWords, line_unless, row_of_words, memory_lines, register_lines, state_lines, lines_beside}
-use Rattle.ga_image.specs.ReadBack.{IsSoundRecord, HasSides, HoldsWords}
-use Rattle.ga_image.proofs.PrintedLines.{IsLine, AreSix}
+use Rattle.ga_image.specs.Printing.{AreWords, line_unless, row_of_words, memory_lines, register_lines, state_lines, lines_beside, IsSoundRecord, HasSides, HoldsWords}
+use Rattle.ga_image.proofs.Pieces.{IsLine, AreSix}
 use Rattle.std.proofs.Math.Seq.{take-add}
 
 -- ---- each line
@@ -314,9 +313,13 @@ sides_of code (inr (inr (inr (inr (inl is))))) = rw is tt
 sides_of code (inr (inr (inr (inr (inr (inl is)))))) = rw is tt
 sides_of code (inr (inr (inr (inr (inr (inr is)))))) = rw is tt
 
--- words that are known
-pub holds_words : (size : ℕ) (found words : List ℕ) → found ≡ words → AreWords found → length found ≡ size → HoldsWords size words
-holds_words size found words same each count = (subst AreWords same each, ap length (sym same) ∙ count)
+-- a row of all words is the whole list
+pub whole_row : (words : List ℕ) (size : ℕ) → length words ≡ size → take size (drop 0 words) ≡ words
+whole_row words size count = take_all size words (omega arith)
+
+-- and its words are known
+pub holds_row : (size : ℕ) (found words : List ℕ) → found ≡ take size (drop 0 words) → AreWords found → length words ≡ size → HoldsWords size words
+holds_row size found words row each count = (subst AreWords (row ∙ whole_row words size count) each, count)
 
 -- one row more
 pub rows_words : (memory : List ℕ) (number : ℕ) → AreWords (take (8 * number) memory) → AreWords (row_of_words memory (8 * number)) → AreWords (take (8 * (number + 1)) memory)

@@ -17,8 +17,7 @@ use Rattle.ga_image.specs.declared.field.Field.{Field}
 use Rattle.ga_image.specs.declared.field.Field.TheVariants.{A, B, P, I, Io, Carry, Slot, Wait, Stop, Data, Return, Ram, Rom}
 use Rattle.ga_image.specs.Fields.{writes}
 use Rattle.ga_image.specs.Grammar.{all_writes, with_field}
-use Rattle.ga_image.specs.Printing.{line_unless, word_unless, row_of_words, memory_lines, register_lines, state_lines, lines_beside}
-use Rattle.ga_image.specs.ReadBack.{IsSoundRecord, HasSides}
+use Rattle.ga_image.specs.Printing.{line_unless, word_unless, row_of_words, memory_lines, register_lines, state_lines, lines_beside, IsSoundRecord, HasSides}
 use Rattle.ga_image.proofs.PrintedFields.{other_word}
 use Rattle.ga_image.proofs.Found.{sizes as both_true}
 

@@ -14,10 +14,10 @@ use Rattle.ga_node.specs.Record.{NodeState, fresh_node, record_of, FitsWait, IsS
 use Rattle.ga_grid.specs.Grid.{load_p_of, default_chip}
 use Rattle.ga_grid.specs.Chip.{node_at, with_node, records_of, AreSteady}
 use Rattle.ga_grid.proofs.Chips.{record_at-records_of, node_at-with_node_same, node_at-with_node_other, length-with_node, node_at-default_chip, length-default_chip}
-use Rattle.ga_image.specs.declared.held.Held.{Held}
+use Rattle.ga_image.specs.declared.field.Held.{Held}
 use Rattle.ga_image.specs.declared.field.Field.{Field}
 use Rattle.ga_image.specs.declared.field.Field.TheVariants.{A, B, P, I, Io, Carry, Slot, Wait, Stop, Data, Return, Ram, Rom}
-use Rattle.ga_image.specs.Held.{held_at_load, with_held, with_code, held_after, is_unsteady}
+use Rattle.ga_image.specs.Fields.{held_at_load, with_held, with_code, held_after, is_unsteady}
 use Rattle.ga_image.specs.Grammar.{Block, IsBlock, all_writes, with_field, loaded, IsImage}
 use Rattle.ga_image.proofs.PrintedStates.{given}
 use Rattle.ga_image.proofs.PrintedBack.{written_given}

@@ -1,17 +1,26 @@
 -- How many lines may still come: no more than there are nodes and places left.
-use Rattle.std.proofs.Common.{◌≡◌, ◌≢◌, ℕ, zero, suc, ◌+◌, ◌*◌, ◌<◌, ◌≤◌, ◌⊎◌, inl, inr, Bool, true, false, List, [], ◌∷◌, length, get_or, set, Some, None, refl, sym, ◌∙◌, ap, subst, arith, length-set, lit≤}
+-- How many bytes an image has.
+-- Steps of reading an image.
+use Rattle.std.proofs.Common.{◌≡◌, ◌≢◌, ℕ, zero, suc, ◌+◌, ◌*◌, ◌<◌, ◌≤◌, ◌⊎◌, inl, inr, Bool, true, false, List, [], ◌∷◌, length, get_or, set, Some, None, refl, sym, ◌∙◌, ap, subst, arith, length-set, lit≤, cond, Ok, Err}
 use Rattle.ga_image.specs.declared.field.Field.{Field}
-use Rattle.ga_image.specs.Reading.{Progress, Stage, form_in, fault_of, after_line, after_form, later_fault, with_block, start, nothing_given, is_misplaced}
+use Rattle.ga_image.specs.Reading.{Progress, Stage, form_in, fault_of, after_line, after_form, later_fault, with_block, start, nothing_given, is_misplaced, reading, line_fault, Header, Open, Block, Ended, at_end}
 use Rattle.ga_image.specs.Reading as stage
 use Rattle.ga_image.specs.Spelling.{Form, Node, Words, End}
-use Rattle.ga_image.specs.Held.{held_at_load}
-use Rattle.ga_image.specs.Fields.{writes, next_field, number_of}
-use Rattle.ga_image.specs.Grammar.{format_of}
-use Rattle.ga_image.proofs.Meanings.{or_false, seen_twice, AreBelow, marked, line_later, past_later, short_past}
-use Rattle.ga_image.proofs.Accepted.{numbers, repeats_numbers, field_below, all_written}
+use Rattle.ga_image.specs.Fields.{held_at_load, writes, next_field, number_of}
+use Rattle.ga_image.specs.Grammar.{format_of, IsImage}
+use Rattle.ga_image.proofs.Meanings.{or_false, seen_twice, AreBelow, marked, line_later, past_later, short_past, numbers, repeats_numbers, field_below, all_written, image_read}
 use Rattle.ga_image.proofs.Short.{some_spelled}
 use Rattle.ga_image.proofs.Spellings.{kept_spelled}
-use Rattle.ga_image.proofs.Found.{not_short, neither, some_form, node_ok, field_ok, yxx_of_node}
+use Rattle.ga_image.proofs.Found.{not_short, neither, some_form, node_ok, field_ok, yxx_of_node, passed}
+use Rattle.std.specs.Prelude.{nat_lt, ◌==◌}
+use Rattle.std.proofs.lemmas.Bool.Decides.{nat_tests}
+use Rattle.ga_node.specs.Record.{NodeState}
+use Rattle.ga_image.specs.declared.fault.ImageCause.TheVariants.{Long, Truncated}
+use Rattle.ga_text.specs.Lines.{longest, lines_of, with_byte}
+use Rattle.ga_image.specs.declared.parser.Stage.{Stage as Expects}
+use Rattle.ga_image.specs.declared.parser.Stage.TheVariants as expects
+use Rattle.ga_image.specs.declared.fault.ImageCause.{ImageCause}
+use Rattle.ga_image.specs.kept.{stage_of}
 
 -- how many flags aren't set
 abbrev pub free : List Bool → ℕ
@@ -123,3 +132,83 @@ line_less progress text sized none =
 pub start_room : (room start ≤ 22766) × IsSized start
 unfolding start
 start_room = (lit≤ tt, record { blocks = refl; given = refl })
+
+-- ---- how many bytes an image has
+
+-- the bytes of lines, each with its line feed
+abbrev pub size : List (List ℕ) → ℕ
+size [] = 0
+size (line ∷ lines) = length line + 1 + size lines
+
+with_byte_size : (byte : ℕ) (lines : List (List ℕ)) → size lines + 1 ≤ size (with_byte byte lines)
+with_byte_size byte [] = omega arith
+with_byte_size byte (line ∷ lines) = omega arith
+
+byte_size : (is_feed : Bool) (byte : ℕ) (lines : List (List ℕ)) → size lines + 1 ≤ size (cond is_feed ([] ∷ lines) (with_byte byte lines))
+byte_size true byte lines = omega arith
+byte_size false byte lines = with_byte_size byte lines
+
+-- a text is no longer than its lines
+pub text_size : (text : List ℕ) → length text ≤ size (lines_of text)
+text_size [] = omega arith
+text_size (byte ∷ text) = let more = byte_size (byte == 10) byte (lines_of text) in omega (arith, text_size text)
+
+-- a line without fault has at most 200 bytes
+pub short_line : (progress : Progress) (text : List ℕ) → fault_of progress text ≡ None → length text ≤ 200
+unfolding fault_of
+short_line progress text none =
+    let short = (neither (nat_lt longest (length text)) Long (line_fault progress.stage progress text) none).0 in
+    grind (arith, nat_tests)
+
+-- lines that are read take up room, 201 bytes at most each
+pub read_size : (lines : List (List ℕ)) (progress : Progress) (line : ℕ) (chip : List NodeState) → IsSized progress → reading progress line lines ≡ Ok chip → size lines ≤ 201 * room progress
+unfolding reading
+read_size [] progress line chip sized read = omega arith
+read_size (text ∷ lines) progress line chip sized read =
+    let parts = passed (fault_of progress text) line (reading (after_line progress text) (line + 1) lines) chip read in
+    let less = line_less progress text sized parts.0 in
+    let rest : size lines ≤ 201 * room (after_line progress text) = read_size lines (after_line progress text) (line + 1) chip less.1 parts.1 in
+    let short = short_line progress text parts.0 in
+    omega (arith, less.0)
+
+-- an image is far shorter than the bound of an input
+pub short_image : (text : List ℕ) (chip : List NodeState) → IsImage (lines_of text) chip → length text < 16777216
+short_image text chip image =
+    let begun = start_room in
+    let bytes = read_size (lines_of text) start 1 chip begun.1 (image_read (lines_of text) chip image) in
+    omega (arith, begun.0, text_size text)
+
+-- ---- steps of reading an image
+
+-- past a line without fault
+pub reads_on : (progress : Progress) (line : ℕ) (text first after : List ℕ) → lines_of text ≡ first ∷ lines_of after → fault_of progress first ≡ None → reading progress line (lines_of text) ≡ reading (after_line progress first) (line + 1) (lines_of after)
+unfolding reading
+reads_on progress line text first after splits none = rw (splits, none) refl
+
+-- at a line with a fault
+pub reads_fault : (progress : Progress) (line : ℕ) (text first after : List ℕ) (cause : ImageCause) → lines_of text ≡ first ∷ lines_of after → fault_of progress first ≡ Some cause → reading progress line (lines_of text) ≡ Err (record { line = line; cause = cause })
+unfolding reading
+reads_fault progress line text first after cause splits is = rw (splits, is) refl
+
+-- at the end of an image
+pub reads_end : (progress : Progress) (line : ℕ) → progress.stage ≡ Ended → reading progress line [] ≡ Ok progress.chip
+unfolding reading
+reads_end progress line ended = rw ended refl
+
+truncated : (stage : Stage) (chip : List NodeState) (line : ℕ) → stage ≢ Ended → at_end stage chip line ≡ Err (record { line = line; cause = Truncated })
+truncated Header chip line other = refl
+truncated Open chip line other = refl
+truncated (Block node) chip line other = refl
+truncated Ended chip line other = absurd (other refl)
+
+-- at the end of a text that was cut off
+pub reads_cut : (progress : Progress) (line : ℕ) → progress.stage ≢ Ended → reading progress line [] ≡ Err (record { line = line; cause = Truncated })
+unfolding reading
+reads_cut progress line other = truncated progress.stage progress.chip line other
+
+-- the end was not met
+pub still_open : (stage : Expects) → stage ≢ expects.Ended → stage_of stage ≢ Ended
+still_open expects.Header other = λ e. cc
+still_open expects.Open other = λ e. cc
+still_open (expects.Block node) other = λ e. cc
+still_open expects.Ended other = absurd (other refl)

@@ -2,7 +2,7 @@
 use Rattle.ga_image.specs.declared.parser.Stage.TheVariants as expects
 use Rattle.std.proofs.Common.{◌≢◌, refl, ◌≡◌, ℕ, ◌+◌, inl, inr, ◌<◌, ◌≤◌, true, false, ◌&&◌, List, [], ◌∷◌, ◌++◌, length, map, Option, Some, None, sym, ◌∙◌, ap, subst, arith}
 use Rattle.ga_image.specs.declared.parser.Stage.{Stage as Expects}
-use Rattle.ga_image.specs.kept.Forms.{stage_of, IsBehindHeader, HoldsCode, AreCodes}
+use Rattle.ga_image.specs.kept.{stage_of, IsBehindHeader, HoldsCode, AreCodes}
 use Rattle.std.specs.Prelude.{nat_le, codes, ◌==◌, ◌-◌}
 use Rattle.std.specs.Char.{to_ascii_lowercase}
 use Rattle.std.specs.Str.{str_to_ascii_lowercase}
@@ -14,14 +14,12 @@ use Rattle.ga_image.specs.declared.field.Field.TheVariants.{A, B, P, I, Io, Carr
 use Rattle.ga_node.specs.State.{IsWaitCode}
 use Rattle.ga_image.specs.declared.field.Format.{Format}
 use Rattle.ga_image.specs.Fields.{has_field}
-use Rattle.ga_image.specs.Spelling.{Form, Node, Words, End, set_text, wait_text, field_name, code_text, SpellsWords, SpellsCode, SpellsField, Spells, IsFormOf, SpellsIn}
+use Rattle.ga_image.specs.Spelling.{Form, Node, Words, End, set_text, wait_text, field_name, code_text, SpellsWords, SpellsCode, SpellsField, Spells, IsFormOf, SpellsIn, form, word_form, cells_form, stack_form, digit_form, set_form, side_form, wait_form, node_form, wide_form, state_form}
 use Rattle.ga_text.specs.Digits.{decimal3_of, hex2_of, words_text}
-use Rattle.ga_image.specs.Forms.{form, word_form, cells_form, stack_form, digit_form, set_form, side_form, wait_form, node_form, wide_form, state_form}
 use Rattle.ga_image.specs.Reading.{form_in, kept_in}
 use Rattle.ga_image.specs.Grammar.{Spell}
 use Rattle.ga_text.proofs.Numbers.{word_read, cell_read, node_read}
-use Rattle.ga_image.proofs.Numbers.{set_read}
-use Rattle.ga_image.proofs.Spelled.{AreSix, guarded, lower_space, row_read, fetch_text, read_text, write_text, form_spelled}
+use Rattle.ga_image.proofs.Spelled.{set_read, AreSix, guarded, lower_space, row_read, fetch_text, read_text, write_text, form_spelled}
 
 -- ---- where a parser stands
 

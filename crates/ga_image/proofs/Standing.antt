@@ -8,11 +8,9 @@ use Rattle.ga_image.specs.declared.fault.ImageCause.TheVariants as cause
 use Rattle.ga_image.specs.declared.field.Field.{Field}
 use Rattle.ga_image.specs.declared.field.Format.{Format}
 use Rattle.ga_image.specs.declared.field.Format.TheVariants.{One, Two}
-use Rattle.ga_image.specs.kept.Forms.{HasCell}
-use Rattle.ga_image.specs.Fields.{number_of}
-use Rattle.ga_image.specs.Spelling.{Form, Node, Words, End, Spells}
-use Rattle.ga_image.specs.Forms.{form, state_form, wide_form}
-use Rattle.ga_image.specs.Held.{held_at_load, held_after, is_unsteady}
+use Rattle.ga_image.specs.kept.{HasCell}
+use Rattle.ga_image.specs.Fields.{number_of, held_at_load, held_after, is_unsteady}
+use Rattle.ga_image.specs.Spelling.{Form, Node, Words, End, Spells, form, state_form, wide_form}
 use Rattle.ga_image.specs.Grammar.{header, all_writes}
 use Rattle.ga_image.specs.Reading.{Progress, Stage, is_misplaced, ends_unsteady, form_in}
 use Rattle.ga_image.specs.Reading as stage

@@ -1,5 +1,6 @@
--- The fields of a block, and where the words of a field line go.
-use Rattle.std.specs.Prelude.{ℕ, ◌+◌, ◌-◌, ◌==◌, ◌||◌, nat_lt, if◌then◌else◌, Bool, true, false, List, [], ◌∷◌, slice_index_or, slice_set}
+-- The fields of a block, where the words of a field line go, and which wait, stop and slot can stand together
+-- (docs/REFERENCE.md, "Images"; this project's own).
+use Rattle.std.specs.Prelude.{ℕ, ◌+◌, ◌-◌, ◌==◌, ◌||◌, nat_lt, if◌then◌else◌, Bool, true, false, List, [], ◌∷◌, slice_index_or, slice_set, ◌&&◌, not}
 use Rattle.std.specs.List.{list_any}
 use Rattle.ga_node.specs.declared.place.Place.{Place}
 use Rattle.ga_node.specs.declared.place.Place.TheVariants as place
@@ -8,6 +9,7 @@ use Rattle.ga_image.specs.declared.field.Field.{Field}
 use Rattle.ga_image.specs.declared.field.Field.TheVariants.{A, B, P, I, Io, Carry, Slot, Wait, Stop, Data, Return, Ram, Rom}
 use Rattle.ga_image.specs.declared.field.Format.{Format}
 use Rattle.ga_image.specs.declared.field.Format.TheVariants.{One, Two}
+use Rattle.ga_image.specs.declared.field.Held.{Held}
 
 -- a format has a field: format 1 has the registers A, B and P and the memories, format 2 has all
 abbrev pub has_field : Format → Field → Bool
@@ -89,3 +91,32 @@ is_too_great field words = list_any (λ word. nat_lt (greatest field) word) word
 abbrev pub repeats : List Bool → List (Field × ℕ) → Bool
 repeats given [] = false
 repeats given (w ∷ ws) = slice_index_or given (number_of w.0) false || repeats (slice_set given (number_of w.0) true) ws
+
+-- ---- what a block says of a node's wait, stop and slot, and which of these can stand together
+
+-- at load a node neither waits nor is stopped, and a fetch is due
+abbrev pub held_at_load : Held
+held_at_load = record { wait = 0; stop = 0; slot = 4 }
+
+-- with a word for a field
+abbrev pub with_code : Held → Field → ℕ → Held
+with_code held Wait word = record held { wait = word }
+with_code held Stop word = record held { stop = word }
+with_code held Slot word = record held { slot = word }
+with_code held _ word = held
+
+-- with one word more
+abbrev pub with_held : Held → Field × ℕ → Held
+with_held held w = with_code held w.0 w.1
+
+-- behind words, one after the other
+abbrev pub held_after : Held → List (Field × ℕ) → Held
+held_after held [] = held
+held_after held (w ∷ ws) = held_after (with_held held w) ws
+
+-- A node doesn't stand so: it waits and is stopped, or it waits for an instruction word where none is due, or for another word
+-- where an instruction word is due. The numbers of waits for an instruction word are below 32.
+abbrev pub is_unsteady : Held → Bool
+is_unsteady held =
+    not (held.wait == 0)
+    && (not (held.stop == 0) || (if nat_lt held.wait 32 then not (held.slot == 4) else held.slot == 4))

@@ -1,19 +1,51 @@
--- The first fault of a text that is no image, told by its lines (docs/REFERENCE.md, "Images"; this project's own). What is
--- wrong with a line is said of that line and of the lines before it.
-use Rattle.std.specs.Prelude.{◌≡◌, ◌≢◌, ℕ, ◌+◌, ◌<◌, ◌⊎◌, true, List, [], ◌∷◌, ◌++◌, length, None}
-use Rattle.std.specs.List.{AllByRecursion}
-use Rattle.ga_grid.specs.Grid.{node_of}
+-- The causes of a refusal, with the number and the word by which each is reported, and the first fault of a text that is no
+-- image, told by its lines (docs/REFERENCE.md, "Images"; this project's own). What is wrong with a line is said of that line
+-- and of the lines before it.
+use Rattle.std.specs.Prelude.{ℕ, codes, ◌≡◌, ◌≢◌, ◌+◌, ◌<◌, ◌⊎◌, true, List, [], ◌∷◌, ◌++◌, length, None}
+use Rattle.ga_text.specs.Lines.{Text, Line, longest}
 use Rattle.ga_image.specs.declared.fault.ImageCause.{ImageCause}
 use Rattle.ga_image.specs.declared.fault.ImageCause.TheVariants as cause
 use Rattle.ga_image.specs.declared.fault.ImageFault.{ImageFault}
+use Rattle.std.specs.List.{AllByRecursion}
+use Rattle.ga_grid.specs.Grid.{node_of}
 use Rattle.ga_image.specs.declared.field.Field.{Field}
 use Rattle.ga_image.specs.declared.field.Format.{Format}
 use Rattle.ga_image.specs.declared.field.Format.TheVariants.{One}
-use Rattle.ga_image.specs.Fields.{writes, greatest}
-use Rattle.ga_image.specs.Held.{held_at_load, held_after, is_unsteady}
-use Rattle.ga_text.specs.Lines.{Line, longest}
+use Rattle.ga_image.specs.Fields.{writes, greatest, held_at_load, held_after, is_unsteady}
 use Rattle.ga_image.specs.Spelling.{Form, Node, Words, End, Spells, SpellsIn}
 use Rattle.ga_image.specs.Grammar.{header, format_of, field_line_form, all_writes, Fits}
+
+-- the number of a cause
+abbrev pub cause_number : ImageCause → ℕ
+cause_number cause.Header = 11
+cause_number cause.Line = 12
+cause_number cause.Node = 13
+cause_number cause.Word = 14
+cause_number cause.Repeated = 15
+cause_number cause.Place = 16
+cause_number cause.Truncated = 17
+cause_number cause.Long = 18
+cause_number cause.Memory = 19
+cause_number cause.State = 20
+
+-- its word
+abbrev pub cause_word : ImageCause → Text
+cause_word cause.Header = codes "header"
+cause_word cause.Line = codes "line"
+cause_word cause.Node = codes "node"
+cause_word cause.Word = codes "word"
+cause_word cause.Repeated = codes "repeated"
+cause_word cause.Place = codes "place"
+cause_word cause.Truncated = codes "truncated"
+cause_word cause.Long = codes "long"
+cause_word cause.Memory = codes "memory"
+cause_word cause.State = codes "state"
+
+-- want of memory, which is met before the first line
+abbrev pub no_memory : ImageFault
+no_memory = record { line = 0; cause = cause.Memory }
+
+-- ---- the first fault of a text that is no image, told by its lines
 
 -- P holds of one of these
 abbrev pub OneOf : {X : Type 0} → (X → Type 0) → List X → Type 0

@@ -12,8 +12,7 @@ use Rattle.ga_image.specs.declared.field.Field.TheVariants.{Wait, Stop, Data, Re
 use Rattle.ga_image.specs.declared.field.Format.{Format}
 use Rattle.ga_image.specs.declared.field.Format.TheVariants.{One, Two}
 use Rattle.ga_node.specs.declared.wait.Wait.TheVariants.{Nothing}
-use Rattle.ga_image.specs.Fields.{field_place, writes, greatest, number_of}
-use Rattle.ga_image.specs.Held.{held_at_load, held_after, is_unsteady}
+use Rattle.ga_image.specs.Fields.{field_place, writes, greatest, number_of, held_at_load, held_after, is_unsteady}
 use Rattle.ga_image.specs.Spelling.{Form, Node, Words, End, SpellsIn}
 
 -- the first line, which names the format

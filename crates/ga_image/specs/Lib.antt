@@ -1,11 +1,7 @@
-pub mod Fault
 pub mod Fields
-pub mod Held
-pub mod Spelling
 pub mod Grammar
-pub mod Forms
+pub mod Spelling
 pub mod Reading
 pub mod FirstFault
 pub mod Printing
-pub mod ReadBack
 pub mod kept

@@ -3,19 +3,17 @@ use Rattle.ga_image.specs.declared.fault.ImageCause.TheVariants as cause
 use Rattle.std.specs.Prelude.{ℕ, Bool, List, ◌≡◌, ◌+◌, ◌⊎◌, nat_lt, true, false, ◌||◌, if◌then◌else◌, [], ◌∷◌, length, replicate, slice_index_or, slice_set, is_none, Option, Some, None, Result, Ok, Err}
 use Rattle.ga_node.specs.Record.{NodeState}
 use Rattle.ga_image.specs.declared.field.Format.{Format}
-use Rattle.ga_image.specs.declared.held.Held.{Held}
+use Rattle.ga_image.specs.declared.field.Held.{Held}
 use Rattle.ga_grid.specs.Grid.{default_chip, node_of}
 use Rattle.ga_image.specs.declared.fault.ImageCause.{ImageCause}
 use Rattle.ga_image.specs.declared.fault.ImageFault.{ImageFault}
 use Rattle.ga_image.specs.declared.field.Field.{Field}
 use Rattle.ga_image.specs.declared.field.Format.TheVariants.{One, Two}
-use Rattle.ga_image.specs.Held.{held_at_load, with_held, is_unsteady}
-use Rattle.ga_image.specs.Fields.{field_count, has_field, number_of, writes, goes_past, is_too_great, repeats}
-use Rattle.ga_image.specs.Spelling.{Form, Node, Words, End}
-use Rattle.ga_image.specs.Forms.{form}
+use Rattle.ga_image.specs.Fields.{held_at_load, with_held, is_unsteady, field_count, has_field, number_of, writes, goes_past, is_too_great, repeats}
+use Rattle.ga_image.specs.Spelling.{Form, Node, Words, End, form}
 use Rattle.ga_text.specs.Lines.{Line, longest}
 use Rattle.ga_image.specs.Grammar.{is_header_of, format_of, with_word}
-use Rattle.ga_image.specs.Fault.{no_memory}
+use Rattle.ga_image.specs.FirstFault.{no_memory}
 
 -- ---- what the lines of an image come to, one after the other
 

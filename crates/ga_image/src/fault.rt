@@ -1,7 +1,7 @@
 //! Why a text is no image.
 
 ghost use Rattle.std.specs.Prelude.{◌≡◌};
-ghost use Rattle.ga_image.specs.Fault.{cause_number, cause_word};
+ghost use Rattle.ga_image.specs.FirstFault.{cause_number, cause_word};
 
 use thiserror::Error;
 

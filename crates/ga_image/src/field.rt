@@ -1,9 +1,9 @@
-//! The fields of a block.
+//! The fields of a block, and what it says of its node's wait, stop and slot.
 
 ghost use Rattle.std.specs.Prelude.{◌≡◌, ◌<◌, ◌≤◌, length};
 ghost use Rattle.ga_image.specs.Spelling.{field_name};
-ghost use Rattle.ga_image.specs.kept.Forms.{field_in, HasCell};
-ghost use Rattle.ga_image.specs.Fields.{has_field, field_place, number_of, next_field, goes_past, is_too_great};
+ghost use Rattle.ga_image.specs.kept.{field_in, HasCell};
+ghost use Rattle.ga_image.specs.Fields.{has_field, field_place, number_of, next_field, goes_past, is_too_great, held_at_load, with_code, is_unsteady};
 
 use ga_node::Place;
 
@@ -38,21 +38,25 @@ pub(crate) enum Field {
     Rom(u8),
 }
 
-/// The two memories of a node.
+/// What a node holds lists of words in: its two stacks, from the top on, and its two memories.
 #[derive(Clone, Copy)]
 pub(crate) enum Bank {
+    Data,
+    Return,
     Ram,
     Rom,
 }
 
 impl Bank {
-    /// The field of one of its cells.
-    pub(crate) fn field(self, cell: u8) -> Field
-        ensures { result ≡ field_in self cell }
+    /// The field of one of its words.
+    pub(crate) fn field(self, place: u8) -> Field
+        ensures { result ≡ field_in self place }
     {
         match self {
-            Bank::Ram => Field::Ram(cell),
-            Bank::Rom => Field::Rom(cell),
+            Bank::Data => Field::Data(place),
+            Bank::Return => Field::Return(place),
+            Bank::Ram => Field::Ram(place),
+            Bank::Rom => Field::Rom(place),
         }
     }
 }
@@ -174,5 +178,56 @@ impl Field {
     {
         let greatest = self.place().greatest();
         words.iter().any(|word| *word > greatest)
+    }
+}
+
+/// What a block says of its node's wait, stop and slot.
+#[derive(Clone, Copy)]
+pub(crate) struct Held {
+    /// The number of the wait, or 0.
+    pub wait: u32,
+    /// The number of the stop, or 0.
+    pub stop: u32,
+    /// The slot that comes next, 0 to 3, or 4 where a fetch is due.
+    pub slot: u32,
+}
+
+impl Held {
+    /// A node at load neither waits nor is stopped, and a fetch is due.
+    pub(crate) fn runs() -> Held
+        ensures { result ≡ held_at_load }
+    {
+        Held {
+            wait: 0,
+            stop: 0,
+            slot: 4,
+        }
+    }
+
+    /// With a word for a field.
+    pub(crate) fn with(self, field: Field, word: u32) -> Held
+        ensures { result ≡ with_code self field word }
+    {
+        match field {
+            Field::Wait => Held { wait: word, ..self },
+            Field::Stop => Held { stop: word, ..self },
+            Field::Slot => Held { slot: word, ..self },
+            _ => self,
+        }
+    }
+
+    /// Whether no node stands so: it both waits and is stopped, or waits for another word than the slot says.
+    pub(crate) fn is_unsteady(self) -> bool
+        ensures { result ≡ is_unsteady self }
+    {
+        let is_fetch_due = self.slot == 4;
+        let waits_to_fetch = self.wait < 32;
+        self.wait != 0
+            && (self.stop != 0
+                || (if waits_to_fetch {
+                    !is_fetch_due
+                } else {
+                    is_fetch_due
+                }))
     }
 }

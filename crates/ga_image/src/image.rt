@@ -3,11 +3,10 @@
 ghost use Rattle.std.specs.Prelude.{◌≡◌, ◌⊎◌, List, IfOk, IfErr};
 ghost use Rattle.ga_node.specs.Record.{NodeState};
 ghost use Rattle.ga_grid.specs.Grid.{default_chip};
-ghost use Rattle.ga_image.specs.FirstFault.{IsFirstFault};
+ghost use Rattle.ga_image.specs.FirstFault.{IsFirstFault, no_memory};
 ghost use Rattle.ga_image.specs.Grammar.{IsImage};
 ghost use Rattle.ga_text.specs.Lines.{lines_of};
 ghost use Rattle.ga_image.specs.Reading.{start, reading, Gives};
-ghost use Rattle.ga_image.specs.Fault.{no_memory};
 
 use super::fault::{ImageCause, ImageFault};
 use super::parser::{Parser, Stage};

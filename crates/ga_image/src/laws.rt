@@ -7,8 +7,7 @@ ghost use Rattle.ga_image.specs.declared.fault.ImageFault.{ImageFault};
 ghost use Rattle.ga_image.specs.FirstFault.{IsFirstFault};
 ghost use Rattle.ga_image.specs.Grammar.{IsImage};
 ghost use Rattle.ga_text.specs.Lines.{lines_of};
-ghost use Rattle.ga_image.specs.Printing.{printed};
-ghost use Rattle.ga_image.specs.ReadBack.{AreSound, Describes};
+ghost use Rattle.ga_image.specs.Printing.{printed, AreSound, Describes};
 ghost use Rattle.ga_image.specs.Reading.{start, reading};
 
 /// An image is shorter than 2 ^ 24 bytes: a block has at most one line for each field, and a line at most 200 bytes.

@@ -5,7 +5,6 @@
 mod fault;
 mod field;
 mod field_text;
-mod held;
 mod image;
 pub mod laws;
 mod line;

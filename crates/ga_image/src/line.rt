@@ -1,10 +1,9 @@
 //! The forms of a line.
 
 ghost use Rattle.std.specs.Prelude.{◌≡◌, ◌≤◌, [], ◌∷◌};
-ghost use Rattle.ga_image.specs.Spelling.{Words};
+ghost use Rattle.ga_image.specs.Spelling.{Words, words_in_row, word_form, cells_form, stack_form, digit_form, set_form, side_form, wait_form, node_form, wide_form, state_form, form};
 ghost use Rattle.std.specs.Option.{option_map};
-ghost use Rattle.ga_image.specs.kept.Forms.{form_of, field_in};
-ghost use Rattle.ga_image.specs.Forms.{words_in_row, word_form, cells_form, stack_form, digit_form, set_form, side_form, wait_form, node_form, wide_form, state_form, form};
+ghost use Rattle.ga_image.specs.kept.{form_of, field_in};
 
 use super::field::{Bank, Field};
 use arrayvec::ArrayVec;
@@ -41,7 +40,7 @@ fn read_words(text: &[u8]) -> Option<ArrayVec<u32, 16>>
     if words.is_empty() { None } else { Some(words) }
 }
 
-#[tactic(auto, unfolding(crate::specs::Forms::word_form))]
+#[tactic(auto, unfolding(crate::specs::Spelling::word_form))]
 fn word_line(field: Field, text: &[u8]) -> Option<Line>
     ensures { option_map form_of result ≡ word_form field text.now }
 {
@@ -50,7 +49,7 @@ fn word_line(field: Field, text: &[u8]) -> Option<Line>
     Some(Line::Words(field, words))
 }
 
-#[tactic(auto, unfolding(crate::specs::Forms::cells_form))]
+#[tactic(auto, unfolding(crate::specs::Spelling::cells_form))]
 fn cells_line(bank: Bank, text: &[u8]) -> Option<Line>
     ensures { option_map form_of result ≡ cells_form (field_in bank) text.now }
 {
@@ -63,7 +62,7 @@ fn cells_line(bank: Bank, text: &[u8]) -> Option<Line>
     Some(Line::Words(bank.field(cell), words))
 }
 
-#[tactic(auto, unfolding(crate::specs::Forms::stack_form))]
+#[tactic(auto, unfolding(crate::specs::Spelling::stack_form))]
 fn stack_line(field: Field, count: usize, text: &[u8]) -> Option<Line>
     ensures { option_map form_of result ≡ stack_form field count text.now }
 {
@@ -83,7 +82,7 @@ fn one_word(field: Field, word: u32) -> Line
     Line::Words(field, words)
 }
 
-#[tactic(auto, unfolding(crate::specs::Forms::digit_form))]
+#[tactic(auto, unfolding(crate::specs::Spelling::digit_form))]
 fn digit_line(field: Field, least: u8, most: u8, text: &[u8]) -> Option<Line>
     requires least { least ≤ 9 }
     requires most { most ≤ 9 }
@@ -101,7 +100,7 @@ fn digit_line(field: Field, least: u8, most: u8, text: &[u8]) -> Option<Line>
     }
 }
 
-#[tactic(auto, unfolding(crate::specs::Forms::set_form))]
+#[tactic(auto, unfolding(crate::specs::Spelling::set_form))]
 fn set_line(kind: u32, text: &[u8]) -> Option<Line>
     requires { kind ≤ 48 }
     ensures { option_map form_of result ≡ set_form kind text.now }
@@ -114,7 +113,7 @@ fn set_line(kind: u32, text: &[u8]) -> Option<Line>
     }
 }
 
-#[tactic(auto, unfolding(crate::specs::Forms::side_form))]
+#[tactic(auto, unfolding(crate::specs::Spelling::side_form))]
 fn side_line(text: &[u8]) -> Option<Line>
     ensures { option_map form_of result ≡ side_form text.now }
 {
@@ -126,7 +125,7 @@ fn side_line(text: &[u8]) -> Option<Line>
     }
 }
 
-#[tactic(auto, unfolding(crate::specs::Forms::wait_form))]
+#[tactic(auto, unfolding(crate::specs::Spelling::wait_form))]
 fn wait_line(text: &[u8]) -> Option<Line>
     ensures { option_map form_of result ≡ wait_form text.now }
 {
@@ -141,14 +140,14 @@ fn wait_line(text: &[u8]) -> Option<Line>
     }
 }
 
-#[tactic(auto, unfolding(crate::specs::Forms::node_form))]
+#[tactic(auto, unfolding(crate::specs::Spelling::node_form))]
 fn node_line(text: &[u8]) -> Option<Line>
     ensures { option_map form_of result ≡ node_form text.now }
 {
     Some(Line::Node(node_number(text)?))
 }
 
-#[tactic(auto, unfolding(crate::specs::Forms::wide_form))]
+#[tactic(auto, unfolding(crate::specs::Spelling::wide_form))]
 fn wide_line(text: &[u8]) -> Option<Line>
     ensures { option_map form_of result ≡ wide_form text.now }
 {
@@ -169,7 +168,7 @@ fn wide_line(text: &[u8]) -> Option<Line>
     }
 }
 
-#[tactic(auto, unfolding(crate::specs::Forms::state_form))]
+#[tactic(auto, unfolding(crate::specs::Spelling::state_form))]
 fn state_line(text: &[u8]) -> Option<Line>
     ensures { option_map form_of result ≡ state_form text.now }
 {
@@ -188,7 +187,7 @@ fn state_line(text: &[u8]) -> Option<Line>
 
 impl Line {
     /// Reads a line, if it has one of the forms.
-    #[tactic(auto, unfolding(crate::specs::Forms::form))]
+    #[tactic(auto, unfolding(crate::specs::Spelling::form))]
     pub(crate) fn parse(text: &[u8]) -> Option<Line>
         ensures { option_map form_of result ≡ form text.now }
     {

@@ -4,12 +4,10 @@ ghost use Rattle.std.specs.Prelude.{◌≡◌, ◌<◌, ◌≤◌, ◌+◌, ◌+
 ghost use Rattle.ga_node.specs.Record.{record_of, fresh_record};
 ghost use Rattle.ga_grid.specs.Chip.{records_of, AreSteady};
 ghost use Rattle.ga_grid.specs.Grid.{load_p_of};
-ghost use Rattle.ga_image.specs.kept.Printing.{fields_text, blocks_text, memory_in};
-ghost use Rattle.ga_image.specs.Printing.{register_lines, state_lines, memory_lines, row_of_words, lines_beside, block_unless, lines_at, printed, AreWords};
-ghost use Rattle.ga_image.specs.ReadBack.{HasSoundRegisters, HasSoundState, HoldsWords, IsSoundRecord, AreSound, Describes};
+ghost use Rattle.ga_image.specs.kept.{fields_text, blocks_text, words_in, size_in, field_in};
+ghost use Rattle.ga_image.specs.Printing.{register_lines, state_lines, memory_lines, lines_beside, block_unless, lines_at, printed, AreWords, HasSoundRegisters, HasSoundState, HoldsWords, IsSoundRecord, AreSound, Describes};
 ghost use Rattle.ga_text.specs.Lines.{lines_of};
-ghost use Rattle.ga_image.specs.Fault.{no_memory};
-ghost use Rattle.ga_image.specs.kept.Forms.{field_in};
+ghost use Rattle.ga_image.specs.FirstFault.{no_memory};
 
 use super::fault::{ImageCause, ImageFault};
 use super::field::{Bank, Field};
@@ -54,6 +52,7 @@ const RETURN_WORDS: u8 = 9;
 ///
 /// # Errors
 /// `Memory` alone, at line 0.
+#[tactic(auto, using(crate::proofs::PrintedBack::prints_back))]
 pub fn print(alloc: Global, chip: &Chip) -> Result<Vec<u8>, ImageFault>
     // The text is the one that the records determine.
     ensures text { IfOk result (λ text. text.items ≡ printed (records_of chip.now)) }
@@ -135,12 +134,17 @@ fn push_state(text: &mut Vec<u8>, at: &Node) -> Result<(), AllocError>
 {
     push_digit_unless(text, 0, Field::Carry, at.get(Place::Carry))?;
     push_digit_unless(text, 4, Field::Slot, at.get(Place::Slot))?;
-    push_words_unless(text, FRESH_WORD, Field::Data(0), data_words(at).as_slice())?;
+    push_words_unless(
+        text,
+        FRESH_WORD,
+        Field::Data(0),
+        row(at, Bank::Data, 0, DATA_WORDS).as_slice(),
+    )?;
     push_words_unless(
         text,
         FRESH_WORD,
         Field::Return(0),
-        return_words(at).as_slice(),
+        row(at, Bank::Return, 0, RETURN_WORDS).as_slice(),
     )?;
     push_wait_unless(text, at.wait().code())?;
     push_digit_unless(text, 0, Field::Stop, at.get(Place::Stop))
@@ -148,66 +152,51 @@ fn push_state(text: &mut Vec<u8>, at: &Node) -> Result<(), AllocError>
 
 /// Adds the lines of a memory.
 fn push_memory(text: &mut Vec<u8>, at: &Node, bank: Bank) -> Result<(), AllocError>
-    ensures text { OnOk result (text.new.items ≡ text.old.items ++ fields_text (memory_lines (field_in bank) (memory_in bank (record_of at.now)))) }
-    ensures sound { OnOk result (HoldsWords 64 (memory_in bank (record_of at.now))) }
+    requires { size_in bank ≡ 64 }
+    ensures text { OnOk result (text.new.items ≡ text.old.items ++ fields_text (memory_lines (field_in bank) (words_in bank (record_of at.now)))) }
+    ensures sound { OnOk result (HoldsWords 64 (words_in bank (record_of at.now))) }
 {
     'rows: for number in 0..ROWS {
         let cell = ROW_WORDS * number;
-        push_words_unless(text, 0, bank.field(cell), row(at, bank, cell).as_slice())?;
+        push_words_unless(
+            text,
+            0,
+            bank.field(cell),
+            row(at, bank, cell, ROW_WORDS).as_slice(),
+        )?;
     }
     Ok(())
 }
 
-/// The word in a cell of a memory.
+/// A word of a stack or a memory.
 #[tactic(auto, unfolding(ga_node::specs::Record::record_of))]
-fn cell_at(at: &Node, bank: Bank, cell: u8) -> u32
-    requires { cell < 64 }
-    ensures value { result ≡ slice_index (memory_in bank (record_of at.now)) cell }
-    ensures size { length (memory_in bank (record_of at.now)) ≡ 64 }
+fn word_at(at: &Node, bank: Bank, place: u8) -> u32
+    requires { place < size_in bank }
+    ensures value { result ≡ slice_index (words_in bank (record_of at.now)) place }
+    ensures size { 2 ≤ place → length (words_in bank (record_of at.now)) ≡ size_in bank }
     ensures in_range { result < 2 ^ 18 }
 {
     match bank {
-        Bank::Ram => at.get(Place::Ram(cell)),
-        Bank::Rom => at.get(Place::Rom(cell)),
+        Bank::Data => at.d(place),
+        Bank::Return => at.r(place),
+        Bank::Ram => at.get(Place::Ram(place)),
+        Bank::Rom => at.get(Place::Rom(place)),
     }
 }
 
-/// The words of the data stack, the top first.
-fn data_words(at: &Node) -> ArrayVec<u32, 16>
-    ensures items { result.items ≡ (record_of at.now).d }
-    ensures size { length result.items ≡ 10 }
+/// Some words of a stack or a memory, from a place on.
+fn row(at: &Node, bank: Bank, first: u8, count: u8) -> ArrayVec<u32, 16>
+    requires first { first ≤ 56 }
+    requires some { 2 < count }
+    requires few { count ≤ 16 }
+    requires within { first + count ≤ size_in bank }
+    ensures items { result.items ≡ take count (drop first (words_in bank (record_of at.now))) }
+    ensures size { length (words_in bank (record_of at.now)) ≡ size_in bank }
     ensures words { AreWords result.items }
 {
     let mut words = ArrayVec::new();
-    'words: for place in 0..DATA_WORDS {
-        words.push(at.d(place));
-    }
-    words
-}
-
-/// The words of the return stack, the top first.
-fn return_words(at: &Node) -> ArrayVec<u32, 16>
-    ensures items { result.items ≡ (record_of at.now).r }
-    ensures size { length result.items ≡ 9 }
-    ensures words { AreWords result.items }
-{
-    let mut words = ArrayVec::new();
-    'words: for place in 0..RETURN_WORDS {
-        words.push(at.r(place));
-    }
-    words
-}
-
-/// The words of a memory from a cell on.
-fn row(at: &Node, bank: Bank, cell: u8) -> ArrayVec<u32, 16>
-    requires { cell ≤ 56 }
-    ensures items { result.items ≡ row_of_words (memory_in bank (record_of at.now)) cell }
-    ensures size { length (memory_in bank (record_of at.now)) ≡ 64 }
-    ensures words { AreWords result.items }
-{
-    let mut words = ArrayVec::new();
-    'words: for place in 0..ROW_WORDS {
-        words.push(cell_at(at, bank, cell + place));
+    'words: for place in 0..count {
+        words.push(word_at(at, bank, first + place));
     }
     words
 }

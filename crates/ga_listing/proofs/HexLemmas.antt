@@ -9,7 +9,7 @@ use Rattle.std.proofs.lemmas.Bool.{and_parts, and_from, lt-ltb, cond-true, eqb-t
 use Rattle.hex.specs.Hex.{lower_digits}
 use Rattle.ga_word.specs.Word.{hex_digit}
 use Rattle.ga_ports.specs.Address.{set_number}
-use Rattle.ga_parser.specs.Numbers.{is_numeral, digits_in, set_in, number_by_word}
+use Rattle.ga_parser.specs.Vocabulary.{is_numeral, digits_in, set_in, number_by_word}
 use Rattle.ga_parser.specs.Plain.{by_number}
 use Rattle.ga_listing.specs.kept.{hex_of, number_word}
 

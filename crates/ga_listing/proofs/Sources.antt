@@ -6,7 +6,7 @@ use Rattle.ga_source.specs.declared.program.Assembled.{Assembled}
 use Rattle.ga_parser.specs.declared.scan.Token.{Token}
 use Rattle.ga_parser.specs.Saying.{all_in, all_said}
 use Rattle.ga_source.specs.Mending.{with_numbers, mended, IsAssembledOf}
-use Rattle.ga_image.specs.Fault.{no_memory}
+use Rattle.ga_image.specs.FirstFault.{no_memory}
 use Rattle.ga_image.specs.declared.fault.ImageFault.{ImageFault}
 use Rattle.ga_console.specs.Run.{IsReadAlone, IsFault, Refused, Refuses}
 use Rattle.ga_console.specs.kept.Run.{Writes}

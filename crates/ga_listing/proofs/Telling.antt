@@ -6,9 +6,9 @@ use Rattle.std.proofs.lemmas.List.{map-append, append-nil}
 use Rattle.std.proofs.lemmas.List.Folds.{list_all-append}
 use Rattle.std.proofs.lemmas.Slice.Eq.{bytes_eq-Decides}
 use Rattle.std.proofs.lemmas.Bool.{cases_Bool, and_parts, and_from, cond-false, ltb-true, lt-ltb, ne_eqb, false≢true}
-use Rattle.ga_text.specs.Lines.{Text, Bytes, Line, HasNoFeed, ended, text_of, ends_line}
+use Rattle.ga_text.specs.Lines.{Text, Bytes, Line, HasNoFeed, ended, text_of, ends_line, with_byte}
 use Rattle.ga_text.specs.Digits.{decimal3_of}
-use Rattle.ga_parser.specs.Saying.{onto_first_part, parted, is_feed, is_blank, source_lines, has_bytes, source_words, order_mark, without_return, bare, Said, a_word, is_word, spoken, said_by, next_line, said_from, said_in, up_to_fault}
+use Rattle.ga_parser.specs.Saying.{parted, is_feed, is_blank, source_lines, has_bytes, source_words, order_mark, without_return, bare, Said, a_word, is_word, spoken, said_by, next_line, said_from, said_in, up_to_fault}
 use Rattle.ga_listing.specs.kept.{Word, Says, IsOrdinary, IsUnmarked, is_inner, is_shown}
 use Rattle.ga_listing.proofs.SourceWords.{not_true}
 use Rattle.ga_parser.proofs.Scanning.{short_line}
@@ -29,7 +29,7 @@ unfolding parted
 part_behind ends [] byte rest inner end = rw end refl
 part_behind ends (b ∷ part) byte rest inner end =
     let parts = and_parts (not (ends b)) (list_all (λ b. not (ends b)) part) inner in
-    rw (not_true (ends b) parts.0) (ap (onto_first_part b) (part_behind ends part byte rest parts.1 end))
+    rw (not_true (ends b) parts.0) (ap (with_byte b) (part_behind ends part byte rest parts.1 end))
 
 -- the last part
 pub part_last : (ends : ℕ → Bool) (byte : ℕ) (part : List ℕ) → list_all (λ b. not (ends b)) (byte ∷ part) ≡ true → parted ends (byte ∷ part) ≡ (byte ∷ part) ∷ []
@@ -37,7 +37,7 @@ unfolding parted
 part_last ends byte [] inner = rw (not_true (ends byte) (and_parts (not (ends byte)) true inner).0) refl
 part_last ends byte (b ∷ part) inner =
     let parts = and_parts (not (ends byte)) (list_all (λ b. not (ends b)) (b ∷ part)) inner in
-    rw (not_true (ends byte) parts.0) (ap (onto_first_part byte) (part_last ends b part parts.1))
+    rw (not_true (ends byte) parts.0) (ap (with_byte byte) (part_last ends b part parts.1))
 
 -- ---- words of a line
 

@@ -4,8 +4,7 @@ use Rattle.ga_node.specs.Record.{NodeState}
 use Rattle.ga_grid.specs.Chip.{node_at, records_of}
 use Rattle.ga_text.specs.Lines.{Bytes, Text, lines_of}
 use Rattle.ga_image.specs.Grammar.{IsImage}
-use Rattle.ga_image.specs.Printing.{printed}
-use Rattle.ga_image.specs.ReadBack.{Describes}
+use Rattle.ga_image.specs.Printing.{printed, Describes}
 use Rattle.ga_image.specs.declared.fault.ImageFault.{ImageFault}
 use Rattle.ga_parser.specs.declared.fault.Fault.{Fault}
 use Rattle.ga_source.specs.declared.program.Program.{Program}

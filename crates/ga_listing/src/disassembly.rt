@@ -2,8 +2,7 @@
 ghost use Rattle.ga_text.specs.Output.{WritesText, ReadsAndWrites};
 ghost use Rattle.std.specs.Prelude.{◌≡◌, ◌⊎◌, ◌<◌, ◌≤◌, ◌++◌, [], ◌∷◌, length, codes, Some, IfOk, IfErr, OnOk};
 ghost use Rattle.std.specs.List.{All};
-ghost use Rattle.ga_image.specs.Fault.{no_memory};
-ghost use Rattle.ga_image.specs.FirstFault.{IsFirstFault};
+ghost use Rattle.ga_image.specs.FirstFault.{no_memory, IsFirstFault};
 ghost use Rattle.ga_image.specs.Grammar.{IsImage};
 ghost use Rattle.ga_text.specs.Lines.{Bytes, lines_of};
 ghost use Rattle.ga_console.specs.Run.{IsFault};

@@ -9,8 +9,7 @@ use Rattle.ga_source.specs.declared.group.Group.{Group}
 use Rattle.ga_source.specs.declared.program.Program.{Program}
 use Rattle.ga_source.specs.declared.program.Assembled.{Assembled}
 use Rattle.ga_parser.specs.declared.scan.Token.{Token}
-use Rattle.ga_parser.specs.Saying.{all_said, all_in}
-use Rattle.ga_parser.specs.Columns.{columns_of, columns_in}
+use Rattle.ga_parser.specs.Saying.{all_said, all_in, columns_of, columns_in}
 use Rattle.ga_source.specs.Mending.{with_numbers, IsAssembledOf}
 use Rattle.ga_notes.specs.declared.slot_word.SlotWord.{SlotWord}
 use Rattle.ga_notes.specs.declared.slot_word.ToldWord.{ToldWord}

@@ -2,8 +2,7 @@
 
 ghost use Rattle.std.specs.Prelude.{◌≡◌, ◌<◌, ◌++◌, ◌∷◌, [], map, length, slice_index, drop, decimal, codes, IfOk, OnOk};
 ghost use Rattle.ga_source.specs.Reading.{p_behind};
-ghost use Rattle.ga_parser.specs.Saying.{all_said, all_in};
-ghost use Rattle.ga_parser.specs.Columns.{columns_of, columns_in};
+ghost use Rattle.ga_parser.specs.Saying.{all_said, all_in, columns_of, columns_in};
 ghost use Rattle.ga_notes.specs.Slots.{word_line as line_by_number, word_column as column_by_number, quoted_word, quoted_if_long, worded_by, last_slot as last_slot_of, slot_worded, slots_worded, address_worded, literal_worded, group_worded, program_worded, all_worded, AreSlotWords};
 
 use crate::building::{is_code, push_number};

@@ -1,14 +1,22 @@
--- The words of a node, one by one.
-use Rattle.std.proofs.Common.{◌≡◌, ◌∙◌, ℕ, zero, suc, ◌+◌, ◌<◌, false, List, [], ◌∷◌, ◌++◌, length, drop, get_or, slice_index_or, ap, sym, refl, arith}
-use Rattle.std.specs.Prelude.{Result, Ok, Err, reverse}
-use Rattle.std.proofs.lemmas.List.{reverse-append}
-use Rattle.std.proofs.lemmas.Bool.{cond-false}
+-- The words of a node, one by one, and labels by their names.
+use Rattle.std.proofs.Common.{◌≡◌, ◌∙◌, ℕ, zero, suc, ◌+◌, ◌<◌, false, List, [], ◌∷◌, ◌++◌, length, drop, get_or, slice_index_or, ap, sym, refl, arith, inl, inr, Bool, true, cond, set, Option, Some, None, subst}
+use Rattle.std.specs.Prelude.{Result, Ok, Err, reverse, bytes_eq, ◌&&◌, not, option_map, map}
+use Rattle.std.proofs.lemmas.List.{reverse-append, map-set, map-append, length-map, get_or-map}
+use Rattle.std.proofs.lemmas.Bool.{cond-false, cond-true, cases_Bool}
 use Rattle.ga_parser.specs.declared.controls.Open.{Open}
 use Rattle.ga_parser.specs.declared.scan.Token.{Token}
-use Rattle.ga_parser.specs.Asking.{Asking, Refusal, refuse_line, line_of, all_closed, hear, next_text, asked_from, finished, is_waiting, all_placed, ◌▷◌}
-use Rattle.ga_parser.specs.Asking.Wrong.{Unclosed}
-use Rattle.ga_parser.specs.Saying.{said_of, all_said}
+use Rattle.ga_parser.specs.Asking.{Asking, Refusal, refuse_line, line_of, all_closed, hear, next_text, asked_from, finished, is_waiting, all_placed, ◌▷◌, Mention, mention_of, named_before, label_number, label_at, with_mark}
+use Rattle.ga_parser.specs.Asking.Wrong.{Unclosed, Unknown}
+use Rattle.ga_parser.specs.Saying.{said_of, all_said, has_bytes}
 use Rattle.ga_parser.specs.kept.Drafting.{texts_of}
+use Rattle.ga_parser.specs.kept.Names.{AreNames}
+use Rattle.std.specs.HashMap.{HashMap, get_by, UpdatesBy}
+use Rattle.std.specs.Map.{lookup}
+use denote.Ref.{Bor}
+use Rattle.std.proofs.Math.Seq.{drop-cons}
+use Rattle.std.proofs.lemmas.Map.Text.{hash_map_updates_str}
+use Rattle.ga_parser.specs.declared.labels.Label.{Label}
+use Rattle.ga_parser.proofs.Hearing.{same_text as same_bytes}
 
 -- ---- what is still open
 
@@ -59,3 +67,154 @@ module _ (now : Asking) (last : ℕ) (tokens : List Token) (k : ℕ) (d : Token)
 pub none_left : (now : Asking) (last : ℕ) (tokens : List Token) → tokens ≡ [] → asked_from now last (all_said tokens) ≡ finished now last
 unfolding asked_from
 none_left now last tokens none = ap (λ (t : List Token). asked_from now last (all_said t)) none
+
+-- ---- labels by their names
+
+abbrev more : Option ℕ → Option ℕ
+more o = option_map (λ k. k + 1) o
+
+none_more : (o : Option ℕ) → more o ≡ None → o ≡ None
+none_more None e = refl
+none_more (Some k) e = absurd (subst (λ (o : Option ℕ). elim o as (λ _. Type 0) [ Some _ ↦ Unit {0} | None ↦ ⊥ ]) e tt)
+
+not_some : {k : ℕ} → Some k ≡ None → ⊥
+not_some e = subst (λ (o : Option ℕ). elim o as (λ _. Type 0) [ Some _ ↦ Unit {0} | None ↦ ⊥ ]) e tt
+
+-- an empty name is no label's
+pub empty_name : (labels : List Mention) → named_before labels [] ≡ None
+unfolding named_before
+empty_name [] = refl
+empty_name (label ∷ labels) = ap more (empty_name labels)
+
+pub is_empty_name : (labels : List Mention) (name : List ℕ) → has_bytes name ≡ false → named_before labels name ≡ None
+is_empty_name labels [] e = empty_name labels
+is_empty_name labels (b ∷ name) e = absurd (subst (λ (t : Bool). elim t as (λ _. Type 0) [ true ↦ Unit {0} | false ↦ ⊥ ]) e tt)
+
+-- one more, with another name
+pub push_other : (labels : List Mention) (label : Mention) (name : List ℕ) → (has_bytes name && bytes_eq label.name name) ≡ false → named_before (labels ++ label ∷ []) name ≡ named_before labels name
+unfolding named_before
+push_other [] label name other = cond-false (has_bytes name && bytes_eq label.name name) (Some 0) None other
+push_other (first ∷ labels) label name other =
+    ap (λ (o : Option ℕ). cond (has_bytes name && bytes_eq first.name name) (Some 0) (more o)) (push_other labels label name other)
+
+-- one more, the first with its name
+pub push_first : (labels : List Mention) (label : Mention) (name : List ℕ) → (has_bytes name && bytes_eq label.name name) ≡ true → named_before labels name ≡ None → named_before (labels ++ label ∷ []) name ≡ Some (length labels)
+unfolding named_before
+push_first [] label name is none = cond-true (has_bytes name && bytes_eq label.name name) (Some 0) None is
+push_first (first ∷ labels) label name is none = elim (cases_Bool (has_bytes name && bytes_eq first.name name)) [
+  | inl same ↦ absurd (not_some (sym (cond-true (has_bytes name && bytes_eq first.name name) (Some 0) (more (named_before labels name)) same) ∙ none))
+  | inr other ↦
+      let before = none_more (named_before labels name) (sym (cond-false (has_bytes name && bytes_eq first.name name) (Some 0) (more (named_before labels name)) other) ∙ none) in
+      let one : length labels + 1 ≡ suc (length labels) = omega arith in
+      cond-false (has_bytes name && bytes_eq first.name name) (Some 0) (more (named_before (labels ++ label ∷ []) name)) other
+      ∙ (ap more (push_first labels label name is before) ∙ ap (λ (k : ℕ). Some k) one)
+]
+
+-- another label in its place, with its name
+pub set_same : (labels : List Mention) (k : ℕ) (label : Mention) (name : List ℕ) → label.name ≡ (label_at labels k).name → named_before (set labels k label) name ≡ named_before labels name
+unfolding named_before
+set_same [] zero label name e = refl
+set_same [] (suc k) label name e = refl
+set_same (first ∷ labels) zero label name e =
+    ap (λ (n : List ℕ). cond (has_bytes name && bytes_eq n name) (Some 0) (more (named_before labels name))) e
+set_same (first ∷ labels) (suc k) label name e =
+    ap (λ (o : Option ℕ). cond (has_bytes name && bytes_eq first.name name) (Some 0) (more o)) (set_same labels k label name e)
+
+-- ---- the map of names
+
+none_is : (name : List ℕ) → has_bytes name ≡ true → (has_bytes name && bytes_eq [] name) ≡ false
+none_is [] has = refl
+none_is (b ∷ name) has = refl
+
+-- without a name
+pub names_nameless : {S : Type 0} (names : HashMap (Bor (List ℕ)) ℕ S) (labels : List Mention) (label : Mention) → label.name ≡ [] → AreNames names labels → AreNames names (labels ++ label ∷ [])
+names_nameless names labels label none are = λ name has.
+    are name has ∙ sym (push_other labels label name (ap (λ (n : List ℕ). has_bytes name && bytes_eq n name) none ∙ none_is name has))
+
+-- in its place
+pub names_set : {S : Type 0} (names : HashMap (Bor (List ℕ)) ℕ S) (labels : List Mention) (k : ℕ) (label : Mention) → label.name ≡ (label_at labels k).name → AreNames names labels → AreNames names (set labels k label)
+names_set names labels k label e are = λ name has. are name has ∙ sym (set_same labels k label name e)
+
+-- with a new name
+pub names_named : {S : Type 0} (names after : HashMap (Bor (List ℕ)) ℕ S) (labels : List Mention) (label : Mention) (n : ℕ) → UpdatesBy (λ x y. bytes_eq x.now y.now) (λ k. bytes_eq label.name k.now) names after (Some n) → n ≡ length labels → named_before labels label.name ≡ None → AreNames names labels → AreNames after (labels ++ label ∷ [])
+names_named names after labels label n updates last none are = λ name has.
+    hash_map_updates_str label.name names after (Some n) updates name ∙ (elim (cases_Bool (bytes_eq label.name name)) [
+      | inl same ↦
+          let e = same_bytes label.name name same in
+          let test : (has_bytes name && bytes_eq label.name name) ≡ true = rw has same in
+          cond-true (bytes_eq label.name name) (Some n) _ same
+          ∙ (ap (λ (k : ℕ). Some k) last ∙ sym (push_first labels label name test (ap (named_before labels) (sym e) ∙ none)))
+      | inr other ↦
+          let test : (has_bytes name && bytes_eq label.name name) ≡ false = rw has other in
+          cond-false (bytes_eq label.name name) (Some n) _ other
+          ∙ (are name has ∙ sym (push_other labels label name test))
+    ])
+
+-- what the map has
+pub found_name : {S : Type 0} (names : HashMap (Bor (List ℕ)) ℕ S) (labels now : List Mention) (name : List ℕ) → AreNames names labels → labels ≡ now → (length name ≡ 0 → ⊥) → get_by (λ key. bytes_eq name key.now) names ≡ named_before now name
+found_name names labels now [] are e some = absurd (some refl)
+found_name names labels now (b ∷ name) are e some = are (b ∷ name) refl ∙ ap (λ (l : List Mention). named_before l (b ∷ name)) e
+
+pub number_found : (labels : List Mention) (name : List ℕ) (n : ℕ) → named_before labels name ≡ Some n → n ≡ label_number labels name
+number_found labels name n e = rw e refl
+
+pub number_new : (labels : List Mention) (name : List ℕ) (n : ℕ) → named_before labels name ≡ None → n ≡ length labels → n ≡ label_number labels name
+number_new labels name n e same = rw e same
+
+-- ---- the same of the code's own list
+
+pub length_labels : (items : List Label) (labels : List Mention) (n : ℕ) → map mention_of items ≡ labels → n ≡ length items → n ≡ length labels
+length_labels items labels n view same = same ∙ (sym (length-map items mention_of) ∙ ap length view)
+
+pub names_pushed : {S : Type 0} (names after : HashMap (Bor (List ℕ)) ℕ S) (items pushed : List Label) (labels : List Mention) (label : Label) (n : ℕ) → UpdatesBy (λ x y. bytes_eq x.now y.now) (λ k. bytes_eq label.name.now k.now) names after (Some n) → map mention_of items ≡ labels → n ≡ length items → named_before labels label.name.now ≡ None → pushed ≡ items ++ label ∷ [] → AreNames names (map mention_of items) → AreNames after (map mention_of pushed)
+names_pushed names after items pushed labels label n updates view last none same are =
+    subst (λ (list : List Mention). AreNames after list) (sym (ap (map mention_of) same ∙ map-append mention_of items (label ∷ [])))
+    (names_named names after (map mention_of items) (mention_of label) n updates (last ∙ sym (length-map items mention_of))
+    (ap (λ (l : List Mention). named_before l label.name.now) view ∙ none) are)
+
+pub nameless_pushed : {S : Type 0} (names : HashMap (Bor (List ℕ)) ℕ S) (items pushed : List Label) (label : Label) → label.name.now ≡ [] → pushed ≡ items ++ label ∷ [] → AreNames names (map mention_of items) → AreNames names (map mention_of pushed)
+nameless_pushed names items pushed label none same are =
+    subst (λ (list : List Mention). AreNames names list) (sym (ap (map mention_of) same ∙ map-append mention_of items (label ∷ [])))
+    (names_nameless names (map mention_of items) (mention_of label) none are)
+
+pub names_none : {S : Type 0} (names : HashMap (Bor (List ℕ)) ℕ S) (items : List Label) → names.entries ≡ [] → items ≡ [] → AreNames names (map mention_of items)
+unfolding named_before
+names_none names items empty none = λ name has. ap (lookup (λ key. bytes_eq name key.now)) empty ∙ ap (λ (l : List Label). named_before (map mention_of l) name) (sym none)
+
+label_there : (items : List Label) (k : ℕ) (found : Label) → k < length items → found ≡ get_or items k found → label_at (map mention_of items) k ≡ mention_of found
+label_there items k found within is = get_or-map mention_of items k found _ within ∙ ap mention_of (sym is)
+
+pub names_marked : {S : Type 0} (names : HashMap (Bor (List ℕ)) ℕ S) (items : List Label) (k : ℕ) (found label : Label) → k < length items → found ≡ get_or items k found → label.name.now ≡ found.name.now → AreNames names (map mention_of items) → AreNames names (map mention_of (set items k label))
+names_marked names items k found label within is same are =
+    subst (λ (list : List Mention). AreNames names list) (sym (map-set mention_of items k label))
+    (names_set names (map mention_of items) k (mention_of label) (same ∙ sym (ap (λ (m : Mention). m.name) (label_there items k found within is))) are)
+
+pub marked_view : (items : List Label) (labels : List Mention) (k : ℕ) (found : Label) → map mention_of items ≡ labels → k < length items → found ≡ get_or items k found → map mention_of (set items k (record { name = found.name; line = found.line; is_marked = true })) ≡ with_mark labels k
+marked_view items labels k found view within is =
+    map-set mention_of items k _
+    ∙ (ap (λ (m : Mention). set (map mention_of items) k (record m { is_marked = true })) (sym (label_there items k found within is))
+    ∙ ap (λ (l : List Mention). with_mark l k) view)
+
+-- ---- names that are no place's
+
+pub placed_all : (now : Asking) (items : List Label) (labels : List Mention) → items ≡ [] → all_placed now (map mention_of items) ≡ all_placed now labels → all_placed now labels ≡ Ok now
+unfolding all_placed
+placed_all now items labels none e = sym e ∙ ap (λ (l : List Label). all_placed now (map mention_of l)) none
+
+one_left : (now : Asking) (items : List Label) (k : ℕ) (d : Label) → k < length items → all_placed now (map mention_of (drop k items)) ≡ all_placed now (map mention_of (get_or items k d ∷ drop (k + 1) items))
+one_left now items k d within =
+    let one : suc k ≡ k + 1 = omega arith in
+    ap (λ (l : List Label). all_placed now (map mention_of l)) (drop-cons items k d within ∙ ap (λ (j : ℕ). get_or items k d ∷ drop j items) one)
+
+abbrev is_unplaced : Label → Bool
+is_unplaced label = has_bytes label.name.now && not label.is_marked
+
+pub placed_more : (now : Asking) (items : List Label) (labels : List Mention) (k : ℕ) (d : Label) → k < length items → is_unplaced (get_or items k d) ≡ false → all_placed now (map mention_of (drop k items)) ≡ all_placed now labels → all_placed now (map mention_of (drop (k + 1) items)) ≡ all_placed now labels
+unfolding all_placed
+placed_more now items labels k d within placed e =
+    sym (cond-false (is_unplaced (get_or items k d)) _ _ placed) ∙ (sym (one_left now items k d within) ∙ e)
+
+pub placed_not : (now : Asking) (items : List Label) (labels : List Mention) (k : ℕ) (d : Label) → k < length items → is_unplaced (get_or items k d) ≡ true → all_placed now (map mention_of (drop k items)) ≡ all_placed now labels → all_placed now labels ≡ Err (record { line = (get_or items k d).line; wrong = Unknown (get_or items k d).name.now })
+unfolding all_placed
+placed_not now items labels k d within unplaced same =
+    sym same ∙ (one_left now items k d within ∙ cond-true (is_unplaced (get_or items k d)) _ _ unplaced)

@@ -1,9 +1,5 @@
 pub mod Scanning
-pub mod Columns
-pub mod Numbers
-pub mod Ranges
 pub mod Hearing
-pub mod Naming
-pub mod Asking
+pub mod Numbers
 pub mod PlainAsked
-pub mod Labelling
+pub mod Asking

@@ -1,17 +1,20 @@
--- The number that digits write, as it is read digit by digit.
-use Rattle.std.specs.Prelude.{min, option_map}
-use Rattle.std.proofs.Common.{◌≡◌, ◌∙◌, ℕ, ◌+◌, ◌*◌, ◌<◌, ◌≤◌, inl, inr, true, false, ltb, leb, List, [], ◌∷◌, length, take, get_or, Option, Some, None, arith, ap, sym, refl}
+-- The number that digits write, as it is read digit by digit, and opcodes by their own names.
+use Rattle.std.specs.Prelude.{min, option_map, bytes_eq, map}
+use Rattle.std.proofs.Common.{◌≡◌, ◌∙◌, ℕ, ◌+◌, ◌*◌, ◌<◌, ◌≤◌, inl, inr, true, false, ltb, leb, List, [], ◌∷◌, length, take, get_or, Option, Some, None, arith, ap, sym, refl, zero, suc, drop}
 use Rattle.std.specs.List.{list_all}
 use Rattle.std.specs.Char.{digit_value, is_digit}
 use Rattle.std.specs.Str.Parse.{digits_value}
 use Rattle.std.specs.Option.{option_map_or}
 use Rattle.std.proofs.Math.Nat.{mul-le-mul_left}
-use Rattle.std.proofs.lemmas.Bool.{cases_lt, cond-false, and_from, lt-ltb, le-ltb, lt-leb}
+use Rattle.std.proofs.lemmas.Bool.{cases_lt, cond-false, and_from, lt-ltb, le-ltb, lt-leb, cond-true}
 use Rattle.std.proofs.lemmas.List.{take_all}
 use Rattle.std.proofs.lemmas.List.Folds.{list_all_more, list_all_at}
 use Rattle.std.proofs.lemmas.Int.Digits.{digits_value_more}
 use Rattle.ga_parser.specs.declared.number.Number.TheVariants.{Of, OutOfRange, Nothing}
-use Rattle.ga_parser.specs.Numbers.{digits_in, word_of_size, word_below}
+use Rattle.ga_parser.specs.Vocabulary.{digits_in, word_of_size, word_below, by_name}
+use Rattle.ga_slots.specs.declared.op.Op.{Op}
+use Rattle.ga_slots.specs.declared.op.Op.TheVariants.{Return}
+use Rattle.ga_slots.specs.Codes.{name_of}
 
 -- a number, or the greatest that is told
 abbrev told : ℕ → ℕ
@@ -93,3 +96,25 @@ read_size (Some n) read e = ap (λ (o : Option ℕ). option_map_or word_of_size 
 pub read_below : (number read : Option ℕ) → read ≡ option_map (λ n. min n 16777216) number → option_map_or word_below read Nothing ≡ option_map_or word_below number Nothing
 read_below None read e = ap (λ (o : Option ℕ). option_map_or word_below o Nothing) e
 read_below (Some n) read e = ap (λ (o : Option ℕ). option_map_or word_below o Nothing) e ∙ below_told n
+
+-- ---- opcodes by their own names
+
+abbrev row_of : Op → List ℕ × Op
+row_of op = (name_of op, op)
+
+rows_left : (ops : List Op) (code : ℕ) → code < length ops → drop code (map row_of ops) ≡ row_of (get_or ops code Return) ∷ drop (code + 1) (map row_of ops)
+rows_left [] code within = absurd (omega arith)
+rows_left (op ∷ ops) zero within = refl
+rows_left (op ∷ ops) (suc code) within =
+    let one : suc code + 1 ≡ suc (code + 1) = omega arith in
+    rows_left ops code (omega arith) ∙ ap (λ (k : ℕ). row_of (get_or ops code Return) ∷ drop k (map row_of (op ∷ ops))) (sym one)
+
+module _ (ops : List Op) (code : ℕ) (text name : List ℕ) (within : code < length ops) (is : name ≡ name_of (get_or ops code Return)) (before : by_name (drop code (map row_of ops)) text ≡ by_name (map row_of ops) text) where
+  first : by_name (row_of (get_or ops code Return) ∷ drop (code + 1) (map row_of ops)) text ≡ by_name (map row_of ops) text
+  first = ap (λ (rows : List (List ℕ × Op)). by_name rows text) (sym (rows_left ops code within)) ∙ before
+
+  pub other_row : bytes_eq text name ≡ false → by_name (drop (code + 1) (map row_of ops)) text ≡ by_name (map row_of ops) text
+  other_row test = sym (cond-false (bytes_eq text (name_of (get_or ops code Return))) _ _ (ap (bytes_eq text) (sym is) ∙ test)) ∙ first
+
+  pub this_row : bytes_eq text name ≡ true → Some (get_or ops code Return) ≡ by_name (map row_of ops) text
+  this_row test = sym (cond-true (bytes_eq text (name_of (get_or ops code Return))) _ _ (ap (bytes_eq text) (sym is) ∙ test)) ∙ first

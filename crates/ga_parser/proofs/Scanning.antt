@@ -1,16 +1,17 @@
--- What a text says, as it is read line by line and word by word.
-use Rattle.std.proofs.Common.{◌≡◌, ◌∙◌, ℕ, zero, suc, ◌+◌, ◌<◌, ◌≤◌, inl, inr, Bool, true, false, not, cond, ltb, List, [], ◌∷◌, ◌++◌, length, take, drop, get_or, arith, ap, sym, refl, add-one, append_assoc, append-nil}
-use Rattle.std.specs.Prelude.{if◌then◌else◌, codes, bytes_eq, filter}
+-- What a text says, and in which columns, as it is read line by line and word by word.
+use Rattle.std.proofs.Common.{◌≡◌, ◌∙◌, ℕ, zero, suc, ◌+◌, ◌<◌, ◌≤◌, inl, inr, Bool, true, false, not, cond, ltb, List, [], ◌∷◌, ◌++◌, length, take, drop, get_or, arith, ap, sym, refl, add-one, append_assoc, append-nil, ◌-◌}
+use Rattle.std.specs.Prelude.{◌==◌, if◌then◌else◌, codes, bytes_eq, filter}
 use Rattle.std.specs.List.{list_all}
 use Rattle.std.proofs.lemmas.Bool.{cond-true, cond-false, both_ways, and_parts, cases_Bool, le-ltb, lt-ltb}
+use Rattle.ga_text.specs.Lines.{with_byte, lines_of}
 use Rattle.ga_parser.specs.declared.scan.TokenKind.TheVariants.{LongLine, OpenComment}
-use Rattle.ga_parser.specs.Saying.{onto_first_part, parted, is_blank, source_lines, has_bytes, source_words, longest_source_line, bare, Said, a_word, a_fault, is_word, closes, spoken, said_by, up_to_fault, next_line, said_from}
+use Rattle.ga_parser.specs.Saying.{parted, is_blank, source_lines, has_bytes, source_words, longest_source_line, bare, Said, a_word, a_fault, is_word, closes, spoken, said_by, up_to_fault, next_line, said_from, part_column, columns_spoken, columns_by, columns_from}
 use Rattle.ga_parser.specs.kept.Drafting.{IsTold}
 
 -- ---- parts
 
 -- a byte that doesn't end it belongs to the part
-pub past_byte : (ends : ℕ → Bool) (b : ℕ) (text : List ℕ) → ends b ≡ false → parted ends (b ∷ text) ≡ onto_first_part b (parted ends text)
+pub past_byte : (ends : ℕ → Bool) (b : ℕ) (text : List ℕ) → ends b ≡ false → parted ends (b ∷ text) ≡ with_byte b (parted ends text)
 unfolding parted
 past_byte ends b text other = rw other refl
 
@@ -21,7 +22,7 @@ at_end ends [] i within none here = absurd (omega arith)
 at_end ends (b ∷ text) zero within none here = rw here refl
 at_end ends (b ∷ text) (suc i) within none here =
     let again : parted ends text ≡ take i text ∷ parted ends (drop (i + 1) text) = at_end ends text i (omega arith) (λ k below. none (suc k) (omega arith)) here in
-    past_byte ends b text (none 0 (omega arith)) ∙ ap (onto_first_part b) again ∙ rw (add-one, add-one) refl
+    past_byte ends b text (none 0 (omega arith)) ∙ ap (with_byte b) again ∙ rw (add-one, add-one) refl
 
 -- without one the text is a part
 pub no_end : (ends : ℕ → Bool) (text : List ℕ) → 0 < length text → ((k : ℕ) → k < length text → ends (get_or text k 0) ≡ false) → parted ends text ≡ text ∷ parted ends []
@@ -29,7 +30,19 @@ unfolding parted
 no_end ends [] some none = absurd (omega arith)
 no_end ends (b ∷ []) some none = past_byte ends b [] (none 0 (omega arith))
 no_end ends (b ∷ c ∷ text) some none =
-    past_byte ends b (c ∷ text) (none 0 (omega arith)) ∙ ap (onto_first_part b) (no_end ends (c ∷ text) (omega arith) (λ k below. none (suc k) (omega arith)))
+    past_byte ends b (c ∷ text) (none 0 (omega arith)) ∙ ap (with_byte b) (no_end ends (c ∷ text) (omega arith) (λ k below. none (suc k) (omega arith)))
+
+-- ---- lines
+
+-- lines are the parts that line feeds end
+pub same_lines : (text : List ℕ) → lines_of text ≡ source_lines text
+unfolding parted
+same_lines [] = refl
+same_lines (byte ∷ text) = ap (λ (lines : List (List ℕ)). if byte == 10 then [] ∷ lines else with_byte byte lines) (same_lines text)
+
+-- so the first line is that of a source
+pub first_split : (text first rest : List ℕ) → lines_of text ≡ first ∷ lines_of rest → source_lines text ≡ first ∷ source_lines rest
+first_split text first rest e = sym (same_lines text) ∙ (e ∙ ap (λ (lines : List (List ℕ)). first ∷ lines) (same_lines rest))
 
 -- ---- the words of a line
 
@@ -209,3 +222,131 @@ line_told line text before now new left is_open rest short told e pushed =
 pub line_whole : (line : ℕ) (text : List ℕ) (before now left : List Said) (is_open : Bool) (rest : List ℕ) → length text ≤ 200 → IsTold line text before now is_open rest → spoken line is_open (source_words rest) ≡ left → list_all is_word left ≡ list_all is_word (said_by line text)
 line_whole line text before now left is_open rest short told e =
     ap (list_all is_word) (sym e) ∙ (told.whole ∙ ap (list_all is_word) (sym (short_line line text short)))
+
+-- ---- joined with what was told before
+
+pub columns_all : (told left all : List ℕ) → left ≡ [] → told ++ left ≡ all → told ≡ all
+columns_all told left all none e = sym (append-nil told) ∙ (ap (λ (l : List ℕ). told ++ l) (sym none) ∙ e)
+
+pub columns_last : (told left all new part : List ℕ) → new ≡ told ++ part → left ≡ part → told ++ left ≡ all → new ≡ all
+columns_last told left all new part pushed is e = pushed ∙ (ap (λ (l : List ℕ). told ++ l) (sym is) ∙ e)
+
+pub columns_more : (told left all new part rest : List ℕ) → new ≡ told ++ part → left ≡ part ++ rest → told ++ left ≡ all → new ++ rest ≡ all
+columns_more told left all new part rest pushed parts e =
+    ap (λ (l : List ℕ). l ++ rest) pushed ∙ (append_assoc told part rest ∙ (ap (λ (l : List ℕ). told ++ l) (sym parts) ∙ e))
+
+pub columns_same : (told left all rest : List ℕ) → left ≡ rest → told ++ left ≡ all → told ++ rest ≡ all
+columns_same told left all rest is e = ap (λ (l : List ℕ). told ++ l) (sym is) ∙ e
+
+-- ---- within a line
+
+-- where nothing is left, no column counts
+no_columns : (c d : ℕ) (is_open : Bool) → columns_spoken c is_open [] ≡ columns_spoken d is_open []
+unfolding columns_spoken
+no_columns c d false = refl
+no_columns c d true = refl
+
+-- The column of what is left is that behind a part and the byte that ends it.
+pub next_column : (size : ℕ) (rest part behind : List ℕ) (is_open : Bool) → length rest ≤ size → length behind ≡ length rest - (length part + 1)
+    → columns_spoken (size - length rest + 1 + length part + 1) is_open (parted is_blank behind) ≡ columns_spoken (size - length behind + 1) is_open (parted is_blank behind)
+unfolding parted
+next_column size rest part [] is_open within left = no_columns _ _ is_open
+next_column size rest part (b ∷ behind) is_open within left =
+    ap (λ (c : ℕ). columns_spoken c is_open (parted is_blank (b ∷ behind))) (omega arith)
+
+module _ (size : ℕ) (rest part behind : List ℕ) (e : parted is_blank rest ≡ part ∷ parted is_blank behind) (within : length rest ≤ size) (left : length behind ≡ length rest - (length part + 1)) where
+  -- a part behind a `(` that isn't closed yet
+  pub columns_open : columns_spoken (size - length rest + 1) true (parted is_blank rest) ≡ columns_spoken (size - length behind + 1) (not (closes part)) (parted is_blank behind)
+  unfolding columns_spoken
+  columns_open = ap (columns_spoken (size - length rest + 1) true) e ∙ next_column size rest part behind (not (closes part)) within left
+
+  -- `\`
+  pub columns_remark : bytes_eq part (codes "\\") ≡ true → columns_spoken (size - length rest + 1) false (parted is_blank rest) ≡ []
+  unfolding columns_spoken
+  columns_remark remark = ap (columns_spoken (size - length rest + 1) false) e ∙ cond-true (bytes_eq part (codes "\\")) [] _ remark
+
+  -- `(`
+  pub columns_opening : bytes_eq part (codes "\\") ≡ false → bytes_eq part (codes "(") ≡ true → columns_spoken (size - length rest + 1) false (parted is_blank rest) ≡ columns_spoken (size - length behind + 1) true (parted is_blank behind)
+  unfolding columns_spoken
+  columns_opening no_remark opening =
+      ap (columns_spoken (size - length rest + 1) false) e
+      ∙ (cond-false (bytes_eq part (codes "\\")) [] _ no_remark
+      ∙ (cond-true (bytes_eq part (codes "(")) (columns_spoken (size - length rest + 1 + length part + 1) true (parted is_blank behind)) _ opening
+      ∙ next_column size rest part behind true within left))
+
+  -- any other part
+  columns_plain : bytes_eq part (codes "\\") ≡ false → bytes_eq part (codes "(") ≡ false → columns_spoken (size - length rest + 1) false (parted is_blank rest) ≡ part_column (size - length rest + 1) part ++ columns_spoken (size - length behind + 1) false (parted is_blank behind)
+  unfolding columns_spoken
+  columns_plain no_remark no_opening =
+      ap (columns_spoken (size - length rest + 1) false) e
+      ∙ (cond-false (bytes_eq part (codes "\\")) [] _ no_remark
+      ∙ (cond-false (bytes_eq part (codes "(")) (columns_spoken (size - length rest + 1 + length part + 1) true (parted is_blank behind)) _ no_opening
+      ∙ ap (λ (l : List ℕ). part_column (size - length rest + 1) part ++ l) (next_column size rest part behind false within left)))
+
+no_part : (column : ℕ) (part : List ℕ) → length part ≡ 0 → part_column column part ≡ []
+no_part column [] none = refl
+no_part column (b ∷ part) none = absurd (omega arith)
+
+one_part : (column : ℕ) (part : List ℕ) → 0 < length part → part_column column part ≡ column ∷ []
+one_part column [] some = absurd (omega arith)
+one_part column (b ∷ part) some = refl
+
+module _ (size : ℕ) (rest part behind : List ℕ) (e : parted is_blank rest ≡ part ∷ parted is_blank behind) (within : length rest ≤ size) (left : length behind ≡ length rest - (length part + 1)) where
+  -- no bytes
+  pub columns_nothing : bytes_eq part (codes "\\") ≡ false → bytes_eq part (codes "(") ≡ false → length part ≡ 0 → columns_spoken (size - length rest + 1) false (parted is_blank rest) ≡ columns_spoken (size - length behind + 1) false (parted is_blank behind)
+  columns_nothing no_remark no_opening none =
+      columns_plain size rest part behind e within left no_remark no_opening
+      ∙ ap (λ (l : List ℕ). l ++ columns_spoken (size - length behind + 1) false (parted is_blank behind)) (no_part (size - length rest + 1) part none)
+
+  -- a word
+  pub columns_word : bytes_eq part (codes "\\") ≡ false → bytes_eq part (codes "(") ≡ false → 0 < length part → columns_spoken (size - length rest + 1) false (parted is_blank rest) ≡ (size - length rest + 1) ∷ [] ++ columns_spoken (size - length behind + 1) false (parted is_blank behind)
+  columns_word no_remark no_opening some =
+      columns_plain size rest part behind e within left no_remark no_opening
+      ∙ ap (λ (l : List ℕ). l ++ columns_spoken (size - length behind + 1) false (parted is_blank behind)) (one_part (size - length rest + 1) part some)
+
+-- at the end of a line
+pub columns_none : (column : ℕ) (rest : List ℕ) → length rest ≡ 0 → columns_spoken column false (parted is_blank rest) ≡ []
+unfolding columns_spoken parted
+columns_none column [] none = refl
+columns_none column (b ∷ rest) none = absurd (omega arith)
+
+pub columns_left_open : (column : ℕ) (rest : List ℕ) → length rest ≡ 0 → columns_spoken column true (parted is_blank rest) ≡ 1 ∷ []
+unfolding columns_spoken parted
+columns_left_open column [] none = refl
+columns_left_open column (b ∷ rest) none = absurd (omega arith)
+
+-- a line that isn't too long
+pub columns_short : (text : List ℕ) → length text ≤ 200 → columns_by text ≡ columns_spoken 1 false (parted is_blank text)
+columns_short text short = cond-false (ltb longest_source_line (length text)) (1 ∷ []) (columns_spoken 1 false (parted is_blank text)) (le-ltb longest_source_line (length text) short)
+
+pub columns_long : (text : List ℕ) → 200 < length text → columns_by text ≡ 1 ∷ []
+columns_long text long = cond-true (ltb longest_source_line (length text)) (1 ∷ []) (columns_spoken 1 false (parted is_blank text)) (lt-ltb longest_source_line (length text) long)
+
+-- what was left of the line was told
+pub columns_line : (text told left all new part : List ℕ) → length text ≤ 200 → new ≡ told ++ part → left ≡ part → told ++ left ≡ all ++ columns_spoken 1 false (parted is_blank text) → new ≡ all ++ columns_by text
+columns_line text told left all new part short pushed is e =
+    columns_last told left (all ++ columns_spoken 1 false (parted is_blank text)) new part pushed is e
+    ∙ ap (λ (l : List ℕ). all ++ l) (sym (columns_short text short))
+
+-- ---- one line after another
+
+module _ (line : ℕ) (rest whole first behind : List ℕ) (e : source_lines rest ≡ whole ∷ source_lines behind) (without : first ≡ bare line whole) where
+  columns_here : columns_from line (source_lines rest) ≡ (if bytes_eq first (codes "end") then [] else columns_by first ++ columns_from (next_line line) (source_lines behind))
+  unfolding columns_from
+  columns_here =
+      ap (columns_from line) e
+      ∙ ap (λ (text : List ℕ). if bytes_eq text (codes "end") then [] else columns_by text ++ columns_from (next_line line) (source_lines behind)) (sym without)
+
+  -- a line `end`
+  pub columns_end_here : bytes_eq first (codes "end") ≡ true → columns_from line (source_lines rest) ≡ []
+  columns_end_here is = columns_here ∙ cond-true (bytes_eq first (codes "end")) [] (columns_by first ++ columns_from (next_line line) (source_lines behind)) is
+
+  -- any other
+  pub columns_other_line : bytes_eq first (codes "end") ≡ false → columns_from line (source_lines rest) ≡ columns_by first ++ columns_from (next_line line) (source_lines behind)
+  columns_other_line other = columns_here ∙ cond-false (bytes_eq first (codes "end")) [] (columns_by first ++ columns_from (next_line line) (source_lines behind)) other
+
+-- no line is left
+pub no_columns_left : (line : ℕ) (rest : List ℕ) → length rest ≡ 0 → columns_from line (source_lines rest) ≡ []
+unfolding parted columns_from
+no_columns_left line [] none = refl
+no_columns_left line (b ∷ rest) none = absurd (omega arith)

@@ -27,9 +27,8 @@ use Rattle.ga_parser.specs.declared.labels.Label.{Label as LabelRecord}
 use Rattle.ga_parser.specs.declared.controls.Open.{Open}
 use Rattle.ga_parser.specs.declared.controls.Open.TheVariants.{Loop, Ahead as JumpAhead}
 use Rattle.ga_parser.specs.Saying.{Said, has_bytes}
-use Rattle.ga_parser.specs.Numbers.{has_prefix, number_by_word}
+use Rattle.ga_parser.specs.Vocabulary.{has_prefix, number_by_word, opcode_in, control_in, directive_in, bound_of, is_taken}
 use Rattle.ga_parser.specs.Plain.{is_cell}
-use Rattle.ga_parser.specs.Vocabulary.{opcode_in, control_in, directive_in, bound_of, is_taken}
 
 -- ---- what the words so far ask for
 

@@ -1,6 +1,4 @@
 pub mod Saying
-pub mod Columns
-pub mod Numbers
 pub mod Plain
 pub mod Vocabulary
 pub mod Asking

@@ -14,7 +14,7 @@ use Rattle.ga_parser.specs.declared.item.Given.{Given}
 use Rattle.ga_parser.specs.declared.item.Registers.{Registers}
 use Rattle.ga_parser.specs.Saying.{Said, said_in}
 use Rattle.ga_ports.specs.Steps.{◌>>=◌}
-use Rattle.ga_parser.specs.Numbers.{number_by_word}
+use Rattle.ga_parser.specs.Vocabulary.{number_by_word}
 
 -- ---- the words of each node
 

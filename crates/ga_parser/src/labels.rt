@@ -41,7 +41,7 @@ impl<'s> Model for Labels<'s> {
 }
 
 impl<'s> Labels<'s> {
-    #[tactic(auto, using(crate::proofs::Labelling::names_none))]
+    #[tactic(auto, using(crate::proofs::Asking::names_none))]
     pub(crate) fn new(alloc: Global) -> Self
         ensures { result ≡ [] }
     {
@@ -60,7 +60,7 @@ impl<'s> Labels<'s> {
     }
 
     /// The number of the label with this name, where there is one. An empty name is no label's.
-    #[tactic(auto, using(crate::proofs::Labelling::is_empty_name, crate::proofs::Labelling::found_name))]
+    #[tactic(auto, using(crate::proofs::Asking::is_empty_name, crate::proofs::Asking::found_name))]
     pub(crate) fn find(&self, name: &'s [u8]) -> Option<usize>
         ensures { result ≡ named_before self.now name.now }
     {
@@ -94,7 +94,7 @@ impl<'s> Labels<'s> {
     }
 
     /// A new label without a name.
-    #[tactic(auto, using(crate::proofs::Labelling::nameless_pushed))]
+    #[tactic(auto, using(crate::proofs::Asking::nameless_pushed))]
     pub(crate) fn nameless(&mut self, line: u32, is_marked: bool) -> Result<usize, AllocError>
         ensures number { IfOk result (λ label. label ≡ length self.old) }
         ensures labels { OnOk result (self.new ≡ one_label_more self.old line [] is_marked) }
@@ -119,7 +119,7 @@ impl<'s> Labels<'s> {
     }
 
     /// The label's place is met.
-    #[tactic(auto, using(crate::proofs::Labelling::names_marked, crate::proofs::Labelling::marked_view))]
+    #[tactic(auto, using(crate::proofs::Asking::names_marked, crate::proofs::Asking::marked_view))]
     pub(crate) fn mark(&mut self, label: usize)
         ensures { self.new ≡ with_mark self.old label }
     {
@@ -129,7 +129,7 @@ impl<'s> Labels<'s> {
     }
 
     /// The first name that no place has.
-    #[tactic(auto, using(crate::proofs::Labelling::placed_more, crate::proofs::Labelling::placed_not, crate::proofs::Labelling::placed_all, std::proofs::lemmas::List::drop_all))]
+    #[tactic(auto, using(crate::proofs::Asking::placed_more, crate::proofs::Asking::placed_not, crate::proofs::Asking::placed_all, std::proofs::lemmas::List::drop_all))]
     pub(crate) fn check(&self) -> Result<(), Fault<'s>>
         ensures { (now : Asking) → Answers result (all_placed now self.now) (λ _. now) }
     {

@@ -4,7 +4,7 @@ ghost use Rattle.std.specs.Prelude.{◌≡◌, ◌<◌, ◌≤◌, ◌^◌, min,
 ghost use Rattle.std.specs.Char.{digit_value};
 ghost use Rattle.std.specs.Option.{option_map_or, SomeIff};
 ghost use Rattle.ga_parser.specs.declared.number.Number.TheVariants.{Nothing};
-ghost use Rattle.ga_parser.specs.Numbers.{digits_in, plain_in, word_of_size, word_below, numeral_in, set_in, port_in, number_by_word};
+ghost use Rattle.ga_parser.specs.Vocabulary.{digits_in, plain_in, word_of_size, word_below, numeral_in, set_in, port_in, number_by_word};
 
 use ga_ports::set_number;
 

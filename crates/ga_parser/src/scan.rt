@@ -2,12 +2,12 @@
 
 ghost use Rattle.std.specs.Prelude.{◌≡◌, ◌<◌, ◌+◌, ◌-◌, [], ◌∷◌, ◌++◌, length, IsOkAnd, IsErrAnd, IfOk, OnOk};
 ghost use Rattle.std.specs.List.{list_all};
-ghost use Rattle.ga_parser.specs.Saying.{source_lines, is_blank as is_blank_byte, parted, closes as closes_comment, unmarked as without_mark, bare as bare_line, without_return as without_end, said_by, is_word, all_in, said_in, all_said};
-ghost use Rattle.ga_parser.specs.Columns.{columns_by, columns_in, columns_of};
+ghost use Rattle.ga_parser.specs.Saying.{is_blank as is_blank_byte, parted, closes as closes_comment, unmarked as without_mark, bare as bare_line, without_return as without_end, said_by, is_word, all_in, said_in, all_said, columns_by, columns_in, columns_of};
 ghost use Rattle.ga_parser.specs.declared.scan.TokenKind.TheVariants.{Word, LongLine, OpenComment};
 ghost use Rattle.ga_parser.specs.declared.fault.SourceCause.TheVariants.{LongLine as TooLong, OpenComment as LeftOpen};
 
 use super::fault::{Fault, SourceCause, fault_at};
+use ga_text::first_line;
 use std::alloc::{AllocError, Global};
 
 /// A word of the source, or what is wrong with a line, and the line's number from 1 on.
@@ -132,21 +132,6 @@ fn push<'s>(
         kind,
     })?;
     Ok(())
-}
-
-/// The first line and the text behind it.
-#[tactic(auto, using(crate::proofs::Scanning::at_end, crate::proofs::Scanning::no_end))]
-fn first_line(text: &[u8]) -> (&[u8], &[u8])
-    requires { 0 < length text.now }
-    ensures splits { source_lines text.now ≡ result.0.now ∷ source_lines result.1.now }
-    ensures shorter { length result.1.now < length text.now }
-{
-    for (i, byte) in text.iter().enumerate() {
-        if *byte == b'\n' {
-            return (text.split_at(i).0, text.split_at(i + 1).1);
-        }
-    }
-    (text, &[])
 }
 
 /// A line without the byte order mark with which the first line of a text may begin. Lines count from 1.

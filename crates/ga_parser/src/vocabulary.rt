@@ -1,11 +1,19 @@
 //! The words that stand for themselves.
 
 ghost use Rattle.std.specs.Prelude.{◌≡◌, ◌||◌, is_some, codes, bytes_eq};
-ghost use Rattle.ga_parser.specs.Numbers.{by_name};
-ghost use Rattle.ga_parser.specs.Vocabulary.{closings, other_names, own_names, without_address, opcode_in, control_in, directive_in, bound_of, is_a_number as is_number_in, is_sign as is_sign_word, is_taken as is_taken_word};
+ghost use Rattle.ga_parser.specs.Vocabulary.{by_name, closings, other_names, own_names, without_address, opcode_in, control_in, directive_in, bound_of, is_a_number as is_number_in, is_sign as is_sign_word, is_taken as is_taken_word};
 
 use super::number::{Number, number_of};
 use ga_slots::Op;
+
+/// What stands in a table beside a name, where it is the text; else what is told last, or nothing.
+macro_rules! by_name {
+    ($text:expr;) => { None };
+    ($text:expr; else $other:expr) => { $other };
+    ($text:expr; $name:literal => $meaning:expr, $($rows:tt)*) => {
+        if $text == $name.as_slice() { Some($meaning) } else { by_name!($text; $($rows)*) }
+    };
+}
 
 /// A word that begins or ends a control structure.
 #[derive(Clone, Copy, PartialEq, Eq)]
@@ -29,17 +37,12 @@ pub(crate) enum Control {
 fn other_name(text: &[u8]) -> Option<Op>
     ensures { result ≡ by_name other_names text.now }
 {
-    if text == b"-".as_slice() {
-        Some(Op::Invert)
-    } else if text == b"inv".as_slice() {
-        Some(Op::Invert)
-    } else if text == b"xor".as_slice() {
-        Some(Op::Or)
-    } else if text == b"nop".as_slice() {
-        Some(Op::Nop)
-    } else {
-        None
-    }
+    by_name!(text;
+        b"-" => Op::Invert,
+        b"inv" => Op::Invert,
+        b"xor" => Op::Or,
+        b"nop" => Op::Nop,
+    )
 }
 
 /// The opcode of its own name.
@@ -161,25 +164,16 @@ impl Register {
 pub fn directive_named(text: &[u8]) -> Option<Directive>
     ensures { result ≡ directive_in text.now }
 {
-    if text == b":".as_slice() {
-        Some(Directive::Label)
-    } else if text == b"org".as_slice() {
-        Some(Directive::Address)
-    } else if text == b"/p".as_slice() {
-        Some(Directive::Register(Register::P))
-    } else if text == b"/a".as_slice() {
-        Some(Directive::Register(Register::A))
-    } else if text == b"/b".as_slice() {
-        Some(Directive::Register(Register::B))
-    } else if text == b"..".as_slice() {
-        Some(Directive::Fill)
-    } else if text == b"+cy".as_slice() {
-        Some(Directive::Carry(true))
-    } else if text == b"-cy".as_slice() {
-        Some(Directive::Carry(false))
-    } else {
-        None
-    }
+    by_name!(text;
+        b":" => Directive::Label,
+        b"org" => Directive::Address,
+        b"/p" => Directive::Register(Register::P),
+        b"/a" => Directive::Register(Register::A),
+        b"/b" => Directive::Register(Register::B),
+        b".." => Directive::Fill,
+        b"+cy" => Directive::Carry(true),
+        b"-cy" => Directive::Carry(false),
+    )
 }
 
 /// The control word of a name.
@@ -187,47 +181,30 @@ pub fn directive_named(text: &[u8]) -> Option<Directive>
 pub(crate) fn control_named(text: &[u8]) -> Option<Control>
     ensures { result ≡ control_in text.now }
 {
-    if text == b"begin".as_slice() {
-        Some(Control::Begin)
-    } else if text == b"for".as_slice() {
-        Some(Control::For)
-    } else if text == b"if".as_slice() {
-        Some(Control::If(Op::If))
-    } else if text == b"-if".as_slice() {
-        Some(Control::If(Op::MinusIf))
-    } else if text == b"ahead".as_slice() {
-        Some(Control::If(Op::Jump))
-    } else if text == b"else".as_slice() {
-        Some(Control::Else)
-    } else if text == b"then".as_slice() {
-        Some(Control::Then)
-    } else {
-        closing_named(text)
-    }
+    by_name!(text;
+        b"begin" => Control::Begin,
+        b"for" => Control::For,
+        b"if" => Control::If(Op::If),
+        b"-if" => Control::If(Op::MinusIf),
+        b"ahead" => Control::If(Op::Jump),
+        b"else" => Control::Else,
+        b"then" => Control::Then,
+        else closing_named(text)
+    )
 }
 
 fn closing_named(text: &[u8]) -> Option<Control>
     ensures { result ≡ by_name closings text.now }
 {
-    if text == b"again".as_slice() {
-        Some(Control::Again)
-    } else if text == b"until".as_slice() {
-        Some(Control::Until(Op::If))
-    } else if text == b"-until".as_slice() {
-        Some(Control::Until(Op::MinusIf))
-    } else if text == b"next".as_slice() {
-        Some(Control::Next)
-    } else if text == b"*next".as_slice() {
-        Some(Control::NextAround)
-    } else if text == b"unext".as_slice() {
-        Some(Control::Unext)
-    } else if text == b"while".as_slice() {
-        Some(Control::While(Op::If))
-    } else if text == b"-while".as_slice() {
-        Some(Control::While(Op::MinusIf))
-    } else if text == b"repeat".as_slice() {
-        Some(Control::Repeat)
-    } else {
-        None
-    }
+    by_name!(text;
+        b"again" => Control::Again,
+        b"until" => Control::Until(Op::If),
+        b"-until" => Control::Until(Op::MinusIf),
+        b"next" => Control::Next,
+        b"*next" => Control::NextAround,
+        b"unext" => Control::Unext,
+        b"while" => Control::While(Op::If),
+        b"-while" => Control::While(Op::MinusIf),
+        b"repeat" => Control::Repeat,
+    )
 }

@@ -24,7 +24,7 @@ use Rattle.ga_parser.specs.declared.item.Registers.{Registers}
 use Rattle.ga_parser.specs.declared.item.Asked.{Asked}
 use Rattle.ga_parser.specs.declared.labels.Label.{Label as Name}
 use Rattle.ga_ports.specs.Steps.{◌>>=◌}
-use Rattle.ga_parser.specs.Numbers.{number_by_word}
+use Rattle.ga_parser.specs.Vocabulary.{number_by_word}
 use Rattle.ga_source.specs.Cells.{is_asked, IsEmptyElsewhere}
 use Rattle.ga_source.specs.Reading.{begin_at, resolved}
 use Rattle.ga_parser.specs.Plain.{Plain, no_request, by_number, only_if, is_cell, may_be, with_two_words, plain_from, plain_of, value_in, asked_by, words_in, bodies_in, yxx_in, texts_in}
@@ -33,8 +33,7 @@ use Rattle.ga_source.specs.Made.{with_cell, with_asked, address_behind, with_req
 use Rattle.ga_source.specs.kept.Packing.{requests_of, ArePlain, IsNumber, AreNumbers}
 use Rattle.ga_source.specs.kept.Layout.{KeepsRest}
 use Rattle.ga_source.proofs.Empty.{of_each_at_load, assembled_empty}
-use Rattle.ga_parser.proofs.Hearing.{some_same, no_some, allowed}
-use Rattle.ga_parser.proofs.Ranges.{number_asks}
+use Rattle.ga_parser.proofs.Hearing.{some_same, no_some, allowed, number_asks}
 use Rattle.ga_source.proofs.Making.{Stays, with_cell_ram, with_cell_rom, one_plain_more, requests_made}
 use Rattle.ga_parser.specs.declared.fault.Fault.{Fault}
 use Rattle.ga_parser.specs.declared.fault.SourceCause.TheVariants.{Memory}

@@ -11,7 +11,7 @@ use Rattle.std.proofs.lemmas.Grind.{flat_map-append}
 use Rattle.std.proofs.lemmas.Bool.Decides.{nat_tests}
 use Rattle.std.proofs.lemmas.List.Elements.{All-append, All-nil}
 use Rattle.ga_text.specs.Lines.{HasNoFeed, ends_line}
-use Rattle.ga_text.specs.ReadLine.{IsLine}
+use Rattle.ga_text.specs.Input.{IsLine}
 
 -- ---- what known bytes become
 

@@ -1,8 +1,7 @@
 pub mod Lines
 pub mod Digits
 pub mod Parsing
-pub mod Input
 pub mod Output
 pub mod Image
-pub mod ReadLine
+pub mod Input
 pub mod kept

@@ -2,7 +2,6 @@
 //! that is gathered before it is written, and lines that are put together.
 #![tactic(auto)]
 
-mod digits;
 mod image;
 mod input;
 mod lines;
@@ -11,7 +10,6 @@ mod text;
 mod whole;
 mod words;
 
-pub use digits::byte_of;
 pub use image::{ImageEnd, read_image};
 pub use input::{Input, feed_at};
 pub use lines::{LineBuffer, LineEnd, first_line, read_line};
@@ -22,4 +20,4 @@ pub use text::{
     push_spaced, push_step, push_text, push_word,
 };
 pub use whole::{WholeRead, read_whole};
-pub use words::{cut, node_in, number_in};
+pub use words::{byte_of, cut, node_in, number_in};

@@ -1,9 +1,8 @@
 //! Lines of a text, and of the input.
 ghost use Rattle.std.specs.Prelude.{◌≡◌, ◌+◌, ◌≤◌, ◌<◌, ◌∷◌, ◌++◌, Some, length, take, Ok};
 ghost use Rattle.ga_text.specs.Lines.{Bytes, lines_of};
-ghost use Rattle.ga_text.specs.Input.{IsWithin};
+ghost use Rattle.ga_text.specs.Input.{IsWithin, ReadsLine};
 ghost use Rattle.ga_text.specs.Output.{SaysNothing};
-ghost use Rattle.ga_text.specs.ReadLine.{ReadsLine};
 
 use super::input::{Fill, Input};
 use super::output::{WriteFailed, Writer};

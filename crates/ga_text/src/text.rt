@@ -55,6 +55,7 @@ pub fn push_number<const ROOM: usize>(out: &mut ArrayVec<u8, ROOM>, number: u64)
 }
 
 /// The same for a number of any length.
+#[tactic(auto, using(crate::proofs::DigitLemmas::short_decimal))]
 fn push_long<const ROOM: usize>(out: &mut ArrayVec<u8, ROOM>, number: u64)
     requires { array_vec_len out.old + NUMBER_ROOM ≤ ROOM }
     ensures text { out.new.items ≡ out.old.items ++ decimal number }
@@ -93,7 +94,7 @@ fn four_of(number: u32) -> [u8; 4]
 
 /// Two decimal digits of a number.
 #[inline(always)]
-#[tactic(auto, using(crate::proofs::TableLemmas::decimal_pair))]
+#[tactic(auto, using(crate::proofs::DigitLemmas::decimal_pair))]
 fn two_of(number: u32) -> [u8; 2]
     requires { number < 100 }
     ensures { result ≡ two_digits number }
@@ -221,7 +222,7 @@ pub fn push_spaced<const ROOM: usize>(out: &mut ArrayVec<u8, ROOM>, word: Word18
 
 /// The six hexadecimal digits of a word.
 #[inline(always)]
-#[tactic(auto, using(crate::proofs::TableLemmas::three_bytes))]
+#[tactic(auto, using(crate::proofs::DigitLemmas::three_bytes))]
 fn hex6(word: Word18) -> [u8; WORD_ROOM]
     ensures { result ≡ hex6_of word }
 {
@@ -243,7 +244,7 @@ pub fn push_byte<const ROOM: usize>(out: &mut ArrayVec<u8, ROOM>, number: u8)
 
 /// The two hexadecimal digits of a number, in lower case.
 #[inline(always)]
-#[tactic(auto, using(crate::proofs::TableLemmas::hexadecimal_pair))]
+#[tactic(auto, using(crate::proofs::DigitLemmas::hexadecimal_pair))]
 pub fn hex2(number: u8) -> [u8; BYTE_ROOM]
     ensures { result ≡ hex2_of number }
 {

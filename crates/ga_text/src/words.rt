@@ -1,7 +1,8 @@
-//! The words of a line: where one ends, and the node or the number that it names.
+//! The words of a line: where one ends, and the node, the number or the byte that it names.
 
 ghost use Rattle.std.specs.Prelude.{◌≡◌, ◌+◌, ◌*◌, ◌<◌, [], ◌∷◌, option_map};
 ghost use Rattle.ga_grid.specs.Grid.{node_of as node_numbered, node_id, decimal_digit};
+ghost use Rattle.ga_text.specs.Digits.{byte_in};
 ghost use Rattle.ga_text.specs.Parsing.{cut, node_in, number_in, with_digit};
 
 use ga_grid::{NodeId, decimal_digit};
@@ -76,4 +77,15 @@ fn with_digit(number: u32, byte: u8) -> Option<u32>
     }
     let digit = decimal_digit(byte)?;
     number.checked_mul(10)?.checked_add(digit)
+}
+
+/// A number of exactly two hexadecimal digits in either case.
+pub fn byte_of(text: &[u8]) -> Option<u8>
+    ensures { result ≡ byte_in text.now }
+{
+    let mut byte = [0];
+    let Ok(()) = hex::decode_to_slice(text, &mut byte) else {
+        return None;
+    };
+    Some(byte[0])
 }

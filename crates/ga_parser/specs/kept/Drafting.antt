@@ -20,9 +20,8 @@ use Rattle.ga_parser.specs.declared.draft.Expect.{Expect}
 use Rattle.ga_parser.specs.declared.draft.Expect.TheVariants.{Word, Address, Name, Register, Nothing}
 use Rattle.ga_parser.specs.declared.scan.Token.{Token}
 use Rattle.ga_ports.specs.Steps.{◌>>=◌}
-use Rattle.ga_parser.specs.Numbers.{by_name, number_by_word}
+use Rattle.ga_parser.specs.Vocabulary.{by_name, number_by_word, directives}
 use Rattle.ga_parser.specs.Plain.{Plain, no_request, with_request, by_number, only_if, is_cell, may_be, asked_by}
-use Rattle.ga_parser.specs.Vocabulary.{directives}
 
 -- ---- what a call answers where words ask for something, or are refused
 

@@ -1,6 +1,6 @@
 use Rattle.std.proofs.Common.{◌≡◌, ℕ, List, [], ◌∷◌, ◌++◌, Some, inl, inr, refl, sym, ap, subst, ◌∙◌, append_assoc, arith, length, ◌<◌, Ok}
 use Rattle.std.proofs.lemmas.List.{append-nil}
-use Rattle.ga_image.specs.Fault.{no_memory}
+use Rattle.ga_image.specs.FirstFault.{no_memory}
 use Rattle.ga_text.specs.Input.{Unread}
 use Rattle.ga_console.specs.kept.Run.{AfterImage}
 use Rattle.ga_console.proofs.RunLemmas.{runs_refused, runs_full, runs_after, nothing_left}

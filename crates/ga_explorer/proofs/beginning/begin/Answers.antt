@@ -1,6 +1,6 @@
 use Rattle.std.proofs.Common.{◌≡◌, ℕ, List, [], ◌∷◌, ◌++◌, Some, inl, inr, refl, sym, ap, ◌∙◌, append_assoc, arith, Ok}
 use Rattle.std.proofs.lemmas.List.{append-nil}
-use Rattle.ga_image.specs.Fault.{no_memory}
+use Rattle.ga_image.specs.FirstFault.{no_memory}
 use Rattle.ga_text.specs.Input.{Unread}
 use Rattle.ga_explorer.specs.Opening.{begins_as_image}
 use Rattle.ga_explorer.specs.Opening.Unbegun.{image_refused, source_refused, unread}

@@ -1,4 +1,4 @@
-use Rattle.ga_image.proofs.Sizes.{short_image}
+use Rattle.ga_image.proofs.Room.{short_image}
 use Rattle.ga_image.proofs.laws.images_are_short.Goals as goal
 
 pub returns : goal.returns

@@ -1,4 +1,4 @@
-use Rattle.ga_image.proofs.Accepted.{image_read}
+use Rattle.ga_image.proofs.Meanings.{image_read}
 use Rattle.ga_image.proofs.Found.{image_found}
 use Rattle.ga_image.proofs.FirstFaults.{first_refused, refused_first}
 use Rattle.ga_image.proofs.laws.reading_tells.Goals as goal

@@ -4,7 +4,7 @@ use Rattle.std.proofs.Common.{List, ℕ, ◌∷◌, take, drop, [], arith, sym, 
 use Rattle.std.proofs.lemmas.Bool.{eqb-false, eqb-true}
 use Rattle.std.proofs.lemmas.List.{nil_from_length}
 use Rattle.ga_word.specs.Word.{read6_of}
-use Rattle.ga_image.proofs.Spaced.{words_after, from_start, too_short, too_many, no_space, no_digits, next_word, no_words, all_words}
+use Rattle.ga_image.proofs.Short.{words_after, from_start, too_short, too_many, no_space, no_digits, next_word, no_words, all_words}
 use Rattle.ga_image.proofs.line.read_words.Goals as goal
 use Rattle.ga_image.proofs.line.read_words.Goals.{then-rest-lt7-via-then-rest-lt7, then-rest-lt7-via-else-rest-lt7+then-is_full}
 

@@ -1,6 +1,6 @@
 use Rattle.std.proofs.Common.{◌≡◌, ◌≤◌, length}
-use Rattle.ga_image.specs.Forms.{words_in_row}
-use Rattle.ga_image.proofs.Spaced.{words_after}
+use Rattle.ga_image.specs.Spelling.{words_in_row}
+use Rattle.ga_image.proofs.Short.{words_after}
 use Rattle.ga_image.proofs.line.read_words.Given as goal
 
 abbrev pub invariant-loop-rest : goal.invariant-loop-rest

@@ -1,9 +1,8 @@
 use Rattle.std.proofs.Common.{ℕ, ◌≡◌, ◌*◌, ◌<◌, List, ◌++◌, take, flat_map, sym, ap, ◌∙◌, subst, arith}
 use Rattle.ga_node.specs.Record.{record_of}
 use Rattle.ga_image.specs.declared.field.Field.{Field}
-use Rattle.ga_image.specs.kept.Forms.{field_in}
+use Rattle.ga_image.specs.kept.{field_in, fields_text, words_in}
 use Rattle.ga_image.specs.Printing.{AreWords, line_unless, row_of_words, row_cells}
-use Rattle.ga_image.specs.kept.Printing.{fields_text, memory_in}
 use Rattle.ga_image.proofs.Pieces.{lines_grown, rows_more, row_cell}
 use Rattle.ga_image.proofs.PrintedFields.{rows_words, memory_words}
 use Rattle.ga_image.proofs.printing.push_memory.Goals as goal
@@ -11,7 +10,7 @@ use Rattle.ga_image.proofs.printing.push_memory.Goals as goal
 pub rows-preserved : goal.rows-preserved
 rows-preserved c =
     let bank = c.args.bank in
-    let memory = memory_in bank (record_of c.args.at.now) in
+    let memory = words_in bank (record_of c.args.at.now) in
     let old : List ℕ = c.args.text.now.items in
     let text : List ℕ = c.rows.text.items in
     let new : List ℕ = c.push_words_unless.new.text.items in
@@ -30,10 +29,10 @@ rows-preserved c =
     record {
       text = more;
       words = rows_words memory number c.rows.invariant.words (subst AreWords c.row.ensures.items c.row.ensures.words);
-      size = λ _. c.row.ensures.size;
+      size = λ _. c.row.ensures.size ∙ c.requires;
     }
 
 pub returns-clause-sound : goal.returns-clause-sound
 returns-clause-sound c =
-    let memory = memory_in c.args.bank (record_of c.args.at.now) in
+    let memory = words_in c.args.bank (record_of c.args.at.now) in
     memory_words memory c.rows.number (omega arith) (c.rows.invariant.size (omega arith)) c.rows.invariant.words

@@ -5,10 +5,9 @@ use Rattle.ga_stacks.specs.Ring.{fresh_word, listed}
 use Rattle.ga_node.specs.Record.{record_of}
 use Rattle.ga_node.specs.State.{wait_code}
 use Rattle.ga_image.specs.declared.field.Field.TheVariants.{Carry, Slot, Wait, Stop, Data, Return}
-use Rattle.ga_image.specs.Printing.{line_unless, word_unless}
-use Rattle.ga_image.specs.ReadBack.{HasSides}
+use Rattle.ga_image.specs.Printing.{line_unless, word_unless, HasSides}
 use Rattle.ga_image.proofs.Pieces.{lines_grown, word_grown, words_grown}
-use Rattle.ga_image.proofs.PrintedFields.{sides_of, holds_words}
+use Rattle.ga_image.proofs.PrintedFields.{sides_of, whole_row, holds_row}
 use Rattle.ga_image.proofs.printing.push_state.Goals as goal
 
 pub returns-clause-text : goal.returns-clause-text
@@ -26,8 +25,8 @@ returns-clause-text c =
     let r = listed node.return_stack in
     let carry = word_grown old t1 0 Carry c.get.result (from_bool node.carry) c.get.ensures.value c.in_ok-push_digit_unless.ensures in
     let slot = word_grown t1 t2 4 Slot c.get-2.result node.slot c.get-2.ensures.value c.in_ok-push_digit_unless-2.ensures in
-    let data_words = words_grown t2 t3 fresh_word (Data 0) c.as_slice.result.now d (c.as_slice.ensures.value ∙ c.data_words.ensures.items) c.in_ok-push_words_unless.ensures in
-    let return_words = words_grown t3 t4 fresh_word (Return 0) c.as_slice-2.result.now r (c.as_slice-2.ensures.value ∙ c.return_words.ensures.items) c.in_ok-push_words_unless-2.ensures in
+    let data_words = words_grown t2 t3 fresh_word (Data 0) c.as_slice.result.now d (c.as_slice.ensures.value ∙ c.row.ensures.items ∙ whole_row d 10 c.row.ensures.size) c.in_ok-push_words_unless.ensures in
+    let return_words = words_grown t3 t4 fresh_word (Return 0) c.as_slice-2.result.now r (c.as_slice-2.ensures.value ∙ c.row-2.ensures.items ∙ whole_row r 9 c.row-2.ensures.size) c.in_ok-push_words_unless-2.ensures in
     let wait = word_grown t4 t5 0 Wait c.code.result (wait_code node.wait) (c.code.ensures.value ∙ ap wait_code c.wait.ensures.value) c.in_ok-push_wait_unless.ensures in
     let lines_stop = word_unless 0 Stop node.stop in
     let lines_wait = word_unless 0 Wait (wait_code node.wait) ++ lines_stop in
@@ -51,8 +50,8 @@ returns-clause-sound c =
     on_ok_weaker c.push_digit_unless-3.result
     (λ _. record {
       slot = rw (sym c.get-2.ensures.value) c.get-2.ensures.in_range;
-      d = holds_words 10 c.data_words.result.items node.d c.data_words.ensures.items c.data_words.ensures.words c.data_words.ensures.size;
-      r = holds_words 9 c.return_words.result.items node.r c.return_words.ensures.items c.return_words.ensures.words c.return_words.ensures.size;
+      d = holds_row 10 c.row.result.items node.d c.row.ensures.items c.row.ensures.words c.row.ensures.size;
+      r = holds_row 9 c.row-2.result.items node.r c.row-2.ensures.items c.row-2.ensures.words c.row-2.ensures.size;
       wait = subst HasSides (c.code.ensures.back ∙ c.wait.ensures.value) (sides_of c.code.result c.code.ensures.valid);
       stop = rw (sym c.get-3.ensures.value) c.get-3.ensures.in_range;
     })

@@ -3,9 +3,8 @@ use Rattle.std.proofs.lemmas.List.{length-map}
 use Rattle.ga_node.specs.Record.{NodeRecord, record_of}
 use Rattle.ga_grid.specs.Chip.{nowhere, node_at, records_of, record_at}
 use Rattle.ga_grid.proofs.Chips.{record_at-records_of}
-use Rattle.ga_image.specs.kept.Printing.{blocks_text}
-use Rattle.ga_image.specs.Printing.{block_unless, lines_at}
-use Rattle.ga_image.specs.ReadBack.{IsSoundRecord}
+use Rattle.ga_image.specs.kept.{blocks_text}
+use Rattle.ga_image.specs.Printing.{block_unless, lines_at, IsSoundRecord}
 use Rattle.ga_image.proofs.Pieces.{next_block, finished}
 use Rattle.ga_image.proofs.PrintedFields.{all_more, all_whole}
 use Rattle.ga_image.proofs.printing.whole_text.Goals as goal

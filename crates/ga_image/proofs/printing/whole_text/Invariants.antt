@@ -2,9 +2,8 @@ use Rattle.std.proofs.Common.{◌≡◌, ◌<◌, length, ◌++◌, take, drop}
 use Rattle.std.specs.Prelude.{codes}
 use Rattle.std.specs.List.{AllByRecursion}
 use Rattle.ga_grid.specs.Chip.{records_of}
-use Rattle.ga_image.specs.kept.Printing.{blocks_text}
-use Rattle.ga_image.specs.Printing.{blocks_from}
-use Rattle.ga_image.specs.ReadBack.{IsSoundRecord}
+use Rattle.ga_image.specs.kept.{blocks_text}
+use Rattle.ga_image.specs.Printing.{blocks_from, IsSoundRecord}
 use Rattle.ga_image.proofs.printing.whole_text.Given as goal
 
 abbrev pub invariant-loop-number : goal.invariant-loop-number

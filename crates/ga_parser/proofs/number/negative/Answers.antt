@@ -1,5 +1,5 @@
 use Rattle.std.proofs.Common.{◌∙◌}
-use Rattle.ga_parser.specs.Numbers.{plain_in}
+use Rattle.ga_parser.specs.Vocabulary.{plain_in}
 use Rattle.ga_parser.proofs.Numbers.{read_below}
 use Rattle.ga_parser.proofs.number.negative.Goals as goal
 

@@ -1,6 +1,5 @@
 use Rattle.std.proofs.Common.{◌≡◌, ◌≤◌, ◌+◌, ◌-◌, ◌++◌, false, length}
-use Rattle.ga_parser.specs.Saying.{parted, is_blank, all_said}
-use Rattle.ga_parser.specs.Columns.{columns_spoken, columns_of}
+use Rattle.ga_parser.specs.Saying.{parted, is_blank, all_said, columns_spoken, columns_of}
 use Rattle.ga_parser.specs.kept.Drafting.{IsTold}
 use Rattle.ga_parser.proofs.scan.scan_line.Given as goal
 

@@ -1,6 +1,5 @@
 use Rattle.std.proofs.Common.{◌≡◌, ◌++◌, length}
-use Rattle.ga_parser.specs.Saying.{source_lines, said_from, all_in, all_said}
-use Rattle.ga_parser.specs.Columns.{columns_from, columns_in, columns_of}
+use Rattle.ga_parser.specs.Saying.{source_lines, said_from, all_in, all_said, columns_from, columns_in, columns_of}
 use Rattle.ga_parser.proofs.scan.source_words.Given as goal
 
 abbrev pub invariant-loop-rest : goal.invariant-loop-rest

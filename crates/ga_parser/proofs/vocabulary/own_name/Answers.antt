@@ -1,7 +1,7 @@
 use Rattle.std.proofs.Common.{◌∙◌, sym, arith, ap, Some}
 use Rattle.ga_slots.specs.declared.op.Op.{Op}
 use Rattle.ga_slots.specs.Codes.{name_of, all_ops}
-use Rattle.ga_parser.proofs.Naming.{other_row, this_row}
+use Rattle.ga_parser.proofs.Numbers.{other_row, this_row}
 use Rattle.ga_parser.proofs.vocabulary.own_name.Goals as goal
 
 pub loop-code-preserved : goal.loop-code-preserved

@@ -1,6 +1,5 @@
 use Rattle.std.proofs.Common.{◌≡◌, drop}
-use Rattle.ga_parser.specs.Numbers.{by_name}
-use Rattle.ga_parser.specs.Vocabulary.{own_names}
+use Rattle.ga_parser.specs.Vocabulary.{by_name, own_names}
 use Rattle.ga_parser.proofs.vocabulary.own_name.Given as goal
 
 abbrev pub invariant-loop-code : goal.invariant-loop-code

@@ -5,7 +5,7 @@ use Rattle.ga_text.specs.Lines.{ended}
 use Rattle.ga_text.specs.kept.{TakesPart, with_feed}
 use Rattle.ga_text.specs.Input.{Unread}
 use Rattle.ga_text.specs.Image.{end_line}
-use Rattle.ga_text.proofs.ImageLemmas.{Body, body_more, body_line, line_range, no_end, over_piece, over_all, ended_piece}
+use Rattle.ga_text.proofs.TextLemmas.{Body, body_more, body_line, line_range, no_end, over_piece, over_all, ended_piece}
 use Rattle.ga_text.proofs.image.read_image.Goals as goal
 
 -- what was taken, at a known value of the flag

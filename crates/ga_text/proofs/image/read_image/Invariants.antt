@@ -1,6 +1,6 @@
 use Rattle.std.proofs.Common.{◌≡◌, ℕ, ◌+◌, ◌-◌, ◌*◌, List, ◌++◌, length, Some}
 use Rattle.ga_text.specs.Input.{IsWithin}
-use Rattle.ga_text.proofs.ImageLemmas.{Body}
+use Rattle.ga_text.proofs.TextLemmas.{Body}
 use Rattle.ga_text.proofs.image.read_image.Given as goal
 
 abbrev pub invariant-parts : goal.invariant-parts

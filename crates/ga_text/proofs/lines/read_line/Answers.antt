@@ -1,7 +1,7 @@
 use Rattle.std.proofs.Common.{[], ◌∷◌, ◌++◌, refl, ◌∙◌, sym, arith, length-append}
 use Rattle.ga_text.proofs.SaidLemmas.{line_none, line_same, line_piece, line_all, at_err}
 use Rattle.std.specs.Prelude.{Result}
-use Rattle.ga_text.specs.ReadLine.{ReadsLine}
+use Rattle.ga_text.specs.Input.{ReadsLine}
 use Rattle.ga_text.specs.declared.output.WriteFailed.{WriteFailed}
 use Rattle.ga_text.specs.declared.lines.LineEnd.{LineEnd}
 use Rattle.ga_text.proofs.lines.read_line.Goals as goal

@@ -1,7 +1,6 @@
 use Rattle.std.proofs.Common.{◌≡◌, ℕ, ◌+◌, ◌-◌, ◌≤◌, List, ◌++◌, length, Some}
-use Rattle.ga_text.specs.Input.{IsWithin}
+use Rattle.ga_text.specs.Input.{IsWithin, IsLine}
 use Rattle.ga_text.specs.Output.{IsSaid}
-use Rattle.ga_text.specs.ReadLine.{IsLine}
 use Rattle.ga_text.proofs.lines.read_line.Given as goal
 
 -- what was taken so far holds no line feed

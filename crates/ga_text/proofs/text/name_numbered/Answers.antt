@@ -1,5 +1,5 @@
 use Rattle.std.proofs.Common.{ℕ, List, [], ◌∷◌, ◌++◌, ap, refl}
-use Rattle.ga_text.proofs.TableLemmas.{name_four, name_blank}
+use Rattle.ga_text.proofs.DigitLemmas.{name_four, name_blank}
 use Rattle.ga_text.proofs.TextLemmas.{name_spelled}
 use Rattle.ga_text.proofs.text.name_numbered.Goals as goal
 

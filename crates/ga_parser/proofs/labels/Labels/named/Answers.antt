@@ -1,5 +1,5 @@
 use Rattle.std.proofs.Common.{◌∙◌, sym, false, rules}
-use Rattle.ga_parser.proofs.Labelling.{length_labels, number_found, number_new, names_pushed}
+use Rattle.ga_parser.proofs.Asking.{length_labels, number_found, number_new, names_pushed}
 use Rattle.ga_parser.proofs.labels.Labels.named.Goals as goal
 
 pub returns-in-Some-clause-number : goal.returns-in-Some-clause-number
