@@ -9,7 +9,6 @@ ghost use Rattle.ga_origin.specs.Origins.{node_after};
 ghost use Rattle.ga_text.specs.Output.{Says, SaysExactly};
 ghost use Rattle.ga_answers.specs.Around.{passed_text, place_text, places_text, around_text};
 
-use crate::Said;
 use crate::passed_text::step_line;
 use crate::tail_text::say_walk_tail;
 use arrayvec::ArrayVec;
@@ -17,7 +16,7 @@ use ga_display::refusal_text;
 use ga_grid::NodeId;
 use ga_lab::{Lab, LabFault, Walk};
 use ga_notes::Notes;
-use ga_text::{Writer, TextBuffer, WriteFailed};
+use ga_text::{Spoken, TextBuffer, Writer};
 use std::io::Write;
 
 /// `at NNN K [N]`: tells the steps of a node up to so many before and behind one. Takes no memory.
@@ -31,7 +30,7 @@ pub fn say_around<W: Write>(
     step: u32,
     around: u32,
     writer: &mut Writer<'_, W>,
-) -> Result<(), WriteFailed>
+) -> Spoken
     ensures { Says result (λ text. text ≡ around_text notes.now lab.now node step around) W.contents writer.old writer.new }
 {
     if lab.stands((node, step)) {
@@ -51,7 +50,7 @@ fn say_places<W: Write>(
     first: u32,
     last: u32,
     writer: &mut Writer<'_, W>,
-) -> Said
+) -> Spoken
     requires { last ≤ steps_of node.number lab.now.kept }
     ensures { Says result (λ text. text ≡ places_text notes.now lab.now node first (last - first))
         W.contents writer.old writer.new }
@@ -71,7 +70,7 @@ fn say_place<W: Write>(
     base: &Walk<'_>,
     place: u32,
     writer: &mut Writer<'_, W>,
-) -> Said
+) -> Spoken
     requires place { place < steps_of node.number lab.now.kept }
     requires walk { base.now ≡ standing lab.now node base.now.step }
     requires behind { place < base.now.step }

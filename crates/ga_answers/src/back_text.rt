@@ -10,7 +10,7 @@ use ga_display::say_removed;
 use ga_grid::NodeId;
 use ga_lab::Lab;
 use ga_search::{Condition, back_until};
-use ga_text::{Writer, WriteFailed};
+use ga_text::{Spoken, Writer};
 use std::io::Write;
 
 /// `back until COND`, `back NNN until COND`: takes events back, and says how many went, or that none did.
@@ -22,7 +22,7 @@ pub fn say_back<W: Write>(
     until: &[Condition],
     only: Option<NodeId>,
     writer: &mut Writer<'_, W>,
-) -> Result<(), WriteFailed>
+) -> Spoken
     ensures said { Says result (λ text. text ≡ back_text (gone_from only lab.old (newest_held until.now only lab.old)) (length lab.new.kept)) W.contents writer.old writer.new }
     ensures state { lab.new ≡ left_from only lab.old (newest_held until.now only lab.old) }
 {

@@ -9,7 +9,6 @@ ghost use Rattle.ga_text.specs.Output.{Says, SaysExactly};
 ghost use Rattle.ga_answers.specs.Because.{decided_text, decision_text, decisions_text, because_text};
 ghost use Rattle.ga_answers.specs.Trees.{part_name};
 
-use crate::Said;
 use crate::deed_text::push_deed;
 use crate::part_text::{PART_ROOM, push_part};
 use crate::tail_text::say_step_tail;
@@ -21,7 +20,7 @@ use ga_grid::NodeId;
 use ga_lab::{Lab, LabFault, Made, Walk};
 use ga_notes::Notes;
 use ga_origin::{Decision, Decisions, Row};
-use ga_text::{Writer, TextBuffer, WORD_ROOM, WriteFailed, push_spaced, push_step, push_text};
+use ga_text::{Spoken, TextBuffer, WORD_ROOM, Writer, push_spaced, push_step, push_text};
 use ga_word::Word18;
 use std::io::Write;
 
@@ -40,7 +39,7 @@ pub fn say_because<W: Write>(
     step: u32,
     most: u32,
     writer: &mut Writer<'_, W>,
-) -> Result<(), WriteFailed>
+) -> Spoken
     ensures { Says result (λ text. text ≡ because_text notes.now lab.now node step most) W.contents writer.old writer.new }
 {
     if lab.stands((node, step)) {
@@ -59,7 +58,7 @@ fn say_decisions<'l, W: Write>(
     node: NodeId,
     most: u32,
     writer: &mut Writer<'_, W>,
-) -> Said
+) -> Spoken
     requires { near.now ≡ standing lab.now node near.now.step }
     ensures { Says result (λ text. text ≡ decisions_text notes.now lab.now node most (near.now.step - 1))
         W.contents writer.old writer.new }
@@ -84,7 +83,7 @@ fn say_decision<W: Write>(
     node: NodeId,
     decision: Decision,
     writer: &mut Writer<'_, W>,
-) -> Said
+) -> Spoken
     requires { near.now ≡ standing lab.now node near.now.step }
     ensures { SaysExactly result (decision_text notes.now lab.now node decision) W.contents writer.old writer.new }
 {

@@ -6,13 +6,12 @@ ghost use Rattle.ga_text.specs.Output.{Says, SaysExactly};
 ghost use Rattle.ga_answers.specs.Texts.{effect_text, effects_head, effects_text};
 ghost use Rattle.ga_answers.specs.Telling.{TellsEffects};
 
-use crate::Said;
 use arrayvec::ArrayVec;
 use ga_display::refusal_text;
 use ga_grid::NodeId;
 use ga_lab::Lab;
 use ga_search::{Effects, RollbackEffect, find_effects};
-use ga_text::{Writer, TextBuffer, WriteFailed, push_number, push_step, push_text};
+use ga_text::{Spoken, TextBuffer, Writer, push_number, push_step, push_text};
 use std::alloc::Global;
 use std::io::Write;
 
@@ -26,7 +25,7 @@ pub fn say_effects<W: Write>(
     node: NodeId,
     step: u32,
     writer: &mut Writer<'_, W>,
-) -> Result<(), WriteFailed>
+) -> Spoken
     ensures said { Says result (TellsEffects lab.old node step) W.contents writer.old writer.new }
     ensures same { lab.new ≡ lab.old }
 {
@@ -37,18 +36,14 @@ pub fn say_effects<W: Write>(
 }
 
 /// Says how many events would go, then what would go of each node.
-fn say_found<W: Write>(effects: &Effects, writer: &mut Writer<'_, W>) -> Said
+fn say_found<W: Write>(effects: &Effects, writer: &mut Writer<'_, W>) -> Spoken
     ensures { Says result (λ text. text ≡ effects_text effects.now.events effects.now.nodes.items)
         W.contents writer.old writer.new }
 {
     say_nodes(effects.events, effects.nodes.as_slice(), writer)
 }
 
-fn say_nodes<W: Write>(
-    events: u32,
-    nodes: &[RollbackEffect],
-    writer: &mut Writer<'_, W>,
-) -> Said
+fn say_nodes<W: Write>(events: u32, nodes: &[RollbackEffect], writer: &mut Writer<'_, W>) -> Spoken
     ensures { Says result (λ text. text ≡ effects_text events nodes.now)
         W.contents writer.old writer.new }
 {
@@ -60,7 +55,7 @@ fn say_nodes<W: Write>(
 }
 
 /// Says what would go of a node.
-fn say_effect<W: Write>(effect: RollbackEffect, writer: &mut Writer<'_, W>) -> Said
+fn say_effect<W: Write>(effect: RollbackEffect, writer: &mut Writer<'_, W>) -> Spoken
     ensures { SaysExactly result (effect_text effect) W.contents writer.old writer.new }
 {
     writer.say_blocks(effect_line(effect).as_slice())

@@ -24,7 +24,6 @@ pub use back_text::say_back;
 pub use because_text::say_because;
 pub use chip_text::glance;
 pub use effects_text::say_effects;
-use ga_text::WriteFailed;
 pub use races_text::say_races;
 pub use run_text::ran_text;
 pub use saved_text::say_saved;
@@ -32,6 +31,3 @@ pub use whence_text::say_whence;
 pub use who_text::say_who;
 pub use words_text::say_words;
 pub use writes_text::say_writes;
-
-/// What comes of saying a text: a write may fail.
-type Said = Result<(), WriteFailed>;

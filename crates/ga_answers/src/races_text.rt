@@ -6,14 +6,13 @@ ghost use Rattle.ga_text.specs.Output.{Says, SaysExactly};
 ghost use Rattle.ga_race_detector.specs.Readings.{back_of};
 ghost use Rattle.ga_answers.specs.Races.{race_text, reading_text, before_or_behind, races_head, race_lines_text, last_line, listed_text, TellsRaces};
 
-use crate::Said;
 use arrayvec::ArrayVec;
 use ga_display::refusal_text;
 use ga_grid::NodeId;
 use ga_lab::Lab;
 use ga_race_detector::{Race, Races, Reading, find_races};
 use ga_text::{
-    Writer, TextBuffer, WriteFailed, push_node, push_number, push_step, push_text, push_word,
+    Spoken, TextBuffer, Writer, push_node, push_number, push_step, push_text, push_word,
 };
 use std::alloc::Global;
 use std::io::Write;
@@ -28,7 +27,7 @@ pub fn say_races<W: Write>(
     lab: &mut Lab,
     only: Option<NodeId>,
     writer: &mut Writer<'_, W>,
-) -> Result<(), WriteFailed>
+) -> Spoken
     ensures said { Says result (TellsRaces lab.old only) W.contents writer.old writer.new }
     ensures same { lab.new ≡ lab.old }
 {
@@ -39,11 +38,7 @@ pub fn say_races<W: Write>(
 }
 
 /// Says the lines of these, and the last one.
-fn say_found<W: Write>(
-    only: Option<NodeId>,
-    races: &Races,
-    writer: &mut Writer<'_, W>,
-) -> Said
+fn say_found<W: Write>(only: Option<NodeId>, races: &Races, writer: &mut Writer<'_, W>) -> Spoken
     ensures { Says result (λ text. text ≡ listed_text only races.now.list.items races.now.readings.items races.now.looks races.now.quiet)
         W.contents writer.old writer.new }
 {
@@ -56,7 +51,7 @@ fn say_found<W: Write>(
 }
 
 /// Says that so many lines follow, then each of these.
-fn say_list<W: Write>(races: &[Race], count: u64, writer: &mut Writer<'_, W>) -> Said
+fn say_list<W: Write>(races: &[Race], count: u64, writer: &mut Writer<'_, W>) -> Spoken
     ensures { Says result (λ text. text ≡ race_lines_text races.now count)
         W.contents writer.old writer.new }
 {
@@ -72,7 +67,7 @@ fn say_rest<W: Write>(
     readings: &[Reading],
     last: &'static [u8],
     writer: &mut Writer<'_, W>,
-) -> Said
+) -> Spoken
     ensures { Says result (λ text. text ≡ flat_map reading_text readings.now ++ last.now)
         W.contents writer.old writer.new }
 {
@@ -83,14 +78,14 @@ fn say_rest<W: Write>(
 }
 
 /// Says one of them.
-fn say_reading<W: Write>(reading: Reading, writer: &mut Writer<'_, W>) -> Said
+fn say_reading<W: Write>(reading: Reading, writer: &mut Writer<'_, W>) -> Spoken
     ensures { SaysExactly result (reading_text reading) W.contents writer.old writer.new }
 {
     writer.say_blocks(reading_line(reading).as_slice())
 }
 
 /// Says one of them.
-fn say_race<W: Write>(race: Race, writer: &mut Writer<'_, W>) -> Said
+fn say_race<W: Write>(race: Race, writer: &mut Writer<'_, W>) -> Spoken
     ensures { SaysExactly result (race_text race) W.contents writer.old writer.new }
 {
     writer.say_blocks(race_line(race).as_slice())

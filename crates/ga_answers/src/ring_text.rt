@@ -7,12 +7,11 @@ ghost use Rattle.ga_grid.specs.Chip.{records_of};
 ghost use Rattle.ga_causal.specs.Dependence.{is_marked};
 ghost use Rattle.ga_answers.specs.Waiting.{awaited_at, sole, sole_awaited, name_text, ring_names, ring_line, ring_text, all_rings};
 
-use crate::Said;
 use arrayvec::ArrayVec;
 use ga_grid::{Chip, NodeId, neighbour};
 use ga_ports::Side;
 use ga_races::awaits;
-use ga_text::{Writer, push_node, push_text};
+use ga_text::{Spoken, Writer, push_node, push_text};
 use std::io::Write;
 
 /// Room for a line: a name behind a space for each node, and one more behind the last that is followed.
@@ -26,7 +25,7 @@ pub(crate) fn say_rings<W: Write>(
     chip: &Chip,
     stuck: &[bool; 144],
     writer: &mut Writer<'_, W>,
-) -> Said
+) -> Spoken
     ensures { Says result (λ text. text ≡ all_rings (records_of chip.now) (is_marked stuck.now))
         W.contents writer.old writer.new }
 {

@@ -8,12 +8,11 @@ ghost use Rattle.ga_text.specs.Output.{Says, SaysExactly};
 ghost use Rattle.ga_answers.specs.Saved.{step_line, with_feed, saved_text};
 ghost use Rattle.ga_answers.specs.kept.{actor_in, line_at, cause_line};
 
-use crate::Said;
 use arrayvec::ArrayVec;
 use ga_event::{Cause, Event};
 use ga_grid::NodeId;
 use ga_lab::{Lab, Made};
-use ga_text::{Writer, TextBuffer, WriteFailed, push_node, push_text};
+use ga_text::{Spoken, TextBuffer, Writer, push_node, push_text};
 use std::io::Write;
 
 /// `save`: says a line `step NNN` for each kept event. Takes memory for the list of the events, and time by how many they are; where
@@ -21,10 +20,7 @@ use std::io::Write;
 ///
 /// # Errors
 /// A write failed.
-pub fn say_saved<W: Write>(
-    lab: &Lab,
-    writer: &mut Writer<'_, W>,
-) -> Result<(), WriteFailed>
+pub fn say_saved<W: Write>(lab: &Lab, writer: &mut Writer<'_, W>) -> Spoken
     ensures { SaysExactly result (saved_text lab.now) W.contents writer.old writer.new }
 {
     // So the kept events are those that are listed.
@@ -36,7 +32,7 @@ pub fn say_saved<W: Write>(
 }
 
 /// Says the lines of these events.
-fn say_listed<W: Write>(causes: &[Cause], writer: &mut Writer<'_, W>) -> Said
+fn say_listed<W: Write>(causes: &[Cause], writer: &mut Writer<'_, W>) -> Spoken
     ensures { Says result (λ text. text ≡ flat_map cause_line causes.now)
         W.contents writer.old writer.new }
 {
@@ -47,7 +43,7 @@ fn say_listed<W: Write>(causes: &[Cause], writer: &mut Writer<'_, W>) -> Said
 }
 
 /// Says the line of an event.
-fn say_event<W: Write>(event: Event, writer: &mut Writer<'_, W>) -> Said
+fn say_event<W: Write>(event: Event, writer: &mut Writer<'_, W>) -> Spoken
     ensures { SaysExactly result (with_feed (step_line (actor_of event))) W.contents writer.old writer.new }
 {
     writer.say_blocks(step_line(actor_of(event)).as_slice())
@@ -64,7 +60,7 @@ fn actor_of(event: Event) -> NodeId
 }
 
 /// Says the lines of the kept events, each of which is looked up by itself.
-fn say_unlisted<W: Write>(lab: &Lab, writer: &mut Writer<'_, W>) -> Said
+fn say_unlisted<W: Write>(lab: &Lab, writer: &mut Writer<'_, W>) -> Spoken
     ensures { Says result (λ text. text ≡ saved_text lab.now)
         W.contents writer.old writer.new }
 {
@@ -75,7 +71,7 @@ fn say_unlisted<W: Write>(lab: &Lab, writer: &mut Writer<'_, W>) -> Said
 }
 
 /// Says the line of the event at a place.
-fn say_step<W: Write>(lab: &Lab, place: u32, writer: &mut Writer<'_, W>) -> Said
+fn say_step<W: Write>(lab: &Lab, place: u32, writer: &mut Writer<'_, W>) -> Spoken
     ensures { Says result (λ text. text ≡ line_at (slice_get lab.now.kept place))
         W.contents writer.old writer.new }
 {

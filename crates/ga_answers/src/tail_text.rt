@@ -10,14 +10,13 @@ ghost use Rattle.ga_origin.specs.Fetched.{fetched_cell as cell_fetched};
 ghost use Rattle.ga_origin.specs.Origins.{node_after};
 ghost use Rattle.ga_answers.specs.Tails.{noted_cell, noted_slot as noted_slot_of, noted_text, tail_text, slot_before, step_tail, part_cell, value_tail};
 
-use crate::Said;
 use ga_event::Part;
 use ga_grid::NodeId;
 use ga_lab::{Lab, Walk};
 use ga_node::{Node, Place};
 use ga_notes::Notes;
 use ga_origin::{Value, fetched_near};
-use ga_text::Writer;
+use ga_text::{Spoken, Writer};
 use std::io::Write;
 
 /// The slot of a fetch.
@@ -163,7 +162,7 @@ fn say_tail<W: Write>(
     cell: Option<u8>,
     slot: usize,
     writer: &mut Writer<'_, W>,
-) -> Said
+) -> Spoken
     ensures { SaysExactly result (tail_text notes.now node cell slot) W.contents writer.old writer.new }
 {
     say_noted(notes, node, cell, slot, writer)?;
@@ -177,7 +176,7 @@ fn say_noted<W: Write>(
     cell: Option<u8>,
     slot: usize,
     writer: &mut Writer<'_, W>,
-) -> Said
+) -> Spoken
     ensures { SaysExactly result (noted_text notes.now node cell slot) W.contents writer.old writer.new }
 {
     writer.say_blocks(noted(notes, node, cell))?;
@@ -196,7 +195,7 @@ pub(crate) fn say_step_tail<W: Write>(
     node: NodeId,
     step: u32,
     writer: &mut Writer<'_, W>,
-) -> Said
+) -> Spoken
     requires { near.now ≡ standing lab.now at near.now.step }
     ensures { SaysExactly result (step_tail notes.now lab.now node step) W.contents writer.old writer.new }
 {
@@ -215,7 +214,7 @@ pub(crate) fn say_walk_tail<W: Write>(
     node: NodeId,
     walk: &Walk<'_>,
     writer: &mut Writer<'_, W>,
-) -> Said
+) -> Spoken
     requires { walk.now ≡ standing lab.now node walk.now.step }
     ensures { SaysExactly result (step_tail notes.now lab.now node walk.now.step) W.contents writer.old writer.new }
 {
@@ -234,7 +233,7 @@ pub(crate) fn say_value_tail<W: Write>(
     at: NodeId,
     value: Value,
     writer: &mut Writer<'_, W>,
-) -> Said
+) -> Spoken
     requires { near.now ≡ standing lab.now at near.now.step }
     ensures { SaysExactly result (value_tail notes.now lab.now value) W.contents writer.old writer.new }
 {

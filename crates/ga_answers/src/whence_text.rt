@@ -9,7 +9,6 @@ ghost use Rattle.ga_text.specs.Output.{Says, SaysExactly};
 ghost use Rattle.ga_answers.specs.Trees.{blanks, tree_row_text, rows_by, value_text, did_text, head_text, more_text, TellsAsked, TellsWhence};
 ghost use Rattle.ga_answers.specs.kept.{is_first};
 
-use crate::Said;
 use crate::deed_text::{DEED_ROOM, push_deed};
 use crate::part_text::{push_mark, push_part};
 use crate::tail_text::{say_value_tail, say_walk_tail};
@@ -19,7 +18,7 @@ use ga_grid::NodeId;
 use ga_lab::{Lab, LabFault, Walk};
 use ga_notes::Notes;
 use ga_origin::{Row, Value, asked_behind, whence_near};
-use ga_text::{Writer, STEP_ROOM, TextBuffer, WriteFailed, push_node, push_step, push_text};
+use ga_text::{STEP_ROOM, Spoken, TextBuffer, Writer, push_node, push_step, push_text};
 use std::alloc::Global;
 use std::io::Write;
 
@@ -41,7 +40,7 @@ pub fn say_whence<W: Write>(
     node: NodeId,
     step: u32,
     writer: &mut Writer<'_, W>,
-) -> Result<(), WriteFailed>
+) -> Spoken
     ensures { Says result (TellsWhence notes.now lab.now node step) W.contents writer.old writer.new }
 {
     if !lab.stands((node, step)) {
@@ -63,7 +62,7 @@ fn say_asked<W: Write>(
     node: NodeId,
     value: Value,
     writer: &mut Writer<'_, W>,
-) -> Said
+) -> Spoken
     requires part { IsPart value.part }
     requires near { near.now ≡ standing lab.now node near.now.step }
     ensures { Says result (λ text. TellsAsked notes.now lab.now node near.now.step (Some value) text)
@@ -104,7 +103,7 @@ fn say_rows<W: Write>(
     node: NodeId,
     rows: &[Row],
     writer: &mut Writer<'_, W>,
-) -> Said
+) -> Spoken
     requires { near.now ≡ standing lab.now node near.now.step }
     ensures { Says result (λ text. text ≡ rows_by notes.now lab.now node near.now.step (is_first near.now.step rows.now) rows.now)
         W.contents writer.old writer.new }
@@ -123,7 +122,7 @@ fn say_head<W: Write>(
     near: &Walk<'_>,
     node: NodeId,
     writer: &mut Writer<'_, W>,
-) -> Said
+) -> Spoken
     requires { near.now ≡ standing lab.now node near.now.step }
     ensures { Says result (λ text. text ≡ head_text notes.now lab.now node near.now.step)
         W.contents writer.old writer.new }
@@ -141,7 +140,7 @@ fn say_lines<W: Write>(
     deeper: u8,
     rows: &[Row],
     writer: &mut Writer<'_, W>,
-) -> Said
+) -> Spoken
     requires { near.now ≡ standing lab.now at near.now.step }
     ensures { Says result (λ text. text ≡ flat_map (tree_row_text notes.now lab.now deeper) rows.now)
         W.contents writer.old writer.new }
@@ -161,7 +160,7 @@ pub(crate) fn say_row<W: Write>(
     deeper: u8,
     row: Row,
     writer: &mut Writer<'_, W>,
-) -> Said
+) -> Spoken
     requires { near.now ≡ standing lab.now at near.now.step }
     ensures { SaysExactly result (tree_row_text notes.now lab.now deeper row) W.contents writer.old writer.new }
 {
@@ -171,7 +170,7 @@ pub(crate) fn say_row<W: Write>(
 }
 
 /// Says two blanks for each level.
-fn say_blanks<W: Write>(levels: u64, writer: &mut Writer<'_, W>) -> Said
+fn say_blanks<W: Write>(levels: u64, writer: &mut Writer<'_, W>) -> Spoken
     ensures { SaysExactly result (blanks levels) W.contents writer.old writer.new }
 {
     let mut left = levels;

@@ -11,7 +11,6 @@ ghost use Rattle.ga_answers.specs.Waiting.{doing_word, does_text, beside_text, a
 ghost use Rattle.ga_answers.specs.Telling.{TellsWho};
 
 use super::ring_text::say_rings;
-use crate::Said;
 use arrayvec::ArrayVec;
 use ga_grid::{Chip, NodeId, neighbour};
 use ga_lab::Lab;
@@ -19,7 +18,7 @@ use ga_node::{Node, Wait};
 use ga_ports::Side;
 use ga_races::{awaits, find_stuck};
 use ga_search::find_idle;
-use ga_text::{NUMBER_ROOM, Writer, TextBuffer, WriteFailed, push_node, push_number, push_text};
+use ga_text::{NUMBER_ROOM, Spoken, TextBuffer, Writer, push_node, push_number, push_text};
 use std::io::Write;
 
 /// The most bytes of what a node does.
@@ -51,7 +50,7 @@ type StuckLine = ArrayVec<u8, STUCK_ROOM>;
 ///
 /// # Errors
 /// A write failed.
-pub fn say_who<W: Write>(lab: &Lab, writer: &mut Writer<'_, W>) -> Result<(), WriteFailed>
+pub fn say_who<W: Write>(lab: &Lab, writer: &mut Writer<'_, W>) -> Spoken
     ensures { Says result (TellsWho lab.now) W.contents writer.old writer.new }
 {
     let chip = lab.chip();
@@ -64,11 +63,7 @@ pub fn say_who<W: Write>(lab: &Lab, writer: &mut Writer<'_, W>) -> Result<(), Wr
 }
 
 /// Says the lines of the nodes that wait and are not idle.
-fn say_waiting<W: Write>(
-    chip: &Chip,
-    idle: &[bool; 144],
-    writer: &mut Writer<'_, W>,
-) -> Said
+fn say_waiting<W: Write>(chip: &Chip, idle: &[bool; 144], writer: &mut Writer<'_, W>) -> Spoken
     ensures { Says result (λ text. text ≡ all_waiting (records_of chip.now) (is_marked idle.now))
         W.contents writer.old writer.new }
 {
@@ -84,7 +79,7 @@ fn say_node<W: Write>(
     idle: &[bool; 144],
     node: NodeId,
     writer: &mut Writer<'_, W>,
-) -> Said
+) -> Spoken
     ensures { SaysExactly result (busy_text (records_of chip.now) (is_marked idle.now) node.number) W.contents writer.old writer.new }
 {
     writer.say_blocks(busy_line(chip, idle, node).as_slice())

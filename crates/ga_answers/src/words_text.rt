@@ -5,14 +5,13 @@ ghost use Rattle.ga_text.specs.Lines.{Bytes};
 ghost use Rattle.ga_text.specs.Output.{Says, SaysExactly};
 ghost use Rattle.ga_answers.specs.Texts.{sent_text, words_head, linked_text, link_words_text};
 
-use crate::Said;
 use arrayvec::ArrayVec;
 use ga_grid::NodeId;
 use ga_lab::Lab;
 use ga_races::are_linked;
 use ga_search::{Sent, Words, count_words};
 use ga_text::{
-    Writer, TextBuffer, WriteFailed, push_node, push_number, push_spaced, push_step, push_text,
+    Spoken, TextBuffer, Writer, push_node, push_number, push_spaced, push_step, push_text,
 };
 use std::io::Write;
 
@@ -25,7 +24,7 @@ pub fn say_words<W: Write>(
     from: NodeId,
     to: NodeId,
     writer: &mut Writer<'_, W>,
-) -> Result<(), WriteFailed>
+) -> Spoken
     ensures { Says result (λ text. text ≡ link_words_text lab.now from to) W.contents writer.old writer.new }
 {
     if are_linked(from, to) {
@@ -36,12 +35,7 @@ pub fn say_words<W: Write>(
 }
 
 /// Says how many there are, then each of them.
-fn say_linked<W: Write>(
-    lab: &Lab,
-    from: NodeId,
-    to: NodeId,
-    writer: &mut Writer<'_, W>,
-) -> Said
+fn say_linked<W: Write>(lab: &Lab, from: NodeId, to: NodeId, writer: &mut Writer<'_, W>) -> Spoken
     ensures { Says result (λ text. text ≡ linked_text lab.now from to)
         W.contents writer.old writer.new }
 {
@@ -58,12 +52,7 @@ fn say_linked<W: Write>(
 }
 
 /// Says one of them.
-fn say_sent<W: Write>(
-    from: NodeId,
-    to: NodeId,
-    sent: &Sent,
-    writer: &mut Writer<'_, W>,
-) -> Said
+fn say_sent<W: Write>(from: NodeId, to: NodeId, sent: &Sent, writer: &mut Writer<'_, W>) -> Spoken
     ensures { SaysExactly result (sent_text from to sent.now) W.contents writer.old writer.new }
 {
     writer.say_blocks(sent_line(from, to, sent).as_slice())

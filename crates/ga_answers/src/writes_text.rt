@@ -6,13 +6,12 @@ ghost use Rattle.ga_text.specs.Lines.{Bytes};
 ghost use Rattle.ga_event.specs.Told.{steps_of};
 ghost use Rattle.ga_answers.specs.Writing.{written_text, cell_writes, writes_text};
 
-use crate::Said;
 use crate::deed_text::push_deed;
 use arrayvec::ArrayVec;
 use ga_grid::NodeId;
 use ga_lab::Lab;
 use ga_origin::{CellWrite, CellWrites};
-use ga_text::{Writer, TextBuffer, WriteFailed, push_spaced, push_step, push_text};
+use ga_text::{Spoken, TextBuffer, Writer, push_spaced, push_step, push_text};
 use std::io::Write;
 
 /// `writes NNN HH`: tells the steps of a node that wrote at an address of its memory, the newest first. Takes no memory.
@@ -24,7 +23,7 @@ pub fn say_writes<W: Write>(
     node: NodeId,
     address: u8,
     writer: &mut Writer<'_, W>,
-) -> Result<(), WriteFailed>
+) -> Spoken
     ensures { Says result (λ text. text ≡ writes_text lab.now node address) W.contents writer.old writer.new }
 {
     if address < 128 {
@@ -35,12 +34,7 @@ pub fn say_writes<W: Write>(
 }
 
 /// Says the steps that wrote a cell of RAM.
-fn say_cell<W: Write>(
-    lab: &Lab,
-    node: NodeId,
-    cell: u8,
-    writer: &mut Writer<'_, W>,
-) -> Said
+fn say_cell<W: Write>(lab: &Lab, node: NodeId, cell: u8, writer: &mut Writer<'_, W>) -> Spoken
     requires { cell < 64 }
     ensures { Says result (λ text. text ≡ cell_writes lab.now node cell (steps_of node.number lab.now.kept))
         W.contents writer.old writer.new }

@@ -3,16 +3,15 @@ ghost use Rattle.ga_text.specs.Output.{Says};
 ghost use Rattle.ga_console.specs.Replies.{Does};
 ghost use Rattle.ga_console.specs.declared.command.Command.TheVariants.{Step, Back, Rewind};
 
-use super::reply::Said;
 use ga_display::{refusal_text, say_made, say_removed};
 use ga_grid::NodeId;
 use ga_lab::Lab;
-use ga_text::Writer;
+use ga_text::{Spoken, Writer};
 use std::io::Write;
 
 /// `step NNN`: makes the node's next event.
 #[inline(always)]
-pub fn step<W: Write>(lab: &mut Lab, node: NodeId, writer: &mut Writer<'_, W>) -> Said
+pub fn step<W: Write>(lab: &mut Lab, node: NodeId, writer: &mut Writer<'_, W>) -> Spoken
     ensures { Says result (λ text. Does lab.old (Step node) text lab.new)
         W.contents writer.old writer.new }
 {
@@ -23,7 +22,7 @@ pub fn step<W: Write>(lab: &mut Lab, node: NodeId, writer: &mut Writer<'_, W>) -
 }
 
 /// `back`: takes the newest event back.
-pub fn back<W: Write>(lab: &mut Lab, writer: &mut Writer<'_, W>) -> Said
+pub fn back<W: Write>(lab: &mut Lab, writer: &mut Writer<'_, W>) -> Spoken
     ensures { Says result (λ text. Does lab.old Back text lab.new)
         W.contents writer.old writer.new }
 {
@@ -39,7 +38,7 @@ pub fn rewind<W: Write>(
     node: NodeId,
     step: u32,
     writer: &mut Writer<'_, W>,
-) -> Said
+) -> Spoken
     ensures { Says result (λ text. Does lab.old (Rewind node step) text lab.new)
         W.contents writer.old writer.new }
 {

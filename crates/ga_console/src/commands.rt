@@ -7,7 +7,7 @@ ghost use Rattle.ga_console.specs.Session.{Serves, Written};
 
 use super::ahead::{Ahead, ahead_of};
 use super::responder::{Responder, Turn};
-use ga_text::{Input, LineBuffer, LineEnd, Writer, WriteFailed, read_line};
+use ga_text::{Input, LineBuffer, LineEnd, WriteFailed, Writer, read_line};
 use std::alloc::Global;
 use std::io::{Read, Write};
 

@@ -5,19 +5,18 @@ ghost use Rattle.ga_display.specs.Texts.{made_text, chain_text};
 ghost use Rattle.ga_console.specs.Replies.{Does, steps_text};
 ghost use Rattle.ga_console.specs.declared.command.Command.TheVariants.{Node, Memory, Trace, Why, Count, Dump};
 
-use super::reply::Said;
 use ga_display::{
     refusal_text, say_chain_count, say_counts, say_made, say_memory, say_node, say_trace,
 };
 use ga_grid::NodeId;
 use ga_image::print;
 use ga_lab::{Lab, LabFault, Made};
-use ga_text::Writer;
+use ga_text::{Spoken, Writer};
 use std::alloc::Global;
 use std::io::Write;
 
 /// `node NNN`: shows the node.
-pub fn node<W: Write>(lab: &Lab, node: NodeId, writer: &mut Writer<'_, W>) -> Said
+pub fn node<W: Write>(lab: &Lab, node: NodeId, writer: &mut Writer<'_, W>) -> Spoken
     ensures { Says result (λ text. Does lab.now (Node node) text lab.now)
         W.contents writer.old writer.new }
 {
@@ -25,12 +24,7 @@ pub fn node<W: Write>(lab: &Lab, node: NodeId, writer: &mut Writer<'_, W>) -> Sa
 }
 
 /// `mem NNN HH`: shows the word at an address of the node's memory.
-pub fn memory<W: Write>(
-    lab: &Lab,
-    node: NodeId,
-    address: u8,
-    writer: &mut Writer<'_, W>,
-) -> Said
+pub fn memory<W: Write>(lab: &Lab, node: NodeId, address: u8, writer: &mut Writer<'_, W>) -> Spoken
     ensures { Says result (λ text. Does lab.now (Memory node address) text lab.now)
         W.contents writer.old writer.new }
 {
@@ -38,7 +32,7 @@ pub fn memory<W: Write>(
 }
 
 /// `count`: shows how many events are kept, how many were made, and how many may be kept.
-pub fn count<W: Write>(lab: &Lab, writer: &mut Writer<'_, W>) -> Said
+pub fn count<W: Write>(lab: &Lab, writer: &mut Writer<'_, W>) -> Spoken
     ensures { Says result (λ text. Does lab.now Count text lab.now)
         W.contents writer.old writer.new }
 {
@@ -46,7 +40,7 @@ pub fn count<W: Write>(lab: &Lab, writer: &mut Writer<'_, W>) -> Said
 }
 
 /// `trace NNN`: shows the steps of the node, a line for each.
-pub fn trace<W: Write>(lab: &Lab, node: NodeId, writer: &mut Writer<'_, W>) -> Said
+pub fn trace<W: Write>(lab: &Lab, node: NodeId, writer: &mut Writer<'_, W>) -> Spoken
     ensures { Says result (λ text. Does lab.now (Trace node) text lab.now)
         W.contents writer.old writer.new }
 {
@@ -57,7 +51,7 @@ pub fn trace<W: Write>(lab: &Lab, node: NodeId, writer: &mut Writer<'_, W>) -> S
 }
 
 /// Says how many steps there are, then each of them.
-fn say_steps<W: Write>(node: NodeId, steps: &[Made], writer: &mut Writer<'_, W>) -> Said
+fn say_steps<W: Write>(node: NodeId, steps: &[Made], writer: &mut Writer<'_, W>) -> Spoken
     ensures { Says result (λ text. text ≡ steps_text node steps.now)
         W.contents writer.old writer.new }
 {
@@ -74,7 +68,7 @@ pub fn why<W: Write>(
     from: (NodeId, u32),
     to: (NodeId, u32),
     writer: &mut Writer<'_, W>,
-) -> Said
+) -> Spoken
     ensures { Says result (λ text. Does lab.now (Why from.0 from.1 to.0 to.1) text lab.now)
         W.contents writer.old writer.new }
 {
@@ -86,7 +80,7 @@ pub fn why<W: Write>(
 }
 
 /// Says how many events a chain has, then what is told of each of them.
-fn say_chain<W: Write>(events: &[Made], writer: &mut Writer<'_, W>) -> Said
+fn say_chain<W: Write>(events: &[Made], writer: &mut Writer<'_, W>) -> Spoken
     ensures { Says result (λ text. text ≡ chain_text (length events.now) ++ flat_map made_text events.now)
         W.contents writer.old writer.new }
 {
@@ -98,7 +92,7 @@ fn say_chain<W: Write>(events: &[Made], writer: &mut Writer<'_, W>) -> Said
 }
 
 /// `dump`: shows the chip as an image.
-pub fn dump<W: Write>(alloc: Global, lab: &Lab, writer: &mut Writer<'_, W>) -> Said
+pub fn dump<W: Write>(alloc: Global, lab: &Lab, writer: &mut Writer<'_, W>) -> Spoken
     ensures { Says result (λ text. Does lab.now Dump text lab.now)
         W.contents writer.old writer.new }
 {

@@ -9,12 +9,9 @@ use super::readings::{count, dump, memory, node, trace, why};
 use super::responder::Turn;
 use ga_image::LINE_LIMIT;
 use ga_lab::Lab;
-use ga_text::{Writer, WriteFailed};
+use ga_text::{Spoken, WriteFailed, Writer};
 use std::alloc::Global;
 use std::io::Write;
-
-/// What comes of saying an answer: a write may fail.
-pub type Said = Result<(), WriteFailed>;
 
 /// Answers a line, of which at least the first 201 bytes are here.
 ///
@@ -58,7 +55,7 @@ pub fn obey<W: Write>(
     lab: &mut Lab,
     command: Command,
     writer: &mut Writer<'_, W>,
-) -> Said
+) -> Spoken
     ensures { Says result (λ text. Does lab.old command text lab.new)
         W.contents writer.old writer.new }
 {

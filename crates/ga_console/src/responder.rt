@@ -8,7 +8,7 @@ ghost use Rattle.ga_console.specs.kept.Run.{Turns, AnswersCommand};
 use super::command::Command;
 use super::reply;
 use ga_lab::Lab;
-use ga_text::{Writer, WriteFailed};
+use ga_text::{Spoken, WriteFailed, Writer};
 use std::alloc::Global;
 use std::io::Write;
 
@@ -55,7 +55,7 @@ pub trait Responder: Drop {
         alloc: Global,
         command: Command,
         writer: &mut Writer<'_, W>,
-    ) -> Result<(), WriteFailed>
+    ) -> Spoken
         ensures { Says result (AnswersCommand answers self.old command self.new)
             W.contents writer.old writer.new };
 }
@@ -86,7 +86,7 @@ impl Responder for Lab {
         alloc: Global,
         command: Command,
         writer: &mut Writer<'_, W>,
-    ) -> Result<(), WriteFailed> {
+    ) -> Spoken {
         reply::obey(alloc, self, command, writer)
     }
 }

@@ -11,7 +11,7 @@ use super::responder::Responder;
 use ga_display::put_fault;
 use ga_image::{ImageCause, ImageFault, parse};
 use ga_lab::Lab;
-use ga_text::{ImageEnd, Input, Writer, TextBuffer, WriteFailed, read_image, write_all};
+use ga_text::{ImageEnd, Input, TextBuffer, WriteFailed, Writer, read_image, write_all};
 use std::alloc::Global;
 use std::io::{Read, Write};
 

@@ -18,7 +18,7 @@ use ga_explorer::answer_line;
 use ga_grid::NodeId;
 use ga_protocol::ClientRequest;
 use ga_responses::{Debuggee, evaluate, first_shown, framed_node_asked, is_stuck};
-use ga_text::{Writer, PENDING_ROOM};
+use ga_text::{PENDING_ROOM, Writer};
 use serde_json::{Value, json};
 use std::alloc::{AllocError, Global};
 

@@ -10,7 +10,7 @@ use super::node_text::{push_memory_line, push_node_line};
 use ga_grid::NodeId;
 use ga_lab::{Counts, Made};
 use ga_node::Node;
-use ga_text::{LINE_ROOM, Writer, WriteFailed};
+use ga_text::{LINE_ROOM, Spoken, Writer};
 use ga_word::Word18;
 use std::io::Write;
 
@@ -19,10 +19,7 @@ use std::io::Write;
 /// # Errors
 /// A write failed.
 #[inline(always)]
-pub fn say_made<W: Write>(
-    writer: &mut Writer<'_, W>,
-    made: Made,
-) -> Result<(), WriteFailed>
+pub fn say_made<W: Write>(writer: &mut Writer<'_, W>, made: Made) -> Spoken
     ensures { SaysExactly result (made_text made) W.contents writer.old writer.new }
 {
     writer.make_room(LINE_ROOM)?;
@@ -34,11 +31,7 @@ pub fn say_made<W: Write>(
 ///
 /// # Errors
 /// A write failed.
-pub fn say_removed<W: Write>(
-    writer: &mut Writer<'_, W>,
-    removed: u32,
-    kept: u32,
-) -> Result<(), WriteFailed>
+pub fn say_removed<W: Write>(writer: &mut Writer<'_, W>, removed: u32, kept: u32) -> Spoken
     ensures { SaysExactly result (removed_text removed kept) W.contents writer.old writer.new }
 {
     writer.make_room(LINE_ROOM)?;
@@ -50,11 +43,7 @@ pub fn say_removed<W: Write>(
 ///
 /// # Errors
 /// A write failed.
-pub fn say_node<W: Write>(
-    writer: &mut Writer<'_, W>,
-    node: NodeId,
-    at: &Node,
-) -> Result<(), WriteFailed>
+pub fn say_node<W: Write>(writer: &mut Writer<'_, W>, node: NodeId, at: &Node) -> Spoken
     ensures { SaysExactly result (node_text node (record_of at.now)) W.contents writer.old writer.new }
 {
     writer.make_room(LINE_ROOM)?;
@@ -71,7 +60,7 @@ pub fn say_memory<W: Write>(
     node: NodeId,
     address: u8,
     word: Word18,
-) -> Result<(), WriteFailed>
+) -> Spoken
     ensures { SaysExactly result (memory_text node address word) W.contents writer.old writer.new }
 {
     writer.make_room(LINE_ROOM)?;
@@ -83,10 +72,7 @@ pub fn say_memory<W: Write>(
 ///
 /// # Errors
 /// A write failed.
-pub fn say_counts<W: Write>(
-    writer: &mut Writer<'_, W>,
-    counts: Counts,
-) -> Result<(), WriteFailed>
+pub fn say_counts<W: Write>(writer: &mut Writer<'_, W>, counts: Counts) -> Spoken
     ensures { SaysExactly result (counts_text counts.kept counts.made counts.limit) W.contents writer.old writer.new }
 {
     writer.make_room(LINE_ROOM)?;
@@ -98,11 +84,7 @@ pub fn say_counts<W: Write>(
 ///
 /// # Errors
 /// A write failed.
-pub fn say_trace<W: Write>(
-    writer: &mut Writer<'_, W>,
-    node: NodeId,
-    count: usize,
-) -> Result<(), WriteFailed>
+pub fn say_trace<W: Write>(writer: &mut Writer<'_, W>, node: NodeId, count: usize) -> Spoken
     ensures { SaysExactly result (trace_text node count) W.contents writer.old writer.new }
 {
     writer.make_room(LINE_ROOM)?;
@@ -114,10 +96,7 @@ pub fn say_trace<W: Write>(
 ///
 /// # Errors
 /// A write failed.
-pub fn say_chain_count<W: Write>(
-    writer: &mut Writer<'_, W>,
-    count: usize,
-) -> Result<(), WriteFailed>
+pub fn say_chain_count<W: Write>(writer: &mut Writer<'_, W>, count: usize) -> Spoken
     ensures { SaysExactly result (chain_text count) W.contents writer.old writer.new }
 {
     writer.make_room(LINE_ROOM)?;

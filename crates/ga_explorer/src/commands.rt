@@ -18,7 +18,7 @@ use ga_grid::NodeId;
 use ga_lab::Lab;
 use ga_notes::Notes;
 use ga_search::Schedule;
-use ga_text::{Writer, WriteFailed, cut, node_in};
+use ga_text::{Spoken, Writer, cut, node_in};
 use std::alloc::Global;
 use std::io::Write;
 
@@ -188,7 +188,7 @@ pub(crate) fn told<W: Write>(
     notes: &Option<Notes>,
     asked: Question,
     writer: &mut Writer<'_, W>,
-) -> Result<(), WriteFailed>
+) -> Spoken
     ensures said { IsTold result (exploring lab.old notes.now) asked W.contents writer.old writer.new }
     ensures same { lab.new ≡ lab.old }
 {

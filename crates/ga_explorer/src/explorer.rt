@@ -15,7 +15,7 @@ use ga_image::LINE_LIMIT;
 use ga_lab::Lab;
 use ga_notes::Notes;
 use ga_search::{conditions_asked, run_schedule};
-use ga_text::{Writer, WriteFailed};
+use ga_text::{Spoken, WriteFailed, Writer};
 use std::alloc::Global;
 use std::io::Write;
 use std::marker::Model;
@@ -88,7 +88,7 @@ impl Responder for Explorer {
         alloc: Global,
         command: Command,
         writer: &mut Writer<'_, W>,
-    ) -> Result<(), WriteFailed> {
+    ) -> Spoken {
         self.lab.obey(alloc, command, writer)
     }
 }
@@ -126,7 +126,7 @@ fn explored<W: Write>(
     notes: &Option<Notes>,
     asked: ExplorerCommand,
     writer: &mut Writer<'_, W>,
-) -> Result<(), WriteFailed>
+) -> Spoken
     ensures { Says result (λ text. Explored (exploring lab.old notes.now) asked text (exploring lab.new notes.now))
         W.contents writer.old writer.new }
 {

@@ -9,7 +9,7 @@ ghost use Rattle.ga_explorer.specs.NoCommand.{form_of_command, near_form_in, for
 ghost use Rattle.ga_explorer.specs.kept.{entry_of};
 
 use crate::commands::rows;
-use ga_text::{Writer, WriteFailed, cut};
+use ga_text::{Spoken, Writer, cut};
 use std::fmt;
 use std::io::Write;
 
@@ -31,14 +31,14 @@ pub(crate) struct Row {
 ///
 /// # Errors
 /// A write failed.
-pub(crate) fn say_help<W: Write>(writer: &mut Writer<'_, W>) -> Result<(), WriteFailed>
+pub(crate) fn say_help<W: Write>(writer: &mut Writer<'_, W>) -> Spoken
     ensures { Says result (λ text. text ≡ form_rows_text rows)
         W.contents writer.old writer.new }
 {
     say_rows(rows(), writer)
 }
 
-fn say_rows<W: Write>(rows: &[Row], writer: &mut Writer<'_, W>) -> Result<(), WriteFailed>
+fn say_rows<W: Write>(rows: &[Row], writer: &mut Writer<'_, W>) -> Spoken
     ensures { Says result (λ text. text ≡ form_rows_text (map entry_of rows.now))
         W.contents writer.old writer.new }
 {
@@ -48,7 +48,7 @@ fn say_rows<W: Write>(rows: &[Row], writer: &mut Writer<'_, W>) -> Result<(), Wr
     Ok(())
 }
 
-fn say_row<W: Write>(row: &Row, writer: &mut Writer<'_, W>) -> Result<(), WriteFailed>
+fn say_row<W: Write>(row: &Row, writer: &mut Writer<'_, W>) -> Spoken
     ensures { SaysExactly result (form_row_text (entry_of row.now)) W.contents writer.old writer.new }
 {
     writer.say_blocks(row.form)?;
@@ -71,10 +71,7 @@ impl fmt::Display for Usage {
 ///
 /// # Errors
 /// A write failed.
-pub(crate) fn say_command<W: Write>(
-    place: usize,
-    writer: &mut Writer<'_, W>,
-) -> Result<(), WriteFailed>
+pub(crate) fn say_command<W: Write>(place: usize, writer: &mut Writer<'_, W>) -> Spoken
     ensures { Says result (λ text. text ≡ command_text place)
         W.contents writer.old writer.new }
 {
@@ -84,7 +81,7 @@ pub(crate) fn say_command<W: Write>(
     }
 }
 
-fn say_about<W: Write>(row: &Row, writer: &mut Writer<'_, W>) -> Result<(), WriteFailed>
+fn say_about<W: Write>(row: &Row, writer: &mut Writer<'_, W>) -> Spoken
     ensures { SaysExactly result (about_text (entry_of row.now)) W.contents writer.old writer.new }
 {
     say_row(row, writer)?;
@@ -123,10 +120,7 @@ pub(crate) fn row_in(rows: &'static [Row], place: usize) -> Option<&'static Row>
 ///
 /// # Errors
 /// A write failed.
-pub(crate) fn say_no_command<W: Write>(
-    line: &[u8],
-    writer: &mut Writer<'_, W>,
-) -> Result<(), WriteFailed>
+pub(crate) fn say_no_command<W: Write>(line: &[u8], writer: &mut Writer<'_, W>) -> Spoken
     ensures { Says result (λ text. text ≡ no_command line.now)
         W.contents writer.old writer.new }
 {
@@ -135,7 +129,7 @@ pub(crate) fn say_no_command<W: Write>(
 }
 
 /// Says what to write in place of a line that is no command.
-fn say_cure<W: Write>(line: &[u8], writer: &mut Writer<'_, W>) -> Result<(), WriteFailed>
+fn say_cure<W: Write>(line: &[u8], writer: &mut Writer<'_, W>) -> Spoken
     ensures { SaysExactly result ((cure line.now ++ codes "\n")) W.contents writer.old writer.new }
 {
     writer.say_blocks(cure(line))?;

@@ -24,7 +24,7 @@ use ga_console::Status;
 use ga_display::refusal_text;
 use ga_explorer::begin;
 use ga_lab::{Lab, LabFault};
-use ga_text::{Input, Writer, WriteFailed};
+use ga_text::{Input, Spoken, Writer};
 use std::alloc::Global;
 use std::io::{Read, Write};
 use std::sync::atomic::AtomicU64;
@@ -242,19 +242,11 @@ fn tell_no_memory<W: Write>(writer: &mut W) -> Verdict
 {
     let mut out = Writer::new(writer);
     let said = out.say(refusal_text(LabFault::Memory));
-    sent(
-        said,
-        Verdict::Ended(Status::ImageRefused),
-        &mut out,
-    )
+    sent(said, Verdict::Ended(Status::ImageRefused), &mut out)
 }
 
 /// Writes what is pending of what was said, and answers a verdict, or that a write failed.
-fn sent<W: Write>(
-    said: Result<(), WriteFailed>,
-    verdict: Verdict,
-    writer: &mut Writer<'_, W>,
-) -> Verdict
+fn sent<W: Write>(said: Spoken, verdict: Verdict, writer: &mut Writer<'_, W>) -> Verdict
     ensures same { IsSameStream writer.old writer.new }
     ensures written { (before whole : Bytes) → IsSaidOrCut said (W.contents writer.old.stream.now) before whole writer.old.pending.items →
         (text : Bytes) × (W.contents writer.new.stream.now ≡ Some (before ++ text)) × IsTextOut whole verdict text result }

@@ -11,7 +11,7 @@ use arrayvec::ArrayVec;
 use ga_check::tally::{EndKind, Fate, Tally};
 use ga_grid::NodeId;
 use ga_text::{
-    NODE_ROOM, NUMBER_ROOM, Writer, TextBuffer, WriteFailed, push_node, push_number, push_text,
+    NODE_ROOM, NUMBER_ROOM, Spoken, TextBuffer, Writer, push_node, push_number, push_text,
 };
 use std::io::Write;
 
@@ -56,10 +56,7 @@ type KindLine = ArrayVec<u8, KIND_ROOM>;
 ///
 /// # Errors
 /// A write failed.
-pub(crate) fn say_orders<W: Write>(
-    tally: &Tally,
-    writer: &mut Writer<'_, W>,
-) -> Result<(), WriteFailed>
+pub(crate) fn say_orders<W: Write>(tally: &Tally, writer: &mut Writer<'_, W>) -> Spoken
     ensures { Says result (λ text. text ≡ orders_text tally.now)
         W.contents writer.old writer.new }
 {
@@ -67,11 +64,7 @@ pub(crate) fn say_orders<W: Write>(
 }
 
 /// Says how many orders there are, then each of these kinds of end.
-fn say_kinds<W: Write>(
-    tally: &Tally,
-    kinds: &[EndKind],
-    writer: &mut Writer<'_, W>,
-) -> Result<(), WriteFailed>
+fn say_kinds<W: Write>(tally: &Tally, kinds: &[EndKind], writer: &mut Writer<'_, W>) -> Spoken
     ensures { Says result (λ text. text ≡ orders_with tally.now kinds.now)
         W.contents writer.old writer.new }
 {
@@ -83,10 +76,7 @@ fn say_kinds<W: Write>(
 }
 
 /// Says a kind of end.
-fn say_kind<W: Write>(
-    kind: &EndKind,
-    writer: &mut Writer<'_, W>,
-) -> Result<(), WriteFailed>
+fn say_kind<W: Write>(kind: &EndKind, writer: &mut Writer<'_, W>) -> Spoken
     ensures { SaysExactly result (end_kind_text kind.now) W.contents writer.old writer.new }
 {
     writer.say_blocks(kind_line(kind).as_slice())
@@ -100,7 +90,7 @@ pub(crate) fn say_no_order<W: Write>(
     asked: u64,
     tally: &Tally,
     writer: &mut Writer<'_, W>,
-) -> Result<(), WriteFailed>
+) -> Spoken
     ensures { Says result (λ text. text ≡ no_order_text asked tally.now)
         W.contents writer.old writer.new }
 {

@@ -11,7 +11,7 @@ ghost use Rattle.ga_explorer.specs.Answers.{Explores};
 use ga_console::{Command, Responder, Turn};
 use ga_explorer::Explorer;
 use ga_lab::Lab;
-use ga_text::{Writer, WriteFailed};
+use ga_text::{Spoken, WriteFailed, Writer};
 use std::alloc::Global;
 use std::io::Write;
 
@@ -112,7 +112,7 @@ impl Responder for Silent {
         alloc: Global,
         command: Command,
         _writer: &mut Writer<'_, W>,
-    ) -> Result<(), WriteFailed> {
+    ) -> Spoken {
         self.hear_command(alloc, command);
         Ok(())
     }

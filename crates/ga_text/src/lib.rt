@@ -13,7 +13,7 @@ mod words;
 pub use image::{ImageEnd, read_image};
 pub use input::{Input, feed_at};
 pub use lines::{LineBuffer, LineEnd, first_line, read_line};
-pub use output::{PENDING_ROOM, WriteFailed, Writer, write_all};
+pub use output::{PENDING_ROOM, Spoken, WriteFailed, Writer, write_all};
 pub use text::{
     BYTE_ROOM, LINE_ROOM, NODE_ROOM, NUMBER_ROOM, STEP_ROOM, TextBuffer, WORD_ROOM, hex2,
     name_numbered, push_byte, push_digit, push_eight, push_node, push_node_spaced, push_number,

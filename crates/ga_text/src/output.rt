@@ -12,6 +12,9 @@ use thiserror::Error;
 #[error("a write failed")]
 pub struct WriteFailed;
 
+/// What comes of saying something.
+pub type Spoken = Result<(), WriteFailed>;
+
 /// The bytes of a long text that are said at once.
 const BLOCK: usize = 4096;
 
@@ -58,7 +61,7 @@ impl<'w, W: Write> Writer<'w, W> {
     ///
     /// # Errors
     /// A write failed.
-    pub fn say(&mut self, text: &[u8]) -> Result<(), WriteFailed>
+    pub fn say(&mut self, text: &[u8]) -> Spoken
         requires { length text.now ≤ PENDING_ROOM }
         ensures { SaysExactly result text.now W.contents self.old self.new }
     {
@@ -71,7 +74,7 @@ impl<'w, W: Write> Writer<'w, W> {
     ///
     /// # Errors
     /// A write failed.
-    pub fn say_blocks(&mut self, text: &[u8]) -> Result<(), WriteFailed>
+    pub fn say_blocks(&mut self, text: &[u8]) -> Spoken
         ensures { SaysExactly result text.now W.contents self.old self.new }
     {
         let mut rest = text;
@@ -88,7 +91,7 @@ impl<'w, W: Write> Writer<'w, W> {
     /// # Errors
     /// A write failed.
     #[inline(always)]
-    pub fn make_room(&mut self, count: usize) -> Result<(), WriteFailed>
+    pub fn make_room(&mut self, count: usize) -> Spoken
         requires { count ≤ PENDING_ROOM }
         ensures said { SaysNothing result W.contents self.old self.new }
         ensures room { OnOk result (length self.new.pending.items + count ≤ PENDING_ROOM) }
@@ -103,7 +106,7 @@ impl<'w, W: Write> Writer<'w, W> {
     ///
     /// # Errors
     /// A write failed.
-    pub fn send(&mut self) -> Result<(), WriteFailed>
+    pub fn send(&mut self) -> Spoken
         ensures said { SaysNothing result W.contents self.old self.new }
         ensures sent { OnOk result (self.new.pending.items ≡ []) }
     {
@@ -130,7 +133,7 @@ fn forget(pending: &mut ArrayVec<u8, PENDING_ROOM>)
 ///
 /// # Errors
 /// A write failed.
-pub fn write_all<W: Write>(writer: &mut W, text: &[u8]) -> Result<(), WriteFailed>
+pub fn write_all<W: Write>(writer: &mut W, text: &[u8]) -> Spoken
     ensures { (before said : Bytes) → IsSaid (W.contents writer.old) before said text.now →
         IsSaidOrCut result (W.contents writer.new) before said [] }
 {

@@ -4,19 +4,25 @@ use Rattle.ga_answers.proofs.Saying.{around_here, last_is, around_nowhere}
 use Rattle.ga_answers.proofs.at_text.say_around.Goals as goal
 
 pub returns-then-stands : goal.returns-then-stands
-returns-then-stands g c = (search rules, λ before said h.
-    let done = c.say_places.ensures.1 before said h in (
-      done.0,
-      done.1 ∙ around_here c.args.notes.now c.args.lab.now c.args.node c.args.step c.args.around _ _ (sym c.stands.ensures.value ∙ c.if-stands.true)
-          (omega (arith, c.saturating_sub-first.ensures))
-          (last_is (c.args.step + c.args.around) (steps_of c.args.node.number c.args.lab.now.kept) c.saturating_add.result c.min-last.result c.saturating_add.ensures
-          (c.min-last.ensures ∙ ap (λ (n : ℕ). min c.saturating_add.result n) c.steps.ensures.steps) (omega (arith, c.steps.ensures.steps, c.steps.type_inv))),
-      done.2,
-    ))
+returns-then-stands g c = (
+  search rules,
+  λ before said h.
+      let done = c.say_places.ensures.1 before said h in (
+        done.0,
+        done.1 ∙ around_here c.args.notes.now c.args.lab.now c.args.node c.args.step c.args.around _ _ (sym c.stands.ensures.value ∙ c.if-stands.true)
+            (omega (arith, c.saturating_sub-first.ensures))
+            (last_is (c.args.step + c.args.around) (steps_of c.args.node.number c.args.lab.now.kept) c.saturating_add.result c.min-last.result c.saturating_add.ensures
+            (c.min-last.ensures ∙ ap (λ (n : ℕ). min c.saturating_add.result n) c.steps.ensures.steps) (omega (arith, c.steps.ensures.steps, c.steps.type_inv))),
+        done.2,
+      ),
+)
 
 pub returns-else-stands : goal.returns-else-stands
-returns-else-stands g c = (search rules, λ before said h. (
-  c.refusal_text.result.now,
-  c.refusal_text.ensures.text ∙ around_nowhere c.args.notes.now c.args.lab.now c.args.node c.args.step c.args.around (sym c.stands.ensures.value ∙ c.if-stands.false),
-  c.say.ensures.1 before said h,
-))
+returns-else-stands g c = (
+  search rules,
+  λ before said h. (
+    c.refusal_text.result.now,
+    c.refusal_text.ensures.text ∙ around_nowhere c.args.notes.now c.args.lab.now c.args.node c.args.step c.args.around (sym c.stands.ensures.value ∙ c.if-stands.false),
+    c.say.ensures.1 before said h,
+  ),
+)

@@ -5,15 +5,21 @@ use Rattle.ga_answers.specs.Texts.{back_text}
 use Rattle.ga_answers.proofs.back_text.say_back.Goals as goal
 
 pub returns-in-Some-clause-said : goal.returns-in-Some-clause-said
-returns-in-Some-clause-said g c = (search rules, λ before said h. (
-  removed_text c.in-Some.gone c.counts.result.kept,
-  ap (λ (z : ℕ). removed_text c.in-Some.gone z) c.counts.ensures.kept ∙ ap (λ (o : Option ℕ). back_text o (length c.back_until.new.lab.kept)) c.in-Some.ensures.gone,
-  c.say_removed.ensures.1 before said h,
-))
+returns-in-Some-clause-said g c = (
+  search rules,
+  λ before said h. (
+    removed_text c.in-Some.gone c.counts.result.kept,
+    ap (λ (z : ℕ). removed_text c.in-Some.gone z) c.counts.ensures.kept ∙ ap (λ (o : Option ℕ). back_text o (length c.back_until.new.lab.kept)) c.in-Some.ensures.gone,
+    c.say_removed.ensures.1 before said h,
+  ),
+)
 
 pub returns-in-None-clause-said : goal.returns-in-None-clause-said
-returns-in-None-clause-said g c = (search rules, λ before said h. (
-  codes "none\n",
-  ap (λ (o : Option ℕ). back_text o (length c.back_until.new.lab.kept)) c.in-None.ensures.gone,
-  c.say.ensures.1 before said h,
-))
+returns-in-None-clause-said g c = (
+  search rules,
+  λ before said h. (
+    codes "none\n",
+    ap (λ (o : Option ℕ). back_text o (length c.back_until.new.lab.kept)) c.in-None.ensures.gone,
+    c.say.ensures.1 before said h,
+  ),
+)

@@ -19,36 +19,42 @@ telling-init g c = record {
 }
 
 pub returns-in_default : goal.returns-in_default
-returns-in_default g c = (search rules, λ before said h.
-    let notes = c.args.notes.now in
-    let s = c.args.lab.now in
-    let node = c.args.node in
-    let at = c.telling.decisions.step in
-    let whole : List ℕ = decisions_text notes s node c.args.most (c.args.near.now.step - 1) in (
-      whole,
-      refl,
-      all_said _ before said whole _ _
-          (none_left notes s node c.telling.left at (omega (arith, c.telling-test.true))
-          (sym c.in_default.is ∙ c.next.ensures.value ∙ ap (λ (w : Standing). newest_decided w.machine w.node at) c.telling.invariant.decisions))
-          (c.telling.invariant.said before said h),
-    ))
+returns-in_default g c = (
+  search rules,
+  λ before said h.
+      let notes = c.args.notes.now in
+      let s = c.args.lab.now in
+      let node = c.args.node in
+      let at = c.telling.decisions.step in
+      let whole : List ℕ = decisions_text notes s node c.args.most (c.args.near.now.step - 1) in (
+        whole,
+        refl,
+        all_said _ before said whole _ _
+            (none_left notes s node c.telling.left at (omega (arith, c.telling-test.true))
+            (sym c.in_default.is ∙ c.next.ensures.value ∙ ap (λ (w : Standing). newest_decided w.machine w.node at) c.telling.invariant.decisions))
+            (c.telling.invariant.said before said h),
+      ),
+)
 
 pub returns-in_err-say_decision : goal.returns-in_err-say_decision
-returns-in_err-say_decision g c = (search rules, λ before said h.
-    let notes = c.args.notes.now in
-    let s = c.args.lab.now in
-    let node = c.args.node in
-    let at = c.telling.decisions.step in
-    let decision = c.in-Some.decision in
-    let whole : List ℕ = decisions_text notes s node c.args.most (c.args.near.now.step - 1) in
-    let done = c.telling.invariant.said before said h in
-    let more = next_decision notes s node c.telling.left (c.telling.left - 1) at c.next.new.self.step decision (omega (arith, c.telling-test.true)) refl
-    (c.in-Some.ensures.value ∙ ap (λ (w : Standing). newest_decided w.machine w.node at) c.telling.invariant.decisions) c.in-Some.ensures.step in (
-      whole,
-      refl,
-      cut_here c.from_residual.result _ before (said ++ whole) _ c.from_residual.ensures.0
-          (line_cut _ before said whole _ (decision_text notes s node decision) _ done.front more done.splits (c.in_err-say_decision.ensures.1 before (said ++ done.front) done.is_said)),
-    ))
+returns-in_err-say_decision g c = (
+  search rules,
+  λ before said h.
+      let notes = c.args.notes.now in
+      let s = c.args.lab.now in
+      let node = c.args.node in
+      let at = c.telling.decisions.step in
+      let decision = c.in-Some.decision in
+      let whole : List ℕ = decisions_text notes s node c.args.most (c.args.near.now.step - 1) in
+      let done = c.telling.invariant.said before said h in
+      let more = next_decision notes s node c.telling.left (c.telling.left - 1) at c.next.new.self.step decision (omega (arith, c.telling-test.true)) refl
+      (c.in-Some.ensures.value ∙ ap (λ (w : Standing). newest_decided w.machine w.node at) c.telling.invariant.decisions) c.in-Some.ensures.step in (
+        whole,
+        refl,
+        cut_here c.from_residual.result _ before (said ++ whole) _ c.from_residual.ensures.0
+            (line_cut _ before said whole _ (decision_text notes s node decision) _ done.front more done.splits (c.in_err-say_decision.ensures.1 before (said ++ done.front) done.is_said)),
+      ),
+)
 
 pub telling-preserved : goal.telling-preserved
 telling-preserved g c = record {
@@ -68,9 +74,12 @@ telling-preserved g c = record {
 }
 
 pub returns : goal.returns
-returns g c = (search rules, λ before said h.
-    let whole : List ℕ = decisions_text c.args.notes.now c.args.lab.now c.args.node c.args.most (c.args.near.now.step - 1) in (
-      whole,
-      refl,
-      all_said _ before said whole _ _ (no_more c.args.notes.now c.args.lab.now c.args.node c.telling.left c.telling.decisions.step (omega (arith, c.telling-test.false))) (c.telling.invariant.said before said h),
-    ))
+returns g c = (
+  search rules,
+  λ before said h.
+      let whole : List ℕ = decisions_text c.args.notes.now c.args.lab.now c.args.node c.args.most (c.args.near.now.step - 1) in (
+        whole,
+        refl,
+        all_said _ before said whole _ _ (no_more c.args.notes.now c.args.lab.now c.args.node c.telling.left c.telling.decisions.step (omega (arith, c.telling-test.false))) (c.telling.invariant.said before said h),
+      ),
+)

@@ -4,7 +4,10 @@ use Rattle.ga_answers.proofs.Saying.{told_as}
 use Rattle.ga_answers.proofs.tail_text.say_step_tail.Goals as goal
 
 pub returns : goal.returns
-returns g c = (search rules, λ before said h.
-    let slot = slot_before c.args.lab.now c.args.node c.args.step in
-    told_as c.say_tail.result _ before said (tail_text c.args.notes.now c.args.node c.step_cell-cell.result c.step_slot-slot.result) (step_tail c.args.notes.now c.args.lab.now c.args.node c.args.step) _
-    (ap (λ (t : List ℕ). t ++ codes "\n") (c.step_slot-slot.ensures ∙ c.step_cell-cell.ensures slot)) (c.say_tail.ensures.1 before said h))
+returns g c = (
+  search rules,
+  λ before said h.
+      let slot = slot_before c.args.lab.now c.args.node c.args.step in
+      told_as c.say_tail.result _ before said (tail_text c.args.notes.now c.args.node c.step_cell-cell.result c.step_slot-slot.result) (step_tail c.args.notes.now c.args.lab.now c.args.node c.args.step) _
+      (ap (λ (t : List ℕ). t ++ codes "\n") (c.step_slot-slot.ensures ∙ c.step_cell-cell.ensures slot)) (c.say_tail.ensures.1 before said h),
+)

@@ -4,6 +4,9 @@ use Rattle.ga_answers.proofs.Saying.{told_as}
 use Rattle.ga_answers.proofs.tail_text.say_walk_tail.Goals as goal
 
 pub returns : goal.returns
-returns g c = (search rules, λ before said h.
-    let tail = step_tail c.args.notes.now c.args.lab.now c.args.node in
-    told_as c.say_step_tail.result _ before said (tail c.step.result) (tail c.args.walk.now.step) _ (ap tail c.step.ensures.value) (c.say_step_tail.ensures.1 before said h))
+returns g c = (
+  search rules,
+  λ before said h.
+      let tail = step_tail c.args.notes.now c.args.lab.now c.args.node in
+      told_as c.say_step_tail.result _ before said (tail c.step.result) (tail c.args.walk.now.step) _ (ap tail c.step.ensures.value) (c.say_step_tail.ensures.1 before said h),
+)

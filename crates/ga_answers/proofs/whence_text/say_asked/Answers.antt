@@ -5,27 +5,33 @@ use Rattle.ga_answers.proofs.Saying.{joined_said, tree_told}
 use Rattle.ga_answers.proofs.whence_text.say_asked.Goals as goal
 
 pub returns-in_err-say_rows-in-Ok : goal.returns-in_err-say_rows-in-Ok
-returns-in_err-say_rows-in-Ok g c = (search rules, λ before said h.
-    let done = c.in_err-say_rows-in-Ok.ensures.1 before said h in
-    let listing = c.in-Ok.listing in
-    let last = more_text listing.is_whole in (
-      done.0 ++ last,
-      inr (tree_told c.args.notes.now c.args.lab.now c.args.node c.args.near.now.step c.args.value listing.rows.items c.as_slice-rows.result.now listing.is_whole done.0 last c.in-Ok.ensures.rows c.in-Ok.ensures.most c.in-Ok.ensures.cut
-          c.as_slice-rows.ensures.value done.1 refl),
-      cut_here c.from_residual.result _ before (said ++ (done.0 ++ last)) _ c.from_residual.ensures.0
-          (cut_within _ before said done.0 last (done.0 ++ last) refl done.2),
-    ))
+returns-in_err-say_rows-in-Ok g c = (
+  search rules,
+  λ before said h.
+      let done = c.in_err-say_rows-in-Ok.ensures.1 before said h in
+      let listing = c.in-Ok.listing in
+      let last = more_text listing.is_whole in (
+        done.0 ++ last,
+        inr (tree_told c.args.notes.now c.args.lab.now c.args.node c.args.near.now.step c.args.value listing.rows.items c.as_slice-rows.result.now listing.is_whole done.0 last c.in-Ok.ensures.rows c.in-Ok.ensures.most c.in-Ok.ensures.cut
+            c.as_slice-rows.ensures.value done.1 refl),
+        cut_here c.from_residual.result _ before (said ++ (done.0 ++ last)) _ c.from_residual.ensures.0
+            (cut_within _ before said done.0 last (done.0 ++ last) refl done.2),
+      ),
+)
 
 pub returns-in_ok-say_rows-in-Ok : goal.returns-in_ok-say_rows-in-Ok
-returns-in_ok-say_rows-in-Ok g c = (search rules, λ before said h.
-    let done = c.in_ok-say_rows-in-Ok.ensures.1 before said h in
-    let listing = c.in-Ok.listing in
-    let last = c.more.result.now in (
-      done.0 ++ last,
-      inr (tree_told c.args.notes.now c.args.lab.now c.args.node c.args.near.now.step c.args.value listing.rows.items c.as_slice-rows.result.now listing.is_whole done.0 last c.in-Ok.ensures.rows c.in-Ok.ensures.most c.in-Ok.ensures.cut
-          c.as_slice-rows.ensures.value done.1 c.more.ensures),
-      joined_said c.say_blocks.result _ before said done.0 last _ (c.say_blocks.ensures.1 before (said ++ done.0) done.2),
-    ))
+returns-in_ok-say_rows-in-Ok g c = (
+  search rules,
+  λ before said h.
+      let done = c.in_ok-say_rows-in-Ok.ensures.1 before said h in
+      let listing = c.in-Ok.listing in
+      let last = c.more.result.now in (
+        done.0 ++ last,
+        inr (tree_told c.args.notes.now c.args.lab.now c.args.node c.args.near.now.step c.args.value listing.rows.items c.as_slice-rows.result.now listing.is_whole done.0 last c.in-Ok.ensures.rows c.in-Ok.ensures.most c.in-Ok.ensures.cut
+            c.as_slice-rows.ensures.value done.1 c.more.ensures),
+        joined_said c.say_blocks.result _ before said done.0 last _ (c.say_blocks.ensures.1 before (said ++ done.0) done.2),
+      ),
+)
 
 pub returns-in-Err : goal.returns-in-Err
 returns-in-Err g c = (search rules, λ before said h. (c.refusal_text.result.now, inl c.refusal_text.ensures.text, c.say.ensures.1 before said h))

@@ -7,35 +7,44 @@ use Rattle.ga_answers.proofs.Saying.{joined_said}
 use Rattle.ga_answers.proofs.whence_text.say_rows.Goals as goal
 
 pub returns-then-is_first : goal.returns-then-is_first
-returns-then-is_first g c = (search rules, λ before said h.
-    let done = c.say_lines.ensures.1 before said h in
-    let rows = c.args.rows.now in
-    let made : is_first c.args.near.now.step rows ≡ true = ap (λ (k : ℕ). is_first k rows) (sym c.step.ensures.value) ∙ sym c.is_first.ensures ∙ c.if-is_first.true in (
-      done.0,
-      done.1 ∙ ap (λ (b : Bool). rows_by c.args.notes.now c.args.lab.now c.args.node c.args.near.now.step b rows) (sym made),
-      done.2,
-    ))
+returns-then-is_first g c = (
+  search rules,
+  λ before said h.
+      let done = c.say_lines.ensures.1 before said h in
+      let rows = c.args.rows.now in
+      let made : is_first c.args.near.now.step rows ≡ true = ap (λ (k : ℕ). is_first k rows) (sym c.step.ensures.value) ∙ sym c.is_first.ensures ∙ c.if-is_first.true in (
+        done.0,
+        done.1 ∙ ap (λ (b : Bool). rows_by c.args.notes.now c.args.lab.now c.args.node c.args.near.now.step b rows) (sym made),
+        done.2,
+      ),
+)
 
 pub returns-in_err-say_head : goal.returns-in_err-say_head
-returns-in_err-say_head g c = (search rules, λ before said h.
-    let done = c.in_err-say_head.ensures.1 before said h in
-    let rows = c.args.rows.now in
-    let made : is_first c.args.near.now.step rows ≡ false = ap (λ (k : ℕ). is_first k rows) (sym c.step.ensures.value) ∙ sym c.is_first.ensures ∙ c.if-is_first.false in
-    let last = flat_map (tree_row_text c.args.notes.now c.args.lab.now 1) rows in (
-      done.0 ++ last,
-      ap (λ z. z ++ last) done.1 ∙ ap (λ (b : Bool). rows_by c.args.notes.now c.args.lab.now c.args.node c.args.near.now.step b rows) (sym made),
-      cut_here c.from_residual.result _ before (said ++ (done.0 ++ last)) _ c.from_residual.ensures.0
-          (cut_within _ before said done.0 last (done.0 ++ last) refl done.2),
-    ))
+returns-in_err-say_head g c = (
+  search rules,
+  λ before said h.
+      let done = c.in_err-say_head.ensures.1 before said h in
+      let rows = c.args.rows.now in
+      let made : is_first c.args.near.now.step rows ≡ false = ap (λ (k : ℕ). is_first k rows) (sym c.step.ensures.value) ∙ sym c.is_first.ensures ∙ c.if-is_first.false in
+      let last = flat_map (tree_row_text c.args.notes.now c.args.lab.now 1) rows in (
+        done.0 ++ last,
+        ap (λ z. z ++ last) done.1 ∙ ap (λ (b : Bool). rows_by c.args.notes.now c.args.lab.now c.args.node c.args.near.now.step b rows) (sym made),
+        cut_here c.from_residual.result _ before (said ++ (done.0 ++ last)) _ c.from_residual.ensures.0
+            (cut_within _ before said done.0 last (done.0 ++ last) refl done.2),
+      ),
+)
 
 pub returns : goal.returns
-returns g c = (search rules, λ before said h.
-    let done = c.in_ok-say_head.ensures.1 before said h in
-    let more = c.say_lines-2.ensures.1 before (said ++ done.0) done.2 in
-    let rows = c.args.rows.now in
-    let made : is_first c.args.near.now.step rows ≡ false = ap (λ (k : ℕ). is_first k rows) (sym c.step.ensures.value) ∙ sym c.is_first.ensures ∙ c.if-is_first.false in (
-      done.0 ++ more.0,
-      ap (λ z. z ++ more.0) done.1 ∙ ap (λ z. head_text c.args.notes.now c.args.lab.now c.args.node c.args.near.now.step ++ z) more.1
-          ∙ ap (λ (b : Bool). rows_by c.args.notes.now c.args.lab.now c.args.node c.args.near.now.step b rows) (sym made),
-      joined_said c.say_lines-2.result _ before said done.0 more.0 _ more.2,
-    ))
+returns g c = (
+  search rules,
+  λ before said h.
+      let done = c.in_ok-say_head.ensures.1 before said h in
+      let more = c.say_lines-2.ensures.1 before (said ++ done.0) done.2 in
+      let rows = c.args.rows.now in
+      let made : is_first c.args.near.now.step rows ≡ false = ap (λ (k : ℕ). is_first k rows) (sym c.step.ensures.value) ∙ sym c.is_first.ensures ∙ c.if-is_first.false in (
+        done.0 ++ more.0,
+        ap (λ z. z ++ more.0) done.1 ∙ ap (λ z. head_text c.args.notes.now c.args.lab.now c.args.node c.args.near.now.step ++ z) more.1
+            ∙ ap (λ (b : Bool). rows_by c.args.notes.now c.args.lab.now c.args.node c.args.near.now.step b rows) (sym made),
+        joined_said c.say_lines-2.result _ before said done.0 more.0 _ more.2,
+      ),
+)

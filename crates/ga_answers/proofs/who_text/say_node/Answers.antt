@@ -6,6 +6,9 @@ use Rattle.ga_answers.proofs.Saying.{told_as}
 use Rattle.ga_answers.proofs.who_text.say_node.Goals as goal
 
 pub returns : goal.returns
-returns g c = (search rules, λ before said h.
-    told_as c.say_blocks.result _ before said c.as_slice.result.now (busy_text (records_of c.args.chip.now) (is_marked c.args.idle.now) c.args.node.number) c.say_blocks.new.self.pending.items
-    (c.as_slice.ensures.value ∙ c.busy_line.ensures) (c.say_blocks.ensures.1 before said h))
+returns g c = (
+  search rules,
+  λ before said h.
+      told_as c.say_blocks.result _ before said c.as_slice.result.now (busy_text (records_of c.args.chip.now) (is_marked c.args.idle.now) c.args.node.number) c.say_blocks.new.self.pending.items
+      (c.as_slice.ensures.value ∙ c.busy_line.ensures) (c.say_blocks.ensures.1 before said h),
+)

@@ -19,18 +19,21 @@ going-init g c = record {
 }
 
 pub returns-in_err-say_blocks : goal.returns-in_err-say_blocks
-returns-in_err-say_blocks g c = (c.in_err-say_blocks.ensures.0 ∙ c.going.invariant.same, λ before said h.
-    let s = c.args.lab.now in
-    let whole : List ℕ = cell_writes s c.args.node c.args.cell (steps_of c.args.node.number s.kept) in
-    let line : List ℕ = c.as_slice.result.now in
-    let done = c.going.invariant.said before said h in (
-      whole,
-      refl,
-      cut_here c.from_residual.result _ before (said ++ whole) _ c.from_residual.ensures.0
-          (line_cut _ before said whole _ line _ done.front
-          (next_write s c.args.node c.args.cell c.going.writes.step c.in-Some.written line (c.in-Some.ensures.value ∙ ap (λ (w : Search). newest_written w.machine w.node.number w.cell c.going.writes.step) c.going.invariant.writes) (c.as_slice.ensures.value ∙ c.written_line.ensures)) done.splits
-          (c.in_err-say_blocks.ensures.1 before (said ++ done.front) done.is_said)),
-    ))
+returns-in_err-say_blocks g c = (
+  c.in_err-say_blocks.ensures.0 ∙ c.going.invariant.same,
+  λ before said h.
+      let s = c.args.lab.now in
+      let whole : List ℕ = cell_writes s c.args.node c.args.cell (steps_of c.args.node.number s.kept) in
+      let line : List ℕ = c.as_slice.result.now in
+      let done = c.going.invariant.said before said h in (
+        whole,
+        refl,
+        cut_here c.from_residual.result _ before (said ++ whole) _ c.from_residual.ensures.0
+            (line_cut _ before said whole _ line _ done.front
+            (next_write s c.args.node c.args.cell c.going.writes.step c.in-Some.written line (c.in-Some.ensures.value ∙ ap (λ (w : Search). newest_written w.machine w.node.number w.cell c.going.writes.step) c.going.invariant.writes) (c.as_slice.ensures.value ∙ c.written_line.ensures)) done.splits
+            (c.in_err-say_blocks.ensures.1 before (said ++ done.front) done.is_said)),
+      ),
+)
 
 pub going-preserved : goal.going-preserved
 going-preserved g c = record {
@@ -54,10 +57,13 @@ going-smaller g c =
     omega (arith, c.in-Some.ensures.step, within.0, within.1)
 
 pub returns : goal.returns
-returns g c = (c.going.invariant.same, λ before said h.
-    let s = c.args.lab.now in
-    let whole : List ℕ = cell_writes s c.args.node c.args.cell (steps_of c.args.node.number s.kept) in (
-      whole,
-      refl,
-      all_said _ before said whole _ _ (no_write s c.args.node c.args.cell c.going.writes.step (sym c.in_default.is ∙ c.next.ensures.value ∙ ap (λ (w : Search). newest_written w.machine w.node.number w.cell c.going.writes.step) c.going.invariant.writes)) (c.going.invariant.said before said h),
-    ))
+returns g c = (
+  c.going.invariant.same,
+  λ before said h.
+      let s = c.args.lab.now in
+      let whole : List ℕ = cell_writes s c.args.node c.args.cell (steps_of c.args.node.number s.kept) in (
+        whole,
+        refl,
+        all_said _ before said whole _ _ (no_write s c.args.node c.args.cell c.going.writes.step (sym c.in_default.is ∙ c.next.ensures.value ∙ ap (λ (w : Search). newest_written w.machine w.node.number w.cell c.going.writes.step) c.going.invariant.writes)) (c.going.invariant.said before said h),
+      ),
+)

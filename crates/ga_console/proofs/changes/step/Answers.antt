@@ -4,15 +4,21 @@ use Rattle.ga_console.proofs.ReplyLemmas.{step_made, step_refused}
 use Rattle.ga_console.proofs.changes.step.Goals as goal
 
 pub returns-in-Ok : goal.returns-in-Ok
-returns-in-Ok g c = (search rules, λ before said h. (
-  made_text c.in-Ok.made,
-  step_made c.args.lab.now c.args.node c.in-Ok.made _ c.step_inlined.new.self c.in-Ok.ensures.answer c.in-Ok.ensures.ok refl,
-  c.say_made.ensures.1 before said h,
-))
+returns-in-Ok g c = (
+  search rules,
+  λ before said h. (
+    made_text c.in-Ok.made,
+    step_made c.args.lab.now c.args.node c.in-Ok.made _ c.step_inlined.new.self c.in-Ok.ensures.answer c.in-Ok.ensures.ok refl,
+    c.say_made.ensures.1 before said h,
+  ),
+)
 
 pub returns-in-Err : goal.returns-in-Err
-returns-in-Err g c = (search rules, λ before said h. (
-  c.refusal_text.result.now,
-  step_refused c.args.lab.now c.args.node c.in-Err.fault _ c.step_inlined.new.self c.in-Err.ensures.answer c.in-Err.ensures.err c.refusal_text.ensures.text,
-  c.say.ensures.1 before said h,
-))
+returns-in-Err g c = (
+  search rules,
+  λ before said h. (
+    c.refusal_text.result.now,
+    step_refused c.args.lab.now c.args.node c.in-Err.fault _ c.step_inlined.new.self c.in-Err.ensures.answer c.in-Err.ensures.err c.refusal_text.ensures.text,
+    c.say.ensures.1 before said h,
+  ),
+)

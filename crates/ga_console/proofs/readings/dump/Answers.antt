@@ -3,15 +3,21 @@ use Rattle.ga_console.proofs.ReplyLemmas.{dump_done, dump_refused}
 use Rattle.ga_console.proofs.readings.dump.Goals as goal
 
 pub returns-in-Ok : goal.returns-in-Ok
-returns-in-Ok g c = (search rules, λ before said h. (
-  c.as_slice.result.now,
-  dump_done c.args.lab.now _ c.in-Ok.image.items c.as_slice.result.now c.chip.ensures.value c.in-Ok.ensures.text c.as_slice.ensures.value,
-  c.say_blocks.ensures.1 before said h,
-))
+returns-in-Ok g c = (
+  search rules,
+  λ before said h. (
+    c.as_slice.result.now,
+    dump_done c.args.lab.now _ c.in-Ok.image.items c.as_slice.result.now c.chip.ensures.value c.in-Ok.ensures.text c.as_slice.ensures.value,
+    c.say_blocks.ensures.1 before said h,
+  ),
+)
 
 pub returns-in-Err : goal.returns-in-Err
-returns-in-Err g c = (search rules, λ before said h. (
-  c.refusal_text.result.now,
-  dump_refused c.args.lab.now c.refusal_text.result.now c.refusal_text.ensures.text,
-  c.say.ensures.1 before said h,
-))
+returns-in-Err g c = (
+  search rules,
+  λ before said h. (
+    c.refusal_text.result.now,
+    dump_refused c.args.lab.now c.refusal_text.result.now c.refusal_text.ensures.text,
+    c.say.ensures.1 before said h,
+  ),
+)

@@ -4,8 +4,11 @@ use Rattle.ga_console.proofs.ReplyLemmas.{replies}
 use Rattle.ga_console.proofs.readings.memory.Goals as goal
 
 pub returns : goal.returns
-returns g c = (search rules, λ before said h. (
-  memory_text c.args.node c.args.address c.memory.result,
-  inl (replies _ _ c.args.lab.now c.args.lab.now (ap (memory_text c.args.node c.args.address) c.memory.ensures) refl),
-  c.say_memory.ensures.1 before said h,
-))
+returns g c = (
+  search rules,
+  λ before said h. (
+    memory_text c.args.node c.args.address c.memory.result,
+    inl (replies _ _ c.args.lab.now c.args.lab.now (ap (memory_text c.args.node c.args.address) c.memory.ensures) refl),
+    c.say_memory.ensures.1 before said h,
+  ),
+)

@@ -5,8 +5,11 @@ use Rattle.ga_console.proofs.ReplyLemmas.{replies}
 use Rattle.ga_console.proofs.readings.node.Goals as goal
 
 pub returns : goal.returns
-returns g c = (search rules, λ before said h. (
-  node_text c.args.node (record_of c.node.result.now),
-  inl (replies _ _ c.args.lab.now c.args.lab.now (ap (node_text c.args.node) c.node.ensures.value) refl),
-  c.say_node.ensures.1 before said h,
-))
+returns g c = (
+  search rules,
+  λ before said h. (
+    node_text c.args.node (record_of c.node.result.now),
+    inl (replies _ _ c.args.lab.now c.args.lab.now (ap (node_text c.args.node) c.node.ensures.value) refl),
+    c.say_node.ensures.1 before said h,
+  ),
+)

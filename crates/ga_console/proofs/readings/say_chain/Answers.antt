@@ -5,54 +5,69 @@ use Rattle.ga_text.proofs.SaidLemmas.{cut_here, cut_within, cut_assoc, said_as, 
 use Rattle.ga_console.proofs.readings.say_chain.Goals as goal
 
 pub returns-in_err-say_chain_count : goal.returns-in_err-say_chain_count
-returns-in_err-say_chain_count g c = (search rules, λ before said h.
-    let events = c.args.events.now in
-    let head : List ℕ = chain_text (length events) in
-    let whole : List ℕ = head ++ flat_map made_text events in (
-      whole,
-      refl,
-      cut_here c.from_residual.result _ before (said ++ whole) _ c.from_residual.ensures.0
-          (cut_within _ before said head (flat_map made_text events) whole refl (c.in_err-say_chain_count.ensures.1 before said h)),
-    ))
+returns-in_err-say_chain_count g c = (
+  search rules,
+  λ before said h.
+      let events = c.args.events.now in
+      let head : List ℕ = chain_text (length events) in
+      let whole : List ℕ = head ++ flat_map made_text events in (
+        whole,
+        refl,
+        cut_here c.from_residual.result _ before (said ++ whole) _ c.from_residual.ensures.0
+            (cut_within _ before said head (flat_map made_text events) whole refl (c.in_err-say_chain_count.ensures.1 before said h)),
+      ),
+)
 
 pub events-init : goal.events-init
-events-init g c = (search rules, λ before said h.
-    let events = c.args.events.now in
-    let head : List ℕ = chain_text (length events) in
-    said_as _ before said head _ _ (listed_none made_text head events) (c.in_ok-say_chain_count.ensures.1 before said h))
+events-init g c = (
+  search rules,
+  λ before said h.
+      let events = c.args.events.now in
+      let head : List ℕ = chain_text (length events) in
+      said_as _ before said head _ _ (listed_none made_text head events) (c.in_ok-say_chain_count.ensures.1 before said h),
+)
 
 pub returns-in_err-say_made : goal.returns-in_err-say_made
-returns-in_err-say_made g c = (search rules, λ before said h.
-    let events = c.args.events.now in
-    let head : List ℕ = chain_text (length events) in
-    let whole : List ℕ = head ++ flat_map made_text events in
-    let i : ℕ = c.events.made-index in
-    let front : List ℕ = head ++ flat_map made_text (take i events) in
-    let text = made_text c.made-item.result in
-    let more = listed_more made_text head events i c.made-item.result text (omega arith) (ap made_text c.made-item.is) in (
-      whole,
-      refl,
-      cut_here c.from_residual-in_err-say_made.result _ before (said ++ whole) _ c.from_residual-in_err-say_made.ensures.0
-          (cut_within _ before said (front ++ text) (flat_map made_text (drop (i + 1) events)) whole
-          (ap (λ (t : List ℕ). t ++ flat_map made_text (drop (i + 1) events)) more ∙ listed_front made_text head events (i + 1))
-          (cut_assoc _ before said front text (c.in_err-say_made.ensures.1 before (said ++ front) (c.events.invariant.1 before said h)))),
-    ))
+returns-in_err-say_made g c = (
+  search rules,
+  λ before said h.
+      let events = c.args.events.now in
+      let head : List ℕ = chain_text (length events) in
+      let whole : List ℕ = head ++ flat_map made_text events in
+      let i : ℕ = c.events.made-index in
+      let front : List ℕ = head ++ flat_map made_text (take i events) in
+      let text = made_text c.made-item.result in
+      let more = listed_more made_text head events i c.made-item.result text (omega arith) (ap made_text c.made-item.is) in (
+        whole,
+        refl,
+        cut_here c.from_residual-in_err-say_made.result _ before (said ++ whole) _ c.from_residual-in_err-say_made.ensures.0
+            (cut_within _ before said (front ++ text) (flat_map made_text (drop (i + 1) events)) whole
+            (ap (λ (t : List ℕ). t ++ flat_map made_text (drop (i + 1) events)) more ∙ listed_front made_text head events (i + 1))
+            (cut_assoc _ before said front text (c.in_err-say_made.ensures.1 before (said ++ front) (c.events.invariant.1 before said h)))),
+      ),
+)
 
 pub events-preserved : goal.events-preserved
-events-preserved g c = (search rules, λ before said h.
-    let events = c.args.events.now in
-    let head : List ℕ = chain_text (length events) in
-    let i : ℕ = c.events.made-index in
-    let front : List ℕ = head ++ flat_map made_text (take i events) in
-    let text = made_text c.made-item.result in
-    said_as _ before said (front ++ text) _ _ (listed_more made_text head events i c.made-item.result text (omega arith) (ap made_text c.made-item.is))
-    (said_assoc _ before said front text _ (c.in_ok-say_made.ensures.1 before (said ++ front) (c.events.invariant.1 before said h))))
+events-preserved g c = (
+  search rules,
+  λ before said h.
+      let events = c.args.events.now in
+      let head : List ℕ = chain_text (length events) in
+      let i : ℕ = c.events.made-index in
+      let front : List ℕ = head ++ flat_map made_text (take i events) in
+      let text = made_text c.made-item.result in
+      said_as _ before said (front ++ text) _ _ (listed_more made_text head events i c.made-item.result text (omega arith) (ap made_text c.made-item.is))
+      (said_assoc _ before said front text _ (c.in_ok-say_made.ensures.1 before (said ++ front) (c.events.invariant.1 before said h))),
+)
 
 pub returns : goal.returns
-returns g c = (search rules, λ before said h.
-    let events = c.args.events.now in
-    let head : List ℕ = chain_text (length events) in (
-      head ++ flat_map made_text events,
-      refl,
-      said_as _ before said _ _ _ (listed_all made_text head events c.events.made-index (omega arith)) (c.events.invariant.1 before said h),
-    ))
+returns g c = (
+  search rules,
+  λ before said h.
+      let events = c.args.events.now in
+      let head : List ℕ = chain_text (length events) in (
+        head ++ flat_map made_text events,
+        refl,
+        said_as _ before said _ _ _ (listed_all made_text head events c.events.made-index (omega arith)) (c.events.invariant.1 before said h),
+      ),
+)

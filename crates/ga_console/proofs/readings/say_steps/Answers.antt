@@ -6,53 +6,68 @@ use Rattle.ga_text.proofs.SaidLemmas.{cut_here, cut_within, cut_assoc, said_as, 
 use Rattle.ga_console.proofs.readings.say_steps.Goals as goal
 
 pub returns-in_err-say_trace : goal.returns-in_err-say_trace
-returns-in_err-say_trace g c = (search rules, λ before said h.
-    let steps = c.args.steps.now in
-    let whole : List ℕ = steps_text c.args.node steps in
-    let head : List ℕ = trace_text c.args.node (length steps) in (
-      whole,
-      refl,
-      cut_here c.from_residual.result _ before (said ++ whole) _ c.from_residual.ensures.0
-          (cut_within _ before said head (flat_map made_text steps) whole refl (c.in_err-say_trace.ensures.1 before said h)),
-    ))
+returns-in_err-say_trace g c = (
+  search rules,
+  λ before said h.
+      let steps = c.args.steps.now in
+      let whole : List ℕ = steps_text c.args.node steps in
+      let head : List ℕ = trace_text c.args.node (length steps) in (
+        whole,
+        refl,
+        cut_here c.from_residual.result _ before (said ++ whole) _ c.from_residual.ensures.0
+            (cut_within _ before said head (flat_map made_text steps) whole refl (c.in_err-say_trace.ensures.1 before said h)),
+      ),
+)
 
 pub steps-init : goal.steps-init
-steps-init g c = (search rules, λ before said h.
-    let steps = c.args.steps.now in
-    let head : List ℕ = trace_text c.args.node (length steps) in
-    said_as _ before said head _ _ (listed_none made_text head steps) (c.in_ok-say_trace.ensures.1 before said h))
+steps-init g c = (
+  search rules,
+  λ before said h.
+      let steps = c.args.steps.now in
+      let head : List ℕ = trace_text c.args.node (length steps) in
+      said_as _ before said head _ _ (listed_none made_text head steps) (c.in_ok-say_trace.ensures.1 before said h),
+)
 
 pub returns-in_err-say_made : goal.returns-in_err-say_made
-returns-in_err-say_made g c = (search rules, λ before said h.
-    let steps = c.args.steps.now in
-    let head : List ℕ = trace_text c.args.node (length steps) in
-    let i : ℕ = c.steps.made-index in
-    let front : List ℕ = head ++ flat_map made_text (take i steps) in
-    let text = made_text c.made-item.result in
-    let more = listed_more made_text head steps i c.made-item.result text (omega arith) (ap made_text c.made-item.is) in (
-      steps_text c.args.node steps,
-      refl,
-      cut_here c.from_residual-in_err-say_made.result _ before (said ++ steps_text c.args.node steps) _ c.from_residual-in_err-say_made.ensures.0
-          (cut_within _ before said (front ++ text) (flat_map made_text (drop (i + 1) steps)) (steps_text c.args.node steps)
-          (ap (λ (t : List ℕ). t ++ flat_map made_text (drop (i + 1) steps)) more ∙ listed_front made_text head steps (i + 1))
-          (cut_assoc _ before said front text (c.in_err-say_made.ensures.1 before (said ++ front) (c.steps.invariant.1 before said h)))),
-    ))
+returns-in_err-say_made g c = (
+  search rules,
+  λ before said h.
+      let steps = c.args.steps.now in
+      let head : List ℕ = trace_text c.args.node (length steps) in
+      let i : ℕ = c.steps.made-index in
+      let front : List ℕ = head ++ flat_map made_text (take i steps) in
+      let text = made_text c.made-item.result in
+      let more = listed_more made_text head steps i c.made-item.result text (omega arith) (ap made_text c.made-item.is) in (
+        steps_text c.args.node steps,
+        refl,
+        cut_here c.from_residual-in_err-say_made.result _ before (said ++ steps_text c.args.node steps) _ c.from_residual-in_err-say_made.ensures.0
+            (cut_within _ before said (front ++ text) (flat_map made_text (drop (i + 1) steps)) (steps_text c.args.node steps)
+            (ap (λ (t : List ℕ). t ++ flat_map made_text (drop (i + 1) steps)) more ∙ listed_front made_text head steps (i + 1))
+            (cut_assoc _ before said front text (c.in_err-say_made.ensures.1 before (said ++ front) (c.steps.invariant.1 before said h)))),
+      ),
+)
 
 pub steps-preserved : goal.steps-preserved
-steps-preserved g c = (search rules, λ before said h.
-    let steps = c.args.steps.now in
-    let head : List ℕ = trace_text c.args.node (length steps) in
-    let i : ℕ = c.steps.made-index in
-    let front : List ℕ = head ++ flat_map made_text (take i steps) in
-    let text = made_text c.made-item.result in
-    said_as _ before said (front ++ text) _ _ (listed_more made_text head steps i c.made-item.result text (omega arith) (ap made_text c.made-item.is))
-    (said_assoc _ before said front text _ (c.in_ok-say_made.ensures.1 before (said ++ front) (c.steps.invariant.1 before said h))))
+steps-preserved g c = (
+  search rules,
+  λ before said h.
+      let steps = c.args.steps.now in
+      let head : List ℕ = trace_text c.args.node (length steps) in
+      let i : ℕ = c.steps.made-index in
+      let front : List ℕ = head ++ flat_map made_text (take i steps) in
+      let text = made_text c.made-item.result in
+      said_as _ before said (front ++ text) _ _ (listed_more made_text head steps i c.made-item.result text (omega arith) (ap made_text c.made-item.is))
+      (said_assoc _ before said front text _ (c.in_ok-say_made.ensures.1 before (said ++ front) (c.steps.invariant.1 before said h))),
+)
 
 pub returns : goal.returns
-returns g c = (search rules, λ before said h.
-    let steps = c.args.steps.now in
-    let head : List ℕ = trace_text c.args.node (length steps) in (
-      steps_text c.args.node steps,
-      refl,
-      said_as _ before said _ _ _ (listed_all made_text head steps c.steps.made-index (omega arith)) (c.steps.invariant.1 before said h),
-    ))
+returns g c = (
+  search rules,
+  λ before said h.
+      let steps = c.args.steps.now in
+      let head : List ℕ = trace_text c.args.node (length steps) in (
+        steps_text c.args.node steps,
+        refl,
+        said_as _ before said _ _ _ (listed_all made_text head steps c.steps.made-index (omega arith)) (c.steps.invariant.1 before said h),
+      ),
+)

@@ -43,57 +43,78 @@ answers_done s line answer new d short spelled only not_quit does = λ part kept
     (command d (omega (arith, ap length same)) (subst (SpellsCommand d) (sym same) spelled) does, λ q. not_quit (sym (only Quit (sym same ∙ q))))
 
 pub returns-in_err-say : goal.returns-in_err-say
-returns-in_err-say g c = (search rules, λ before said h.
-    let past : 200 < length c.args.line.now = omega (arith, c.if-line-gt-LINE_LIMIT.true) in (
-      no_long,
-      turns_err _ _ _ _ c.from_residual.result c.from_residual.ensures.0 (answers_long c.args.lab.now c.args.line.now past),
-      cut_here c.from_residual.result _ before (said ++ no_long) _ c.from_residual.ensures.0 (c.in_err-say.ensures.1 before said h),
-    ))
+returns-in_err-say g c = (
+  search rules,
+  λ before said h.
+      let past : 200 < length c.args.line.now = omega (arith, c.if-line-gt-LINE_LIMIT.true) in (
+        no_long,
+        turns_err _ _ _ _ c.from_residual.result c.from_residual.ensures.0 (answers_long c.args.lab.now c.args.line.now past),
+        cut_here c.from_residual.result _ before (said ++ no_long) _ c.from_residual.ensures.0 (c.in_err-say.ensures.1 before said h),
+      ),
+)
 
 pub returns-then-line-gt-LINE_LIMIT : goal.returns-then-line-gt-LINE_LIMIT
-returns-then-line-gt-LINE_LIMIT g c = (search rules, λ before said h.
-    let past : 200 < length c.args.line.now = omega (arith, c.if-line-gt-LINE_LIMIT.true) in
-    (no_long, answers_long c.args.lab.now c.args.line.now past, c.in_ok-say.ensures.1 before said h))
+returns-then-line-gt-LINE_LIMIT g c = (
+  search rules,
+  λ before said h.
+      let past : 200 < length c.args.line.now = omega (arith, c.if-line-gt-LINE_LIMIT.true) in
+      (no_long, answers_long c.args.lab.now c.args.line.now past, c.in_ok-say.ensures.1 before said h),
+)
 
 pub returns-in_err-say-in-None : goal.returns-in_err-say-in-None
-returns-in_err-say-in-None g c = (search rules, λ before said h.
-    let short : length c.args.line.now ≤ 200 = omega (arith, c.if-line-gt-LINE_LIMIT.false) in (
-      no_syntax,
-      turns_err _ _ _ _ c.from_residual-in_err-say-in-None.result c.from_residual-in_err-say-in-None.ensures.0
-          (answers_none c.args.lab.now c.args.line.now short c.in-None.ensures.none),
-      cut_here c.from_residual-in_err-say-in-None.result _ before (said ++ no_syntax) _ c.from_residual-in_err-say-in-None.ensures.0 (c.in_err-say-in-None.ensures.1 before said h),
-    ))
+returns-in_err-say-in-None g c = (
+  search rules,
+  λ before said h.
+      let short : length c.args.line.now ≤ 200 = omega (arith, c.if-line-gt-LINE_LIMIT.false) in (
+        no_syntax,
+        turns_err _ _ _ _ c.from_residual-in_err-say-in-None.result c.from_residual-in_err-say-in-None.ensures.0
+            (answers_none c.args.lab.now c.args.line.now short c.in-None.ensures.none),
+        cut_here c.from_residual-in_err-say-in-None.result _ before (said ++ no_syntax) _ c.from_residual-in_err-say-in-None.ensures.0 (c.in_err-say-in-None.ensures.1 before said h),
+      ),
+)
 
 pub returns-in_ok-say-in-None : goal.returns-in_ok-say-in-None
-returns-in_ok-say-in-None g c = (search rules, λ before said h.
-    let short : length c.args.line.now ≤ 200 = omega (arith, c.if-line-gt-LINE_LIMIT.false) in (
-      no_syntax,
-      answers_none c.args.lab.now c.args.line.now short c.in-None.ensures.none,
-      c.in_ok-say-in-None.ensures.1 before said h,
-    ))
+returns-in_ok-say-in-None g c = (
+  search rules,
+  λ before said h.
+      let short : length c.args.line.now ≤ 200 = omega (arith, c.if-line-gt-LINE_LIMIT.false) in (
+        no_syntax,
+        answers_none c.args.lab.now c.args.line.now short c.in-None.ensures.none,
+        c.in_ok-say-in-None.ensures.1 before said h,
+      ),
+)
 
 pub returns-in_err-obey-in_default : goal.returns-in_err-obey-in_default
-returns-in_err-obey-in_default g c = (search rules, λ before said h.
-    let short : length c.args.line.now ≤ 200 = omega (arith, c.if-line-gt-LINE_LIMIT.false) in
-    let done = c.in_err-obey-in_default.ensures.1 before said h in (
-      done.0,
-      turns_err _ _ _ _ c.from_residual-in_err-obey-in_default.result c.from_residual-in_err-obey-in_default.ensures.0
-          (answers_done c.args.lab.now c.args.line.now done.0 c.obey.new.lab c.in-Some.command short
-          c.in-Some.ensures.some c.in-Some.ensures.only c.in_default.not-Quit done.1),
-      cut_here c.from_residual-in_err-obey-in_default.result _ before (said ++ done.0) _ c.from_residual-in_err-obey-in_default.ensures.0 done.2,
-    ))
+returns-in_err-obey-in_default g c = (
+  search rules,
+  λ before said h.
+      let short : length c.args.line.now ≤ 200 = omega (arith, c.if-line-gt-LINE_LIMIT.false) in
+      let done = c.in_err-obey-in_default.ensures.1 before said h in (
+        done.0,
+        turns_err _ _ _ _ c.from_residual-in_err-obey-in_default.result c.from_residual-in_err-obey-in_default.ensures.0
+            (answers_done c.args.lab.now c.args.line.now done.0 c.obey.new.lab c.in-Some.command short
+            c.in-Some.ensures.some c.in-Some.ensures.only c.in_default.not-Quit done.1),
+        cut_here c.from_residual-in_err-obey-in_default.result _ before (said ++ done.0) _ c.from_residual-in_err-obey-in_default.ensures.0 done.2,
+      ),
+)
 
 pub returns-in_ok-obey-in_default : goal.returns-in_ok-obey-in_default
-returns-in_ok-obey-in_default g c = (search rules, λ before said h.
-    let short : length c.args.line.now ≤ 200 = omega (arith, c.if-line-gt-LINE_LIMIT.false) in
-    let done = c.in_ok-obey-in_default.ensures.1 before said h in (
-      done.0,
-      answers_done c.args.lab.now c.args.line.now done.0 c.obey.new.lab c.in-Some.command short
-          c.in-Some.ensures.some c.in-Some.ensures.only c.in_default.not-Quit done.1,
-      done.2,
-    ))
+returns-in_ok-obey-in_default g c = (
+  search rules,
+  λ before said h.
+      let short : length c.args.line.now ≤ 200 = omega (arith, c.if-line-gt-LINE_LIMIT.false) in
+      let done = c.in_ok-obey-in_default.ensures.1 before said h in (
+        done.0,
+        answers_done c.args.lab.now c.args.line.now done.0 c.obey.new.lab c.in-Some.command short
+            c.in-Some.ensures.some c.in-Some.ensures.only c.in_default.not-Quit done.1,
+        done.2,
+      ),
+)
 
 pub returns-in-Quit : goal.returns-in-Quit
-returns-in-Quit g c = (search rules, λ before said h.
-    let spelled = rw c.in-Quit.is at c.in-Some.ensures.some in
-    ([], (spelled, refl, refl), said_pending _ before said _ h))
+returns-in-Quit g c = (
+  search rules,
+  λ before said h.
+      let spelled = rw c.in-Quit.is at c.in-Some.ensures.some in
+      ([], (spelled, refl, refl), said_pending _ before said _ h),
+)

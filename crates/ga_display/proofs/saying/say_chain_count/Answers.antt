@@ -4,6 +4,9 @@ use Rattle.ga_text.proofs.SaidLemmas.{cut_more, cut_here}
 use Rattle.ga_display.proofs.saying.say_chain_count.Goals as goal
 
 pub returns-in_err-make_room : goal.returns-in_err-make_room
-returns-in_err-make_room g c = (search rules, λ before said h.
-    cut_here c.from_residual.result _ before (said ++ chain_text c.args.count) _ c.from_residual.ensures.0
-    (cut_more _ before said (chain_text c.args.count) (c.in_err-make_room.ensures.said.1 before said h)))
+returns-in_err-make_room g c = (
+  search rules,
+  λ before said h.
+      cut_here c.from_residual.result _ before (said ++ chain_text c.args.count) _ c.from_residual.ensures.0
+      (cut_more _ before said (chain_text c.args.count) (c.in_err-make_room.ensures.said.1 before said h)),
+)

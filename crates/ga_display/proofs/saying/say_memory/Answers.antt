@@ -4,6 +4,9 @@ use Rattle.ga_text.proofs.SaidLemmas.{cut_more, cut_here}
 use Rattle.ga_display.proofs.saying.say_memory.Goals as goal
 
 pub returns-in_err-make_room : goal.returns-in_err-make_room
-returns-in_err-make_room g c = (search rules, λ before said h.
-    cut_here c.from_residual.result _ before (said ++ memory_text c.args.node c.args.address c.args.word) _ c.from_residual.ensures.0
-    (cut_more _ before said (memory_text c.args.node c.args.address c.args.word) (c.in_err-make_room.ensures.said.1 before said h)))
+returns-in_err-make_room g c = (
+  search rules,
+  λ before said h.
+      cut_here c.from_residual.result _ before (said ++ memory_text c.args.node c.args.address c.args.word) _ c.from_residual.ensures.0
+      (cut_more _ before said (memory_text c.args.node c.args.address c.args.word) (c.in_err-make_room.ensures.said.1 before said h)),
+)

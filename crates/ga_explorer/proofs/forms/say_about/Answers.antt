@@ -6,14 +6,20 @@ use Rattle.ga_answers.proofs.Saying.{joined_said}
 use Rattle.ga_explorer.proofs.forms.say_about.Goals as goal
 
 pub returns-in_err-say_row : goal.returns-in_err-say_row
-returns-in_err-say_row g c = (search rules, λ before said h.
-    let row = c.args.row.now in
-    let whole = about_text (entry_of row) in
-    cut_here c.from_residual.result _ before (said ++ whole) _ c.from_residual.ensures.0
-    (cut_within _ before said (form_row_text (entry_of row)) row.more.now whole refl (c.in_err-say_row.ensures.1 before said h)))
+returns-in_err-say_row g c = (
+  search rules,
+  λ before said h.
+      let row = c.args.row.now in
+      let whole = about_text (entry_of row) in
+      cut_here c.from_residual.result _ before (said ++ whole) _ c.from_residual.ensures.0
+      (cut_within _ before said (form_row_text (entry_of row)) row.more.now whole refl (c.in_err-say_row.ensures.1 before said h)),
+)
 
 pub returns : goal.returns
-returns g c = (search rules, λ before said h.
-    let row = c.args.row.now in
-    joined_said c.say_blocks.result _ before said (form_row_text (entry_of row)) row.more.now _
-    (c.say_blocks.ensures.1 before (said ++ form_row_text (entry_of row)) (c.in_ok-say_row.ensures.1 before said h)))
+returns g c = (
+  search rules,
+  λ before said h.
+      let row = c.args.row.now in
+      joined_said c.say_blocks.result _ before said (form_row_text (entry_of row)) row.more.now _
+      (c.say_blocks.ensures.1 before (said ++ form_row_text (entry_of row)) (c.in_ok-say_row.ensures.1 before said h)),
+)

@@ -9,22 +9,28 @@ use Rattle.ga_answers.proofs.Saying.{told_as}
 use Rattle.ga_explorer.proofs.forms.say_command.Goals as goal
 
 pub returns-in-Some : goal.returns-in-Some
-returns-in-Some g c = (search rules, λ before said h.
-    let row = c.in-Some.row.now in
-    let found : Some row ≡ slice_get c.rows.result.now c.args.place = c.in-Some.ensures in
-    let entry : Some (entry_of row) ≡ slice_get rows c.args.place =
-    ap (option_map entry_of) found ∙ sym (slice_get-map entry_of c.rows.result.now c.args.place) ∙ ap (λ (z : List CommandForm). slice_get z c.args.place) c.rows.ensures in (
-      command_text c.args.place,
-      refl,
-      told_as c.say_about.result _ before said (about_text (entry_of row)) (command_text c.args.place) _ (ap about_found entry) (c.say_about.ensures.1 before said h),
-    ))
+returns-in-Some g c = (
+  search rules,
+  λ before said h.
+      let row = c.in-Some.row.now in
+      let found : Some row ≡ slice_get c.rows.result.now c.args.place = c.in-Some.ensures in
+      let entry : Some (entry_of row) ≡ slice_get rows c.args.place =
+      ap (option_map entry_of) found ∙ sym (slice_get-map entry_of c.rows.result.now c.args.place) ∙ ap (λ (z : List CommandForm). slice_get z c.args.place) c.rows.ensures in (
+        command_text c.args.place,
+        refl,
+        told_as c.say_about.result _ before said (about_text (entry_of row)) (command_text c.args.place) _ (ap about_found entry) (c.say_about.ensures.1 before said h),
+      ),
+)
 
 pub returns-in-None : goal.returns-in-None
-returns-in-None g c = (search rules, λ before said h.
-    let found : None ≡ slice_get c.rows.result.now c.args.place = c.in-None.ensures in
-    let entry : None ≡ slice_get rows c.args.place =
-    ap (option_map entry_of) found ∙ sym (slice_get-map entry_of c.rows.result.now c.args.place) ∙ ap (λ (z : List CommandForm). slice_get z c.args.place) c.rows.ensures in (
-      command_text c.args.place,
-      refl,
-      said_as _ before said [] (command_text c.args.place) _ (ap about_found entry) (said_pending _ before said _ h),
-    ))
+returns-in-None g c = (
+  search rules,
+  λ before said h.
+      let found : None ≡ slice_get c.rows.result.now c.args.place = c.in-None.ensures in
+      let entry : None ≡ slice_get rows c.args.place =
+      ap (option_map entry_of) found ∙ sym (slice_get-map entry_of c.rows.result.now c.args.place) ∙ ap (λ (z : List CommandForm). slice_get z c.args.place) c.rows.ensures in (
+        command_text c.args.place,
+        refl,
+        said_as _ before said [] (command_text c.args.place) _ (ap about_found entry) (said_pending _ before said _ h),
+      ),
+)

@@ -6,14 +6,20 @@ use Rattle.ga_answers.proofs.Saying.{joined_said}
 use Rattle.ga_explorer.proofs.forms.say_row.Goals as goal
 
 pub returns-in_err-say_blocks : goal.returns-in_err-say_blocks
-returns-in_err-say_blocks g c = (search rules, λ before said h.
-    let row = c.args.row.now in
-    let whole = form_row_text (entry_of row) in
-    cut_here c.from_residual.result _ before (said ++ whole) _ c.from_residual.ensures.0
-    (cut_within _ before said row.form.now row.does.now whole refl (c.in_err-say_blocks.ensures.1 before said h)))
+returns-in_err-say_blocks g c = (
+  search rules,
+  λ before said h.
+      let row = c.args.row.now in
+      let whole = form_row_text (entry_of row) in
+      cut_here c.from_residual.result _ before (said ++ whole) _ c.from_residual.ensures.0
+      (cut_within _ before said row.form.now row.does.now whole refl (c.in_err-say_blocks.ensures.1 before said h)),
+)
 
 pub returns : goal.returns
-returns g c = (search rules, λ before said h.
-    let row = c.args.row.now in
-    joined_said c.say_blocks-2.result _ before said row.form.now row.does.now _
-    (c.say_blocks-2.ensures.1 before (said ++ row.form.now) (c.in_ok-say_blocks.ensures.1 before said h)))
+returns g c = (
+  search rules,
+  λ before said h.
+      let row = c.args.row.now in
+      joined_said c.say_blocks-2.result _ before said row.form.now row.does.now _
+      (c.say_blocks-2.ensures.1 before (said ++ row.form.now) (c.in_ok-say_blocks.ensures.1 before said h)),
+)

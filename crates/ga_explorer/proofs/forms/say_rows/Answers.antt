@@ -11,31 +11,40 @@ pub rows-init : goal.rows-init
 rows-init g c = (search rules, λ before said h. record { front = []; splits = refl; is_said = said_pending _ before said _ h })
 
 pub returns-in_err-say_row : goal.returns-in_err-say_row
-returns-in_err-say_row g c = (search rules, λ before said h.
-    let rows = c.args.rows.now in
-    let whole : List ℕ = form_rows_text (map entry_of rows) in
-    let done = c.rows.invariant.1 before said h in (
-      whole,
-      refl,
-      cut_here c.from_residual.result _ before (said ++ whole) _ c.from_residual.ensures.0
-          (line_cut _ before said whole _ _ _ done.front
-          (next_row rows c.rows.row-index _ (omega arith)) done.splits
-          (c.in_err-say_row.ensures.1 before (said ++ done.front) done.is_said)),
-    ))
+returns-in_err-say_row g c = (
+  search rules,
+  λ before said h.
+      let rows = c.args.rows.now in
+      let whole : List ℕ = form_rows_text (map entry_of rows) in
+      let done = c.rows.invariant.1 before said h in (
+        whole,
+        refl,
+        cut_here c.from_residual.result _ before (said ++ whole) _ c.from_residual.ensures.0
+            (line_cut _ before said whole _ _ _ done.front
+            (next_row rows c.rows.row-index _ (omega arith)) done.splits
+            (c.in_err-say_row.ensures.1 before (said ++ done.front) done.is_said)),
+      ),
+)
 
 pub rows-preserved : goal.rows-preserved
-rows-preserved g c = (search rules, λ before said h.
-    let rows = c.args.rows.now in
-    let done = c.rows.invariant.1 before said h in
-    line_said _ before said (form_rows_text (map entry_of rows)) _ _ _ done.front _
-    (next_row rows c.rows.row-index _ (omega arith)) done.splits
-    (c.in_ok-say_row.ensures.1 before (said ++ done.front) done.is_said))
+rows-preserved g c = (
+  search rules,
+  λ before said h.
+      let rows = c.args.rows.now in
+      let done = c.rows.invariant.1 before said h in
+      line_said _ before said (form_rows_text (map entry_of rows)) _ _ _ done.front _
+      (next_row rows c.rows.row-index _ (omega arith)) done.splits
+      (c.in_ok-say_row.ensures.1 before (said ++ done.front) done.is_said),
+)
 
 pub returns : goal.returns
-returns g c = (search rules, λ before said h.
-    let rows = c.args.rows.now in
-    let whole : List ℕ = form_rows_text (map entry_of rows) in (
-      whole,
-      refl,
-      all_said _ before said whole _ _ (no_row rows c.rows.row-index (omega arith)) (c.rows.invariant.1 before said h),
-    ))
+returns g c = (
+  search rules,
+  λ before said h.
+      let rows = c.args.rows.now in
+      let whole : List ℕ = form_rows_text (map entry_of rows) in (
+        whole,
+        refl,
+        all_said _ before said whole _ _ (no_row rows c.rows.row-index (omega arith)) (c.rows.invariant.1 before said h),
+      ),
+)

@@ -4,10 +4,13 @@ use Rattle.ga_orders.specs.OrderTexts.{no_order_text}
 use Rattle.ga_orders.proofs.orders_text.say_no_order.Goals as goal
 
 pub returns : goal.returns
-returns g c = (search rules, λ before said h.
-    let text : List ℕ = no_order_text c.args.asked c.args.tally.now in (
-      text,
-      refl,
-      told_as c.say_blocks.result _ before said c.as_slice.result.now text c.say_blocks.new.self.pending.items (c.as_slice.ensures.value ∙ c.no_order_line.ensures)
-          (c.say_blocks.ensures.1 before said h),
-    ))
+returns g c = (
+  search rules,
+  λ before said h.
+      let text : List ℕ = no_order_text c.args.asked c.args.tally.now in (
+        text,
+        refl,
+        told_as c.say_blocks.result _ before said c.as_slice.result.now text c.say_blocks.new.self.pending.items (c.as_slice.ensures.value ∙ c.no_order_line.ensures)
+            (c.say_blocks.ensures.1 before said h),
+      ),
+)

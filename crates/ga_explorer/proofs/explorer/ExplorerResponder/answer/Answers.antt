@@ -6,10 +6,13 @@ use Rattle.ga_explorer.specs.kept.{exploring}
 use Rattle.ga_explorer.proofs.explorer.ExplorerResponder.answer.Goals as goal
 
 pub returns : goal.returns
-returns g c = (search rules, λ before said h.
-    let new = exploring c.answer_line.new.lab c.self.inside.notes in
-    let done = c.answer_line.ensures.1 before said h in (
-      done.0,
-      subst (λ (s : Exploring). Turns Explores s c.args.line.now new c.answer_line.result done.0) c.self.view_is done.1,
-      done.2,
-    ))
+returns g c = (
+  search rules,
+  λ before said h.
+      let new = exploring c.answer_line.new.lab c.self.inside.notes in
+      let done = c.answer_line.ensures.1 before said h in (
+        done.0,
+        subst (λ (s : Exploring). Turns Explores s c.args.line.now new c.answer_line.result done.0) c.self.view_is done.1,
+        done.2,
+      ),
+)

@@ -6,11 +6,14 @@ use Rattle.ga_explorer.proofs.LineAnswers.{debugger_alone}
 use Rattle.ga_explorer.proofs.explorer.ExplorerResponder.obey.Goals as goal
 
 pub returns : goal.returns
-returns g c = (search rules, λ before said h.
-    let done = c.obey.ensures.1 before said h in (
-      done.0,
-      λ line short spelled. debugged (λ fits. debugger_alone c.args.self.now.notes c.args.command line spelled)
-          (inl (inr (short, c.args.command, spelled), subst (λ (s : Exploring). LineAnswer s.lab line done.0 c.obey.new.self) c.self.view_is (done.1 line short spelled)))
-          (ap (λ (s : Exploring). s.notes) c.self.view_is),
-      done.2,
-    ))
+returns g c = (
+  search rules,
+  λ before said h.
+      let done = c.obey.ensures.1 before said h in (
+        done.0,
+        λ line short spelled. debugged (λ fits. debugger_alone c.args.self.now.notes c.args.command line spelled)
+            (inl (inr (short, c.args.command, spelled), subst (λ (s : Exploring). LineAnswer s.lab line done.0 c.obey.new.self) c.self.view_is (done.1 line short spelled)))
+            (ap (λ (s : Exploring). s.notes) c.self.view_is),
+        done.2,
+      ),
+)

@@ -4,6 +4,9 @@ use Rattle.ga_picture.proofs.Hearing.{silent_turn}
 use Rattle.ga_picture.proofs.silent.SilentResponder.answer.Goals as goal
 
 pub returns : goal.returns
-returns g c = (search rules, λ before said h.
-    let heard = c.hear.ensures.heard in
-    ([], silent_turn c.args.self.now c.hear.new.self c.args.line.now heard.0 c.hear.result heard.1 heard.2 c.hear.ensures.ends, said_pending _ before said _ h))
+returns g c = (
+  search rules,
+  λ before said h.
+      let heard = c.hear.ensures.heard in
+      ([], silent_turn c.args.self.now c.hear.new.self c.args.line.now heard.0 c.hear.result heard.1 heard.2 c.hear.ensures.ends, said_pending _ before said _ h),
+)

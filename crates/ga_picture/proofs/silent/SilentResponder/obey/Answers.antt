@@ -3,6 +3,9 @@ use Rattle.ga_text.proofs.SaidLemmas.{said_pending}
 use Rattle.ga_picture.proofs.silent.SilentResponder.obey.Goals as goal
 
 pub returns : goal.returns
-returns g c = (search rules, λ before said h.
-    let heard = c.hear_command.ensures in
-    ([], λ line short spelled. (refl, heard.0, heard.1 line short spelled, heard.2), said_pending _ before said _ h))
+returns g c = (
+  search rules,
+  λ before said h.
+      let heard = c.hear_command.ensures in
+      ([], λ line short spelled. (refl, heard.0, heard.1 line short spelled, heard.2), said_pending _ before said _ h),
+)

@@ -8,31 +8,40 @@ pub pieces-init : goal.pieces-init
 pieces-init g c = (refl, λ before said h. ([], refl, said_pending _ before said _ h))
 
 pub returns-in_err-say : goal.returns-in_err-say
-returns-in_err-say g c = (c.in_err-say.ensures.0 ∙ c.pieces.invariant.0, λ before said h.
-    let (done, whole, told) = c.pieces.invariant.1 before said h in
-    let block : List ℕ = c.split_at.result.0.now in
-    let after : List ℕ = c.split_at.result.1.now in
-    let parts : c.pieces.rest.now ≡ block ++ after =
-    sym (take-append-drop c.min.result c.pieces.rest.now) ∙ ap (λ (t : List ℕ). t ++ drop c.min.result c.pieces.rest.now) (sym c.split_at.ensures.front) ∙ ap (λ (t : List ℕ). block ++ t) (sym c.split_at.ensures.back) in
-    cut_here c.from_residual.result _ before (said ++ c.args.text.now) _ c.from_residual.ensures.0
-    (cut_within _ before said (done ++ block) after c.args.text.now
-    (append_assoc done block after ∙ ap (λ (t : List ℕ). done ++ t) (sym parts) ∙ sym whole)
-    (cut_assoc _ before said done block (c.in_err-say.ensures.1 before (said ++ done) told))))
+returns-in_err-say g c = (
+  c.in_err-say.ensures.0 ∙ c.pieces.invariant.0,
+  λ before said h.
+      let (done, whole, told) = c.pieces.invariant.1 before said h in
+      let block : List ℕ = c.split_at.result.0.now in
+      let after : List ℕ = c.split_at.result.1.now in
+      let parts : c.pieces.rest.now ≡ block ++ after =
+      sym (take-append-drop c.min.result c.pieces.rest.now) ∙ ap (λ (t : List ℕ). t ++ drop c.min.result c.pieces.rest.now) (sym c.split_at.ensures.front) ∙ ap (λ (t : List ℕ). block ++ t) (sym c.split_at.ensures.back) in
+      cut_here c.from_residual.result _ before (said ++ c.args.text.now) _ c.from_residual.ensures.0
+      (cut_within _ before said (done ++ block) after c.args.text.now
+      (append_assoc done block after ∙ ap (λ (t : List ℕ). done ++ t) (sym parts) ∙ sym whole)
+      (cut_assoc _ before said done block (c.in_err-say.ensures.1 before (said ++ done) told))),
+)
 
 pub pieces-preserved : goal.pieces-preserved
-pieces-preserved g c = (c.in_ok-say.ensures.0 ∙ c.pieces.invariant.0, λ before said h.
-    let (done, whole, told) = c.pieces.invariant.1 before said h in
-    let block : List ℕ = c.split_at.result.0.now in
-    let after : List ℕ = c.split_at.result.1.now in
-    let parts : c.pieces.rest.now ≡ block ++ after =
-    sym (take-append-drop c.min.result c.pieces.rest.now) ∙ ap (λ (t : List ℕ). t ++ drop c.min.result c.pieces.rest.now) (sym c.split_at.ensures.front) ∙ ap (λ (t : List ℕ). block ++ t) (sym c.split_at.ensures.back) in (
-      done ++ block,
-      whole ∙ ap (λ (t : List ℕ). done ++ t) parts ∙ sym (append_assoc done block after),
-      said_assoc _ before said done block _ (c.in_ok-say.ensures.1 before (said ++ done) told),
-    ))
+pieces-preserved g c = (
+  c.in_ok-say.ensures.0 ∙ c.pieces.invariant.0,
+  λ before said h.
+      let (done, whole, told) = c.pieces.invariant.1 before said h in
+      let block : List ℕ = c.split_at.result.0.now in
+      let after : List ℕ = c.split_at.result.1.now in
+      let parts : c.pieces.rest.now ≡ block ++ after =
+      sym (take-append-drop c.min.result c.pieces.rest.now) ∙ ap (λ (t : List ℕ). t ++ drop c.min.result c.pieces.rest.now) (sym c.split_at.ensures.front) ∙ ap (λ (t : List ℕ). block ++ t) (sym c.split_at.ensures.back) in (
+        done ++ block,
+        whole ∙ ap (λ (t : List ℕ). done ++ t) parts ∙ sym (append_assoc done block after),
+        said_assoc _ before said done block _ (c.in_ok-say.ensures.1 before (said ++ done) told),
+      ),
+)
 
 pub returns : goal.returns
-returns g c = (c.pieces.invariant.0, λ before said h.
-    let (done, whole, told) = c.pieces.invariant.1 before said h in
-    let none = no_bytes c.pieces.rest.now c.pieces-test.ensures in
-    said_as _ before said done _ _ (sym (whole ∙ ap (λ (t : List ℕ). done ++ t) none ∙ append-nil done)) told)
+returns g c = (
+  c.pieces.invariant.0,
+  λ before said h.
+      let (done, whole, told) = c.pieces.invariant.1 before said h in
+      let none = no_bytes c.pieces.rest.now c.pieces-test.ensures in
+      said_as _ before said done _ _ (sym (whole ∙ ap (λ (t : List ℕ). done ++ t) none ∙ append-nil done)) told,
+)
