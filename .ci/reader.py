@@ -15,7 +15,7 @@ CRATES = f"{TOP}/crates"
 PROMISES = {
     "Lab": [(f"ga_lab/src/{it}.rt", {"Lab", "Walk", "Backward"}) for it in ("lab", "lab/backward", "lab/explaining", "lab/listing", "lab/steps", "lab/walking")],
     "session": [("ga_console/src/run.rt", {"session"})],
-    "Shared": [(f"ga_shared/src/{it}.rt", None) for it in ("shared", "seat", "gate", "locked", "workers", "racing", "closing")],
+    "Shared": [(f"ga_shared/src/{it}.rt", None) for it in ("shared", "locked", "workers", "racing", "closing")],
     "race": [("ga_console/src/race.rt", None)],
 }
 NAME = r"[^\W\d]['\w-]*"

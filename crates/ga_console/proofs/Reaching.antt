@@ -9,7 +9,7 @@ use Rattle.ga_console.specs.Replies.{Reply, Does, LineAnswer, reply, step_reply,
 use Rattle.ga_console.specs.Replies.LineAnswer.{long, command, syntax}
 use Rattle.ga_console.specs.declared.command.Command.{Command}
 use Rattle.ga_console.specs.declared.command.Command.TheVariants.{Step, Back, Rewind, Node, Memory, Trace, Why, Count, Dump, Quit}
-use Rattle.ga_shared.proofs.Machine.{with_event-load as event_load}
+use Rattle.ga_shared.proofs.Logs.{with_event-load as event_load}
 
 unless_load : (s : State) (answer : Result Made LabFault) (new : State) → new.load ≡ s.load → (unless_refused s answer new).load ≡ s.load
 unless_load s (Ok made) new same = same

@@ -1,6 +1,3 @@
-pub mod Machine
-pub mod Receipts
-pub mod Seats
+pub mod Logs
 pub mod Places
 pub mod NodeCopies
-pub mod Races

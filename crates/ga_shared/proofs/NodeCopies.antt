@@ -1,13 +1,13 @@
--- Nodes alike part by part, and chips alike node by node.
+-- A node copied part by part, and chips alike node by node.
 use Rattle.std.proofs.Common.{◌≡◌, ◌<◌, ℕ, List, [], ◌∷◌, length, slice_index, Bool, true, false, refl, sym, ap, ◌∙◌, arith}
 use Rattle.std.specs.Prelude.{◌==◌}
 use Rattle.std.specs.Int.{from_bool}
 use Rattle.std.proofs.lemmas.List.{ext_get_or, length-map}
 use Rattle.ga_stacks.specs.Ring.{Ring, listed}
-use Rattle.ga_node.specs.Record.{NodeState, NodeRecord, record_of}
+use Rattle.ga_node.specs.Record.{NodeState, record_of}
 use Rattle.ga_grid.specs.Chip.{nowhere, node_at, records_of, record_at}
 use Rattle.ga_grid.proofs.Chips.{record_at-records_of}
-use Rattle.ga_shared.specs.kept.{with_registers, registers_of}
+use Rattle.ga_shared.specs.kept.{with_registers}
 
 -- a list of ten by its elements
 pub ten : (xs : List ℕ) (a b c d e f g h i j : ℕ) → length xs ≡ 10
@@ -31,37 +31,6 @@ nine xs a b c d e f g h i size pa pb pc pd pe pf pg ph pi = absurd (omega arith)
 pub carry_back : (b : Bool) → (from_bool b == 1) ≡ b
 carry_back true = refl
 carry_back false = refl
-
-pub from_bool-same : (a b : Bool) → from_bool a ≡ from_bool b → a ≡ b
-from_bool-same true true e = refl
-from_bool-same true false e = absurd (omega (arith, e))
-from_bool-same false true e = absurd (omega (arith, e))
-from_bool-same false false e = refl
-
--- two nodes alike in each of their parts have one record
-pub record_of-same : (x y : NodeState) → (record_of x).d ≡ (record_of y).d → (record_of x).r ≡ (record_of y).r → x.ram ≡ y.ram → x.rom ≡ y.rom → registers_of x ≡ registers_of y → x.wait ≡ y.wait → record_of x ≡ record_of y
-unfolding record_of
-record_of-same x y d r ram rom registers wait =
-    let a : x.a ≡ y.a = cc in
-    let b : x.b ≡ y.b = cc in
-    let p : x.p ≡ y.p = cc in
-    let w : x.i ≡ y.i = cc in
-    let io : x.io ≡ y.io = cc in
-    let slot : x.slot ≡ y.slot = cc in
-    let bit : from_bool x.carry ≡ from_bool y.carry = cc in
-    let stop : x.stop ≡ y.stop = cc in
-    let carry : x.carry ≡ y.carry = from_bool-same x.carry y.carry bit in
-    λ k. record { d = d k; r = r k; ram = ram k; rom = rom k; a = a k; b = b k; p = p k; i = w k; io = io k; carry = carry k; slot = slot k; wait = wait k; stop = stop k }
-
--- and one record has one of each part
-pub record_of-parts : (x y : NodeState) → record_of x ≡ record_of y → (x.ram ≡ y.ram) × (x.rom ≡ y.rom) × (registers_of x ≡ registers_of y) × (x.wait ≡ y.wait)
-unfolding record_of
-record_of-parts x y e = (
-  ap (λ n. n.ram) e,
-  ap (λ n. n.rom) e,
-  ap (λ (n : NodeRecord). n.a ∷ n.b ∷ n.p ∷ n.i ∷ n.io ∷ n.slot ∷ from_bool n.carry ∷ n.stop ∷ []) e,
-  ap (λ n. n.wait) e,
-)
 
 -- a node that took each part over
 pub record_of-copied : (from to t1 t2 t3 : NodeState) (kept returned : Ring) → t1 ≡ record to { ram = from.ram; rom = from.rom } → t2 ≡ record t1 { data_stack = kept; return_stack = returned } → t3 ≡ with_registers from t2 → listed kept ≡ (record_of from).d → listed returned ≡ (record_of from).r → record_of t3 ≡ record_of from

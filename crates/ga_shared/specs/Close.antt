@@ -4,8 +4,7 @@ use Rattle.ga_lab.specs.Machine.{State, first}
 use Rattle.ga_shared.specs.declared.closing.Closed.{Closed}
 use Rattle.ga_shared.specs.declared.closing.CloseFault.{CloseFault}
 use Rattle.ga_shared.specs.declared.closing.CloseFault.TheVariants.{Missing, Disagree}
-use Rattle.ga_shared.specs.Log.{Worker, IsLegal, made_by}
-use Rattle.ga_shared.specs.Opening.{Opening, AreSeated, WorkerAgrees, IsLeastWrong}
+use Rattle.ga_shared.specs.Log.{Worker, IsLegal, made_by, Opening, AreSeated, WorkerAgrees, IsLeastWrong}
 
 -- the log leads the machine from its first state to the lab; it is as long as all workers together made calls, and the lab
 -- counts the events that it tells of

@@ -1,14 +1,49 @@
--- Logs of calls that the machine could have answered, and what stands under the lock and at a seat.
+-- Calls of workers and their logs, what stands under the lock and at a seat, and what a shared chip was opened on.
 use Rattle.ga_shared.specs.declared.call.Answer.TheVariants as answer
-use Rattle.std.specs.Prelude.{◌≡◌, ◌≢◌, ◌+◌, ◌≤◌, ℕ, Bool, true, false, count_by, List, [], ◌∷◌, ◌++◌, length, ◌==◌, map, sum_by, if◌then◌else◌, slice_get, Some}
-use Rattle.ga_node.specs.Record.{NodeRecord}
-use Rattle.ga_lab.specs.Machine.{State, first}
+use Rattle.std.specs.Prelude.{ℕ, Result, Ok, Err, ◌≡◌, ◌≢◌, ◌+◌, ◌≤◌, Bool, true, false, count_by, List, [], ◌∷◌, ◌++◌, length, ◌==◌, map, sum_by, if◌then◌else◌, slice_get, Some, ◌<◌, All}
+use Rattle.ga_lab.specs.declared.fault.LabFault.{LabFault}
+use Rattle.ga_lab.specs.declared.fault.LabFault.TheVariants.{Waiting, Stopped, Full, Memory, Empty, NoStep, Spent}
+use Rattle.ga_event.specs.declared.made.Made.{Made}
+use Rattle.ga_lab.specs.Machine.{State, step_answer, stepped, rewind_answer, rewound, first}
 use Rattle.ga_shared.specs.declared.call.Call.{Call}
+use Rattle.ga_shared.specs.declared.call.Call.TheVariants.{Step, Rewind}
 use Rattle.ga_shared.specs.declared.call.Answer.{Answer}
+use Rattle.ga_node.specs.Record.{NodeRecord}
 use Rattle.ga_shared.specs.declared.call.Entry.{Entry}
 use Rattle.ga_shared.specs.declared.call.Receipt.{Receipt}
-use Rattle.ga_shared.specs.Calls.{call_answer, state_after}
 use Rattle.ga_shared.specs.declared.closing.Closed.{Closed}
+
+-- ---- What the machine that replays a list of events answers to a worker's call, and where it is then
+
+-- the number of a refusal
+abbrev pub refusal_number : LabFault → ℕ
+refusal_number Waiting = 1
+refusal_number Stopped = 2
+refusal_number Full = 3
+refusal_number Memory = 4
+refusal_number Empty = 5
+refusal_number NoStep = 6
+refusal_number Spent = 7
+
+abbrev pub answer_of_step : Result Made LabFault → Answer
+answer_of_step (Ok made) = answer.Made made
+answer_of_step (Err fault) = answer.Refused (refusal_number fault)
+
+abbrev pub answer_of_rewind : Result ℕ LabFault → Answer
+answer_of_rewind (Ok removed) = answer.Removed removed
+answer_of_rewind (Err fault) = answer.Refused (refusal_number fault)
+
+-- what the machine answers to a call
+abbrev pub call_answer : State → Call → Answer
+call_answer s (Step node) = answer_of_step (step_answer s node)
+call_answer s (Rewind node step) = answer_of_rewind (rewind_answer s node.number step)
+
+-- the machine after a call
+abbrev pub state_after : State → Call → State
+state_after s (Step node) = stepped s node
+state_after s (Rewind node step) = rewound s node.number step
+
+-- ---- Logs of calls that the machine could have answered, and what stands under the lock and at a seat
 
 -- The log is legal from one state of the machine to another: run over its calls, the machine gives its answers and ends in
 -- the other state. No answer in it is want of memory
@@ -98,3 +133,30 @@ pub record Raced (load : List NodeRecord) (limit : ℕ) (lists : List (List Call
   pub calls : (w : ℕ) (list : List Call) → slice_get lists w ≡ Some list → calls_of w closed.log.items ≡ list
   pub count : length closed.log.items ≡ sum_by length lists
   pub made : closed.lab.made ≡ made_by closed.log.items
+
+-- ---- What a shared chip was opened on, the seats of its workers, and whether their receipts are the log's
+
+-- the load, the limit and the number of workers that were handed in
+pub record Opening : Type 0 where
+  pub load : List NodeRecord
+  pub limit : ℕ
+  pub workers : ℕ
+
+-- the receipts that a log has for a worker, in order, where so many entries came before the log
+abbrev pub receipts_of : ℕ → ℕ → List Entry → List Receipt
+receipts_of worker place [] = []
+receipts_of worker place (e ∷ es) =
+    if e.worker == worker then record { place = place; call = e.call; answer = e.answer } ∷ receipts_of worker (place + 1) es
+    else receipts_of worker (place + 1) es
+
+-- the seats are those of the workers 0 to n - 1, each once
+abbrev pub AreSeated : ℕ → List Worker → Type 0
+AreSeated n seats = (length seats ≡ n) × ((w : ℕ) → w < n → count_by (λ s. s.number == w) seats ≡ 1)
+
+-- the receipts of this worker are the log's entries of it, in order and with their places
+abbrev pub WorkerAgrees : List Entry → List Worker → ℕ → Type 0
+WorkerAgrees log seats w = All (λ s. s.number ≡ w → s.receipts ≡ receipts_of w 0 log) seats
+
+-- this worker's receipts are not the log's, and those of all workers before it are
+abbrev pub IsLeastWrong : List Entry → List Worker → ℕ → Type 0
+IsLeastWrong log seats w = (¬ WorkerAgrees log seats w) × ((v : ℕ) → v < w → WorkerAgrees log seats v)

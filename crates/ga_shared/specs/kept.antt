@@ -1,6 +1,5 @@
 -- What only private contracts and proofs name.
 use Rattle.std.specs.Prelude.{◌≡◌, ℕ, List, [], ◌∷◌, slice_get, Some}
-use Rattle.std.specs.Int.{from_bool}
 use Rattle.ga_node.specs.Record.{NodeState, fresh_node}
 use Rattle.ga_shared.specs.declared.call.Call.{Call}
 use Rattle.ga_shared.specs.Log.{Worker, fresh_worker, Works}
@@ -20,10 +19,6 @@ with_registers from to = record to {
   wait = from.wait;
   stop = from.stop;
 }
-
--- what stands in a node that is neither stack nor memory nor wait
-abbrev pub registers_of : NodeState → List ℕ
-registers_of node = node.a ∷ node.b ∷ node.p ∷ node.i ∷ node.io ∷ node.slot ∷ from_bool node.carry ∷ node.stop ∷ []
 
 -- a node at its load defaults
 abbrev pub IsFresh : NodeState → Type 0

@@ -2,14 +2,12 @@
 
 ghost use Rattle.std.specs.Prelude.{◌≡◌, ◌≢◌, ◌<◌, ◌↔◌, ◌==◌, ℕ, sum_by, count_by, IfSome, IfNone, IsTrue, ◌∷◌, List, vec_len};
 ghost use Rattle.ga_grid.specs.Chip.{records_of};
-ghost use Rattle.ga_shared.specs.Opening.{receipts_of, AreSeated, WorkerAgrees, IsLeastWrong};
+ghost use Rattle.ga_shared.specs.Log.{receipts_of, AreSeated, WorkerAgrees, IsLeastWrong};
 ghost use Rattle.ga_shared.specs.declared.call.Receipt.{Receipt};
 
 use crate::call::{Entry, Receipt};
 use crate::copies::is_same;
-use crate::locked::Locked;
-use crate::same::is_same_receipt;
-use crate::seat::Seat;
+use crate::locked::{Locked, Seat};
 use crate::shared::Shared;
 use ga_grid::Chip;
 use ga_lab::Lab;
@@ -170,7 +168,7 @@ fn after_first<'a>(receipts: &'a [Receipt], receipt: &Receipt) -> Option<&'a [Re
     ensures none { IfNone result ((others : List Receipt) → receipts.now ≢ receipt.now ∷ others) }
 {
     let (first, others) = receipts.split_first()?;
-    if is_same_receipt(first, receipt) {
+    if first.is_same(receipt) {
         Some(others)
     } else {
         None

@@ -1,14 +1,45 @@
-//! What stands under the one lock.
+//! What stands under the one lock, and a worker's seat.
 
 ghost use Rattle.std.specs.Prelude.{◌≡◌, ◌≢◌, IfOk, OnOk, OnErr};
-ghost use Rattle.ga_shared.specs.Calls.{call_answer, state_after, refusal_number};
+ghost use Rattle.ga_shared.specs.Log.{call_answer, state_after, refusal_number};
 
 use crate::call::{Answer, Call, Entry, Receipt, SharedFault};
-use crate::seat::Seat;
 use ga_grid::Chip;
 use ga_lab::{Lab, LabFault};
 use std::marker::Model;
-use std::sync::ledger::{Book, Ledger};
+use std::sync::ledger::{Book, Ledger, Share};
+
+/// The seat of a worker: its number, its receipts, and its share of the ledger that counts the calls. It can't be copied, and
+/// its type names the shared chip that made it.
+#[derive(Drop)]
+pub struct Seat<L: Ledger> {
+    pub(crate) number: u32,
+    /// The receipts of the worker's calls, in the order in which it made them.
+    pub receipts: Vec<Receipt>,
+    pub(crate) share: Share<L>,
+}
+
+impl<L: Ledger> Model for Seat<L> {
+    ghost use Rattle.std.specs.Prelude.{◌≡◌};
+    ghost use Rattle.ga_shared.specs.Log.{Worker};
+
+    ghost Value = { Worker };
+
+    ghost view = { λ s. record { number = s.number; receipts = s.receipts.items; calls = s.share.amount } };
+
+    ghost invariant = { λ s. s.share.parts ≡ 1 };
+}
+
+impl<L: Ledger> Seat<L> {
+    ghost use Rattle.std.specs.Prelude.{◌≡◌};
+
+    /// The worker's number.
+    pub fn number(&self) -> u32
+        ensures { result ≡ self.now.number }
+    {
+        self.number
+    }
+}
 
 /// The lab, a copy of its load, the log of its calls, and the book that counts them.
 #[derive(Drop)]

@@ -7,10 +7,9 @@ ghost use Rattle.ga_shared.specs.Log.{Raced, fresh_worker};
 
 use crate::call::{Call, SharedFault};
 use crate::closing::Closed;
-use crate::gate::Gate;
-use crate::seat::Seat;
+use crate::locked::Seat;
 use crate::shared::Shared;
-use crate::workers::work;
+use crate::workers::{Gate, work};
 use ga_grid::Chip;
 use std::alloc::Global;
 use std::marker::Brand;

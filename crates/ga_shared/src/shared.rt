@@ -4,8 +4,7 @@ ghost use Rattle.ga_shared.specs.declared.call.Call.TheVariants.{Step, Rewind};
 
 use crate::call::{Call, Receipt, SharedFault};
 use crate::copies::copy_of;
-use crate::locked::Locked;
-use crate::seat::Seat;
+use crate::locked::{Locked, Seat};
 use ga_grid::{Chip, NodeId};
 use ga_lab::Lab;
 use std::alloc::Global;
@@ -27,7 +26,7 @@ pub struct Shared<L: Ledger> {
 impl<L: Ledger> Model for Shared<L> {
     ghost use Rattle.std.specs.Prelude.{◌≡◌, ◌≤◌};
     ghost use Rattle.ga_grid.specs.Chip.{records_of};
-    ghost use Rattle.ga_shared.specs.Opening.{Opening};
+    ghost use Rattle.ga_shared.specs.Log.{Opening};
 
     ghost Value = { Opening };
 

@@ -1,11 +1,10 @@
-//! The calls of one worker.
+//! The calls of one worker, and what is told of them.
 
 ghost use Rattle.std.specs.Prelude.{◌≡◌, ◌<◌, ◌^◌, ℕ, length, take, IfOk, OnOk, OnErr};
 ghost use Rattle.ga_shared.specs.Log.{Works, CountsCall};
 
 use crate::call::{Call, Receipt, SharedFault};
-use crate::gate::Gate;
-use crate::seat::Seat;
+use crate::locked::Seat;
 use crate::shared::Shared;
 use std::sync::Wait;
 use std::sync::ledger::Ledger;
@@ -50,4 +49,23 @@ fn make<L: Ledger, R: Wait>(
         Call::Step(node) => shared.step(rt, seat, node),
         Call::Rewind(node, step) => shared.rewind(rt, seat, node, step),
     }
+}
+
+/// What is told before and after each call of a worker, outside the lock. Calls count from 1.
+pub trait Gate {
+    /// The worker is about to make the call.
+    fn before(&self, worker: u32, call: u32);
+
+    /// The worker made the call.
+    fn after(&self, worker: u32, call: u32);
+}
+
+/// The gate that does nothing.
+#[derive(Clone, Copy, Debug)]
+pub struct Free;
+
+impl Gate for Free {
+    fn before(&self, _worker: u32, _call: u32) {}
+
+    fn after(&self, _worker: u32, _call: u32) {}
 }

@@ -1,7 +1,7 @@
 use Rattle.std.proofs.Common.{◌≡◌, arith, refl, sym, ap, ◌∙◌, subst}
 use Rattle.std.proofs.lemmas.List.{take_all}
-use Rattle.ga_shared.specs.Opening.{WorkerAgrees, receipts_of}
-use Rattle.ga_shared.proofs.Receipts.{WorkerAgrees-more}
+use Rattle.ga_shared.specs.Log.{WorkerAgrees, receipts_of}
+use Rattle.ga_shared.proofs.Logs.{WorkerAgrees-more}
 use Rattle.ga_shared.proofs.closing.agrees.Goals as goal
 use Rattle.ga_shared.proofs.closing.agrees.Goals.{else-number-worker-via-then-number-worker+else-not-receipts_match, else-number-worker-via-else-number-worker}
 

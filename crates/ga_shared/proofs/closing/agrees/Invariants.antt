@@ -1,5 +1,5 @@
 use Rattle.std.proofs.Common.{take}
-use Rattle.ga_shared.specs.Opening.{WorkerAgrees}
+use Rattle.ga_shared.specs.Log.{WorkerAgrees}
 use Rattle.ga_shared.proofs.closing.agrees.Given as goal
 
 abbrev pub invariant-loop-i : goal.invariant-loop-i

@@ -1,5 +1,5 @@
 use Rattle.std.proofs.Common.{◌<◌, ℕ}
-use Rattle.ga_shared.specs.Opening.{WorkerAgrees}
+use Rattle.ga_shared.specs.Log.{WorkerAgrees}
 use Rattle.ga_shared.proofs.closing.least_wrong.Given as goal
 
 abbrev pub invariant-loop-worker : goal.invariant-loop-worker

@@ -1,5 +1,5 @@
 use Rattle.std.proofs.Common.{◌≡◌, drop}
-use Rattle.ga_shared.specs.Opening.{receipts_of}
+use Rattle.ga_shared.specs.Log.{receipts_of}
 use Rattle.ga_shared.proofs.closing.receipts_match.Given as goal
 
 -- the receipts are the log's where those that are left are the rest of the log's, and only there

@@ -1,7 +1,7 @@
 use Rattle.std.proofs.Common.{◌≡◌, ◌<◌, ℕ, map, sym, ◌∙◌, ap, subst, vec_len}
 use Rattle.std.proofs.lemmas.List.{length-map}
 use Rattle.ga_grid.specs.Chip.{records_of}
-use Rattle.ga_shared.proofs.Races.{raced}
+use Rattle.ga_shared.proofs.Logs.{raced}
 use Rattle.ga_shared.proofs.racing.race_on.Goals as goal
 
 pub returns-in-Ok-close : goal.returns-in-Ok-close

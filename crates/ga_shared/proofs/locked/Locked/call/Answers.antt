@@ -3,7 +3,7 @@ use Rattle.ga_grid.specs.Chip.{records_of}
 use Rattle.ga_shared.specs.declared.call.Entry.{Entry}
 use Rattle.ga_shared.specs.declared.call.Receipt.{Receipt}
 use Rattle.ga_shared.specs.Log.{Desk, Worker, Makes}
-use Rattle.ga_shared.proofs.Machine.{state_after-limit, IsHistory-push}
+use Rattle.ga_shared.proofs.Logs.{state_after-limit, IsHistory-push}
 use Rattle.ga_shared.proofs.locked.Locked.call.Goals as goal
 
 -- the log grew by this call's entry

@@ -1,8 +1,7 @@
 use Rattle.std.proofs.Common.{◌<◌, refl, sym, ◌∙◌, ap, subst, true≢false}
 use Rattle.ga_grid.specs.Chip.{records_of}
-use Rattle.ga_shared.specs.Log.{Desk}
-use Rattle.ga_shared.specs.Opening.{Opening}
-use Rattle.ga_shared.proofs.Seats.{AreSeated-along, WorkerAgrees-along, IsHistory-legal}
+use Rattle.ga_shared.specs.Log.{Desk, Opening}
+use Rattle.ga_shared.proofs.Logs.{AreSeated-along, WorkerAgrees-along, IsHistory-legal}
 use Rattle.ga_shared.proofs.shared.Shared.close.Goals as goal
 
 pub returns-then-not-are_seated : goal.returns-then-not-are_seated
