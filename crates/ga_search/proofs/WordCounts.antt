@@ -1,29 +1,160 @@
--- How many words went over a link, from one event to the next.
-use Rattle.std.proofs.Common.{◌≡◌, ℕ, ◌+◌, ◌≤◌, Bool, true, false, ◌&&◌, ◌||◌, ◌==◌, if◌then◌else◌, List, [], ◌∷◌, ◌++◌, length, drop, Some, None, Ok, refl, sym, ◌∙◌, ap, subst, arith, append_assoc, length-append}
-use Rattle.std.specs.Prelude.{Option, IsSome, option_to_list, slice_get, slice_index}
-use Rattle.std.proofs.lemmas.List.{append-nil}
-use Rattle.ga_node.specs.declared.kind.Kind.{Kind}
+-- The words that went over a link: how they are read, and how many they are.
+use Rattle.std.proofs.Common.{◌≡◌, ℕ, zero, suc, ◌+◌, ◌≤◌, Bool, true, false, ◌&&◌, ◌==◌, if◌then◌else◌, List, [], ◌∷◌, ◌++◌, length, drop, Some, None, refl, sym, ◌∙◌, ap, arith, ◌||◌, Ok, subst, append_assoc, length-append}
+use Rattle.std.specs.Prelude.{slice_get, option_to_list, Option, IsSome, slice_index}
+use Rattle.ga_event.specs.declared.made.Made.{Made}
+use Rattle.ga_event.specs.declared.made.Made.TheVariants as made
+use Rattle.ga_search.specs.declared.words.Sent.{Sent}
+use Rattle.ga_search.specs.Words.{carried_as, one_over, words_after, is_over, end_of, word_count}
+use Rattle.std.proofs.lemmas.Option.{none-some}
 use Rattle.ga_grid.specs.declared.node_id.NodeId.{NodeId}
 use Rattle.ga_event.specs.declared.event.Event.{Event}
 use Rattle.ga_event.specs.declared.event.Event.TheVariants as event
 use Rattle.ga_event.specs.declared.event.Cause.{Cause}
 use Rattle.ga_event.specs.Touches.{touches}
-use Rattle.ga_event.specs.Apply.{Told, apply, after, unless, cause_of, refusal_of, replay}
+use Rattle.ga_event.specs.Apply.{Told, Did, Carried, apply, after, unless, cause_of, refusal_of, replay}
 use Rattle.ga_event.specs.Told.{made_after, mades_after, mades_of, events_told}
+use Rattle.ga_lab.specs.Machine.{State, told_of_kept, history_of, chip_of, told_next, step_answer, with_event, stepped, told_by}
+use Rattle.std.proofs.lemmas.List.{append-nil}
+use Rattle.ga_node.specs.declared.kind.Kind.{Kind}
 use Rattle.ga_event.proofs.Nexts.{next_can}
 use Rattle.ga_causal.proofs.Consistent.{made_of}
 use Rattle.ga_rollback.proofs.Rewinding.{run_snoc}
-use Rattle.ga_event.specs.declared.made.Made.{Made}
-use Rattle.ga_event.specs.declared.made.Made.TheVariants as made
-use Rattle.ga_lab.specs.Machine.{State, chip_of, told_next, step_answer, with_event, stepped, told_by, told_of_kept, history_of}
 use Rattle.ga_lab.proofs.Called.{Runs, runs_of, chip_is, told_is}
-use Rattle.ga_search.specs.declared.words.Sent.{Sent}
-use Rattle.ga_search.specs.Words.{is_over, carried_as, one_over, words_after, word_count}
-use Rattle.ga_search.specs.kept.Backward.{counted_link, count_over, counted, more_over, counted_by, AreCounted, WereCounted}
+use Rattle.ga_search.specs.kept.{counted_link, count_over, counted, more_over, counted_by, AreCounted, WereCounted}
 use Rattle.ga_search.specs.declared.condition.Condition.{Condition}
-use Rattle.ga_search.proofs.Telling.{read_on}
 use Rattle.ga_search.proofs.Stepping.{StepIs, step_is, stepped_is}
 use Rattle.ga_lab.proofs.Stepping.{told_after as told_last}
+
+-- ---- reading the words that went over a link
+
+same_Some : {A : Type 0} (x y : A) → Some x ≡ Some y → x ≡ y
+same_Some x y h = cc
+
+-- one event read, and none left
+pub read_on : (list : List Made) (i : ℕ) (told : Made) → Some told ≡ slice_get list i → drop i list ≡ told ∷ drop (i + 1) list
+read_on [] i told h = absurd (none-some _ (sym h))
+read_on (x ∷ xs) zero told h = ap (λ (z : Made). z ∷ xs) (sym (same_Some told x h))
+read_on (x ∷ xs) (suc i) told h =
+    read_on xs i told h ∙ ap (λ (z : ℕ). told ∷ drop z (x ∷ xs)) (let q : suc (i + 1) ≡ suc i + 1 = omega arith in q)
+
+pub read_all : (list : List Made) (i : ℕ) → None ≡ slice_get list i → drop i list ≡ []
+read_all [] zero h = refl
+read_all [] (suc i) h = refl
+read_all (x ∷ xs) zero h = absurd (none-some _ h)
+read_all (x ∷ xs) (suc i) h = read_all xs i h
+
+pub read_past : (list : List Made) (i : ℕ) → length list ≤ i → drop i list ≡ []
+read_past [] zero l = refl
+read_past [] (suc i) l = refl
+read_past (x ∷ xs) zero l = absurd (omega arith)
+read_past (x ∷ xs) (suc i) l = read_past xs i (omega arith)
+
+-- an event that carried no word over the link, and one that did
+abbrev pub one_if : Bool → ℕ
+one_if b = if b then 1 else 0
+
+over_none : (b : Bool) (sent : Sent) → [] ≡ (if b then sent ∷ [] else []) → one_if b ≡ 0
+over_none true sent h = absurd (cc)
+over_none false sent h = refl
+
+not_over : (writer reader number : ℕ) (told : Made) → [] ≡ carried_as writer reader number told → one_over writer reader told ≡ 0
+not_over writer reader number (made.Own n k kind) h = refl
+not_over writer reader number (made.Pass w k r j carried) h = over_none ((w.number == writer) && (r.number == reader)) _ h
+
+over_some : (b : Bool) (sent other : Sent) → other ∷ [] ≡ (if b then sent ∷ [] else []) → one_if b ≡ 1
+over_some true sent other h = refl
+over_some false sent other h = absurd (cc)
+
+carries_one : (writer reader number : ℕ) (told : Made) (sent : Sent) → sent ∷ [] ≡ carried_as writer reader number told → one_over writer reader told ≡ 1
+carries_one writer reader number (made.Own n k kind) sent h = absurd (cc)
+carries_one writer reader number (made.Pass w k r j carried) sent h = over_some ((w.number == writer) && (r.number == reader)) _ sent h
+
+pub passed_over : (writer reader before : ℕ) (told : Made) (rest : List Made) → [] ≡ carried_as writer reader (before + 1) told → words_after writer reader before (told ∷ rest) ≡ words_after writer reader before rest
+passed_over writer reader before told rest h =
+    ap (λ z. z ++ words_after writer reader (before + one_over writer reader told) rest) (sym h)
+    ∙ ap (λ (z : ℕ). words_after writer reader z rest) (let q : before + one_over writer reader told ≡ before = omega (arith, not_over writer reader (before + 1) told h) in q)
+
+pub told_word : (writer reader before : ℕ) (told : Made) (rest : List Made) (sent : Sent) → sent ∷ [] ≡ carried_as writer reader (before + 1) told → words_after writer reader before (told ∷ rest) ≡ sent ∷ words_after writer reader (before + 1) rest
+told_word writer reader before told rest sent h =
+    ap (λ z. z ++ words_after writer reader (before + one_over writer reader told) rest) (sym h)
+    ∙ ap (λ (z : ℕ). sent ∷ words_after writer reader z rest) (let q : before + one_over writer reader told ≡ before + 1 = omega (arith, carries_one writer reader (before + 1) told sent h) in q)
+
+-- ---- the words over a link are told alike by the steps of both its ends
+
+-- an event that carried no word over the link adds none, whether a history has it or not
+none_if : (b : Bool) (sent : Sent) → b ≡ false → [] ≡ (if b then sent ∷ [] else [])
+none_if true sent h = absurd (cc)
+none_if false sent h = refl
+
+carried_none : (w r n : ℕ) (x : Made) → is_over w r x ≡ false → [] ≡ carried_as w r n x
+carried_none w r n (made.Own m k kind) h = refl
+carried_none w r n (made.Pass a k b j carried) h = none_if ((a.number == w) && (b.number == r)) _ h
+
+left_out : (w r n : ℕ) (has : Bool) (x : Made) (xs : List Made) → is_over w r x ≡ false
+    → words_after w r n ((if has then x ∷ [] else []) ++ xs) ≡ words_after w r n xs
+left_out w r n true x xs h = passed_over w r n x xs (carried_none w r (n + 1) x h)
+left_out w r n false x xs h = refl
+
+not_told : (w r n : ℕ) (has : Bool) (xs : List Made) → words_after w r n ((if has then [] else []) ++ xs) ≡ words_after w r n xs
+not_told w r n true xs = refl
+not_told w r n false xs = refl
+
+-- one that did stands in both
+in_writer : (p q x : Bool) → (p && q) ≡ true → (p || x) ≡ true
+in_writer true q x h = refl
+in_writer false q x h = absurd (cc)
+
+in_reader : (p q x y : Bool) → (p && q) ≡ true → (x || (q || y)) ≡ true
+in_reader true true true y h = refl
+in_reader true true false y h = refl
+in_reader true false x y h = absurd (cc)
+in_reader false q x y h = absurd (cc)
+
+had : (has : Bool) (x : Made) (xs : List Made) → has ≡ true → (if has then x ∷ [] else []) ++ xs ≡ x ∷ xs
+had true x xs h = refl
+had false x xs h = absurd (cc)
+
+one_pass : (w r n : ℕ) (x : Made) (xs ys : List Made) (at_w at_r over : Bool) → is_over w r x ≡ over → (over ≡ true → (at_w ≡ true) × (at_r ≡ true))
+    → ((m : ℕ) → words_after w r m xs ≡ words_after w r m ys)
+    → words_after w r n ((if at_r then x ∷ [] else []) ++ xs) ≡ words_after w r n ((if at_w then x ∷ [] else []) ++ ys)
+one_pass w r n x xs ys at_w at_r false is at same = left_out w r n at_r x xs is ∙ same n ∙ sym (left_out w r n at_w x ys is)
+one_pass w r n x xs ys at_w at_r true is at same =
+    ap (words_after w r n) (had at_r x xs (at refl).1)
+    ∙ ap (λ z. carried_as w r (n + 1) x ++ z) (same (n + one_over w r x))
+    ∙ sym (ap (words_after w r n) (had at_w x ys (at refl).0))
+
+one_event : (w r n : ℕ) (before : List Event) (e : Event) (what : Told) (xs ys : List Made) → ((m : ℕ) → words_after w r m xs ≡ words_after w r m ys)
+    → words_after w r n ((if touches e r then option_to_list (made_after before e what) else []) ++ xs)
+    ≡ words_after w r n ((if touches e w then option_to_list (made_after before e what) else []) ++ ys)
+one_event w r n before (event.Own node) (Did kind) xs ys same =
+    left_out w r n (touches (event.Own node) r) _ xs refl ∙ same n ∙ sym (left_out w r n (touches (event.Own node) w) _ ys refl)
+one_event w r n before (event.Own node) (Carried word) xs ys same =
+    not_told w r n (touches (event.Own node) r) xs ∙ same n ∙ sym (not_told w r n (touches (event.Own node) w) ys)
+one_event w r n before (event.Pass a b side) (Did kind) xs ys same =
+    not_told w r n (touches (event.Pass a b side) r) xs ∙ same n ∙ sym (not_told w r n (touches (event.Pass a b side) w) ys)
+one_event w r n before (event.Pass a b side) (Carried word) xs ys same =
+    one_pass w r n _ xs ys (touches (event.Pass a b side) w) (touches (event.Pass a b side) r) ((a.number == w) && (b.number == r)) refl
+    (λ h. (in_writer (a.number == w) (b.number == r) _ h, in_reader (a.number == w) (b.number == r) (a.number == r) _ h)) same
+
+both_ends : (w r n : ℕ) (before : List Event) (told : List (Cause × Told)) → words_after w r n (mades_after before told r) ≡ words_after w r n (mades_after before told w)
+both_ends w r n before [] = refl
+both_ends w r n before (x ∷ xs) =
+    one_event w r n before x.0.event x.1 (mades_after (before ++ x.0.event ∷ []) xs r) (mades_after (before ++ x.0.event ∷ []) xs w)
+    (λ m. both_ends w r m (before ++ x.0.event ∷ []) xs)
+
+-- whichever end is read
+pub by_either : (s : State) (w r : NodeId) (n : ℕ) (by_reader : Bool)
+    → words_after w.number r.number n (history_of s (end_of by_reader w r)) ≡ words_after w.number r.number n (history_of s w.number)
+by_either s w r n true = both_ends w.number r.number n [] (told_of_kept s)
+by_either s w r n false = refl
+
+-- while none was read
+pub at_first : (s : State) (w r : NodeId) (n place : ℕ) (a b : Bool) → place ≡ 0
+    → words_after w.number r.number n (drop place (history_of s (end_of a w r))) ≡ words_after w.number r.number n (drop place (history_of s (end_of b w r)))
+at_first s w r n zero a b h = by_either s w r n a ∙ sym (by_either s w r n b)
+at_first s w r n (suc place) a b h = absurd (omega (arith, h))
+
+-- ---- how many words went over a link, from one event to the next
 
 -- one event more in front
 carried_one : (b : Bool) (sent : Sent) → length (if b then sent ∷ [] else []) ≡ (if b then 1 else 0)
@@ -51,9 +182,6 @@ one_counted w r x xs = in_front w r 0 x xs ∙ ap (λ (z : ℕ). one_over w r x 
 pub one_more : (w r : ℕ) (list : List Made) (i : ℕ) (x : Made) → Some x ≡ slice_get list i
     → length (words_after w r 0 (drop i list)) ≡ one_over w r x + length (words_after w r 0 (drop (i + 1) list))
 one_more w r list i x h = ap (λ z. length (words_after w r 0 z)) (read_on list i x h) ∙ one_counted w r x (drop (i + 1) list)
-
-abbrev pub one_if : Bool → ℕ
-one_if b = if b then 1 else 0
 
 at_most_one : (b : Bool) → one_if b ≤ 1
 at_most_one true = omega arith

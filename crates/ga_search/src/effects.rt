@@ -1,6 +1,6 @@
 //! What a rollback would take, without taking it.
 
-ghost use Rattle.std.specs.Prelude.{◌≡◌, ◌⊎◌, ◌↔◌, ◌+◌, ◌≤◌, ℕ, false, [], ◌∷◌, ◌++◌, slice_index, Ok, Err, IsOk, IfOk, OnOk, IfErr};
+ghost use Rattle.std.specs.Prelude.{◌≡◌, ◌⊎◌, ◌↔◌, ◌+◌, ◌≤◌, ℕ, false, ◌++◌, slice_index, Ok, Err, IsOk, IfOk, OnOk, IfErr};
 ghost use Rattle.ga_event.specs.Told.{steps_of};
 ghost use Rattle.ga_lab.specs.Machine.{rewind_answer, stands};
 ghost use Rattle.ga_search.specs.Effects.{kept_steps, effect_on, effects_below, effects_of};
@@ -30,18 +30,7 @@ pub struct Effects {
     pub nodes: Vec<RollbackEffect>,
 }
 
-// Puts what would go of a node at the end of a list.
-fn add(list: &mut Vec<RollbackEffect>, effect: RollbackEffect) -> Result<(), LabFault>
-    ensures ok { OnOk result (list.new.items ≡ list.old.items ++ effect ∷ []) }
-    ensures err { IfErr result (λ why. why ≡ LabFault.Memory) }
-{
-    match list.push(effect) {
-        Ok(()) => Ok(()),
-        Err(_) => Err(LabFault::Memory),
-    }
-}
-
-// The same, where so many steps of the node would go.
+// Puts what would go of a node at the end of a list, where so many of its steps would.
 fn add_steps(
     list: &mut Vec<RollbackEffect>,
     lab: &Lab,
@@ -57,7 +46,10 @@ fn add_steps(
         return Ok(());
     }
     let first = lab.steps(node) - steps + 1;
-    add(list, RollbackEffect { node, first, steps })
+    match list.push(RollbackEffect { node, first, steps }) {
+        Ok(()) => Ok(()),
+        Err(_) => Err(LabFault::Memory),
+    }
 }
 
 // What would go of each node, where so many steps would.

@@ -49,7 +49,7 @@ pub fn newest_is_found()
 
 /// The step of a node that is taken back then is the event that is found, so that its rollback isn't refused: some events go just where
 /// there is one to be found.
-#[tactic(auto, using(crate::proofs::FoundSteps::found_placed, crate::proofs::FoundSteps::found_some))]
+#[tactic(auto, using(crate::proofs::Backing::found_placed, crate::proofs::Backing::found_some))]
 pub fn found_goes()
     ensures step { (until : List Condition) (node : NodeId) (s : State) (place : ℕ) → newest_held until (Some node) s ≡ Some place →
         place_of (causes_of s) node.number (number_of_step node.number (made_in (told_of_kept s) place)) ≡ Some place }

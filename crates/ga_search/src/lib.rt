@@ -2,15 +2,12 @@
 #![tactic(auto)]
 
 mod condition;
-mod counting;
 mod edges;
 mod effects;
 mod going_back;
 mod idle;
 pub mod laws;
-mod needs;
 mod numbers;
-mod past;
 mod ready;
 mod running;
 mod schedule;
@@ -20,7 +17,6 @@ mod watching;
 mod words;
 
 pub use condition::Condition;
-pub use counting::count_words;
 pub use effects::{Effects, RollbackEffect, find_effects};
 pub use going_back::{back_until, newest_held};
 pub use idle::find_idle;
@@ -29,4 +25,5 @@ pub use schedule::{Order, Schedule};
 pub use watch::Watch;
 pub use watched::{WatchedEnd, WatchedRun, has_written, run_watched};
 pub use watching::{MOST_CONDITIONS, conditions_asked};
+pub use words::telling::count_words;
 pub use words::{Sent, Words};

@@ -11,7 +11,7 @@ pub(crate) struct Numbers {
 }
 
 // The lowest place from this one on at which the word has a 1.
-#[tactic(auto, using(crate::proofs::Bits::none_above, crate::proofs::Bits::lowest_is))]
+#[tactic(auto, using(crate::proofs::Sets::none_above, crate::proofs::Sets::lowest_is))]
 fn lowest(word: u64, from: u32) -> Option<u32>
     requires { from < 64 }
     ensures least { IfSome result (λ place. from ≤ place) }
@@ -41,9 +41,10 @@ fn with_bit(word: u64, place: u32, is_one: bool) -> u64
 
 impl Numbers {
     ghost use Rattle.std.specs.Prelude.{◌≡◌, ◌≢◌, ◌<◌, ◌≤◌, ℕ, true, false, IfSome, IfNone};
-    ghost use Rattle.ga_search.specs.kept.Backward.{has};
+    ghost use Rattle.ga_search.specs.kept.{has};
 
     /// The set of nothing.
+    #[tactic(auto, using(crate::proofs::Sets::has_no_bit))]
     pub fn none() -> Self
         ensures { (n : ℕ) → n < 192 → has result n ≡ false }
     {
@@ -62,7 +63,7 @@ impl Numbers {
     }
 
     /// Whether a number is in the set.
-    #[tactic(auto, unfolding(crate::specs::kept::Backward::has))]
+    #[tactic(auto, unfolding(crate::specs::kept::has))]
     pub fn has(&self, number: u8) -> bool
         requires { number < 192 }
         ensures { result ≡ has self.now number }

@@ -3,7 +3,7 @@
 ghost use Rattle.std.specs.Prelude.{◌≡◌, ◌<◌, ◌≤◌, ℕ, true, false, Some, IfSome, IfNone};
 ghost use Rattle.ga_grid.specs.Chip.{records_of};
 ghost use Rattle.ga_grid.specs.Grid.{neighbour_of};
-ghost use Rattle.ga_search.specs.kept.Backward.{has, IsRight, HoldsReady, StaysRight, IsRightAround, IsRefreshed, IsAlone};
+ghost use Rattle.ga_search.specs.kept.{has, IsRight, HoldsReady, StaysRight, IsRightAround, IsRefreshed, IsAlone};
 ghost use Rattle.ga_races.specs.Orders.{first_in};
 
 use crate::numbers::Numbers;
@@ -13,6 +13,7 @@ use ga_lab::Made;
 use ga_ports::Side;
 
 // Looks whether a node has an event.
+#[tactic(auto, using(ga_races::proofs::Ready::can_go_is, crate::proofs::Stepping::looked_kept))]
 fn look(ready: &mut Numbers, chip: &Chip, node: NodeId)
     ensures here { IsRight (records_of chip.now) ready.new node.number }
     ensures kept { StaysRight (records_of chip.now) ready.old ready.new }
@@ -57,6 +58,7 @@ pub(crate) fn ready_nodes(chip: &Chip) -> Numbers
 
 // Looks at what an event that was made may have changed. Then it isn't known any more that one node is alone.
 #[inline(always)]
+#[tactic(auto, using(crate::proofs::Stepping::around_stays))]
 pub(crate) fn refresh(ready: &mut Numbers, alone: &mut Option<NodeId>, chip: &Chip, made: &Made)
     ensures around { IsRefreshed (records_of chip.now) made.now ready.new }
     ensures kept { StaysRight (records_of chip.now) ready.old ready.new }
@@ -79,6 +81,7 @@ pub(crate) fn refresh(ready: &mut Numbers, alone: &mut Option<NodeId>, chip: &Ch
 }
 
 // The lowest node in the set from this one on.
+#[tactic(auto, using(ga_races::proofs::Ready::within))]
 fn lowest_from(ready: &Numbers, first: NodeId) -> Option<NodeId>
     requires { (n : ℕ) → 144 ≤ n → n < 192 → has ready.now n ≡ false }
     ensures least { IfSome result (λ node. first.number ≤ node.number) }

@@ -4,17 +4,15 @@ ghost use Rattle.std.specs.Prelude.{◌≡◌, ◌≤◌, ◌+◌, ℕ, length, 
 ghost use Rattle.ga_event.specs.Apply.{replay};
 ghost use Rattle.ga_lab.specs.Machine.{chip_of, step_answer, stepped};
 ghost use Rattle.ga_search.specs.Words.{one_over, word_count};
-ghost use Rattle.ga_search.specs.kept.Backward.{HoldsReady, IsAlone, AreCounted, newest_told};
-ghost use Rattle.ga_search.specs.kept.Needs.{IsNeeded, IsOver, events_at};
+ghost use Rattle.ga_search.specs.kept.{HoldsReady, IsAlone, AreCounted, newest_told, IsNeeded, IsOver, events_at};
 ghost use Rattle.ga_search.specs.Schedules.{passed_on};
 ghost use Rattle.ga_search.specs.Running.{running, told, run_moved, held_next, after_events, AreMade, IsRefusedFor, HasEnded};
 
 use crate::condition::Condition;
-use crate::needs::{Needs, needs_of};
 use crate::numbers::Numbers;
 use crate::ready::{next_from, ready_nodes, refresh};
 use crate::schedule::Schedule;
-use crate::watching::{LinkCounts, count_all, first_held};
+use crate::watching::{LinkCounts, Needs, count_all, first_held, needs_of};
 use ga_grid::NodeId;
 use ga_lab::{Lab, LabFault, Made};
 

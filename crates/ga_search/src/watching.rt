@@ -1,13 +1,138 @@
-//! Some conditions at once.
+//! Some conditions at once; and what an own event needs so that one of them can hold right after it. Most events lack it, and that is seen
+//! by a few comparisons, whatever the conditions are.
 
 ghost use Rattle.std.specs.Prelude.{◌≡◌, ◌≤◌, length, Some};
 ghost use Rattle.ga_search.specs.Conditions.{first_held, conditions_asked};
-ghost use Rattle.ga_search.specs.kept.Backward.{AreCounted, WereCounted, newest_told};
-ghost use Rattle.ga_search.specs.kept.Needs.{IsNeeded};
+ghost use Rattle.ga_search.specs.kept.{AreCounted, WereCounted, newest_told, IsNeeded};
 
 use crate::condition::Condition;
-use crate::needs::Needs;
 use ga_lab::{Lab, Made};
+use ga_grid::NodeId;
+use ga_node::{Kind, Place};
+
+// The opcodes that store are this one and the three behind it: `!p`, `!+`, `!b`, `!`.
+const STORE_P: u8 = 0x0c;
+
+const STORES: u32 = 4;
+
+// So many opcodes are all that a code can tell.
+const ALL: u32 = 256;
+
+// The slot where a fetch is due, and one that no node has.
+const FETCH_DUE: u32 = 4;
+
+const NO_SLOT: u32 = 5;
+
+/// What an own event needs: to be a wait or a stop, or one of these.
+#[derive(Clone, Copy)]
+pub(crate) struct Needs {
+    // One of so many opcodes from `!p` on; of all of them a fetch does too.
+    opcodes: u32,
+    // Any after which this slot of its node is next.
+    slot: u32,
+}
+
+impl Needs {
+    ghost use Rattle.std.specs.Prelude.{◌≡◌, ◌≤◌, ◌&&◌, not, true};
+    ghost use Rattle.ga_grid.specs.Chip.{record_at};
+    ghost use Rattle.ga_lab.specs.Machine.{chip_of};
+    ghost use Rattle.ga_search.specs.kept.{is_one_of, may_fetch, lacks, Covers};
+
+    // The same, and what this condition needs.
+    fn with(self, condition: &Condition) -> Self
+        ensures covers { Covers result condition.now }
+        ensures opcodes { self.opcodes ≤ result.opcodes }
+        ensures fetches { self.slot ≡ 4 → result.slot ≡ 4 }
+    {
+        match condition {
+            Condition::Reaches { .. } => Needs {
+                slot: FETCH_DUE,
+                ..self
+            },
+            Condition::Writes { .. } => self.with_opcodes(STORES),
+            Condition::Steps { .. } => self.with_opcodes(ALL),
+            Condition::Holds { .. } => self.with_opcodes(ALL),
+            Condition::ComesTo { .. } => self.with_opcodes(ALL),
+            _ => self,
+        }
+    }
+
+    // The same, and so many opcodes.
+    fn with_opcodes(self, opcodes: u32) -> Self
+        ensures asked { opcodes ≤ result.opcodes }
+        ensures opcodes { self.opcodes ≤ result.opcodes }
+        ensures fetches { result.slot ≡ self.slot }
+    {
+        if self.opcodes < opcodes {
+            Needs { opcodes, ..self }
+        } else {
+            self
+        }
+    }
+
+    // Whether it is one of the opcodes.
+    #[inline(always)]
+    fn has_opcode(&self, code: u8) -> bool
+        ensures { result ≡ is_one_of self.now.opcodes code }
+    {
+        u32::from(code.wrapping_sub(STORE_P)) < self.opcodes
+    }
+
+    // Whether the node fetches next, and that does.
+    #[inline(always)]
+    #[tactic(auto, unfolding(ga_node::specs::Record::record_of))]
+    fn may_fetch(&self, lab: &Lab, node: NodeId) -> bool
+        ensures { result ≡ may_fetch self.now (record_at (chip_of lab.now) node.number) }
+    {
+        lab.node(node).get(Place::Slot) == self.slot
+    }
+
+    // Whether an opcode lacks what it needs.
+    #[inline(always)]
+    fn lacks_opcode(&self, lab: &Lab, node: NodeId, code: u8) -> bool
+        ensures { result ≡ (not (is_one_of self.now.opcodes code) && not (may_fetch self.now (record_at (chip_of lab.now) node.number))) }
+    {
+        !self.has_opcode(code) && !self.may_fetch(lab, node)
+    }
+
+    // Whether an event of any kind does.
+    #[inline(never)]
+    fn lacks_any(&self, lab: &Lab, node: NodeId, kind: Kind) -> bool
+        ensures { result ≡ lacks self.now (record_at (chip_of lab.now) node.number) kind }
+    {
+        match kind {
+            Kind::Run(code) => self.lacks_opcode(lab, node, code),
+            Kind::Fetch => self.opcodes < ALL && !self.may_fetch(lab, node),
+            Kind::Wait => false,
+            Kind::Stop(_) => false,
+        }
+    }
+
+    /// Whether the newest event, of this kind and the node's own, lacks what it needs.
+    #[inline(always)]
+    pub(crate) fn lacks(&self, lab: &Lab, node: NodeId, kind: Kind) -> bool
+        ensures { result ≡ lacks self.now (record_at (chip_of lab.now) node.number) kind }
+    {
+        match kind {
+            Kind::Run(code) => self.lacks_opcode(lab, node, code),
+            _ => self.lacks_any(lab, node, kind),
+        }
+    }
+}
+
+// What an own event needs so that one of these conditions can hold.
+pub(crate) fn needs_of(until: &[Condition]) -> Needs
+    ensures { IsNeeded result until.now }
+{
+    let mut needs = Needs {
+        opcodes: 0,
+        slot: NO_SLOT,
+    };
+    for condition in until {
+        needs = needs.with(condition);
+    }
+    needs
+}
 
 /// So many conditions at most are watched at once.
 pub const MOST_CONDITIONS: usize = 8;
@@ -87,6 +212,7 @@ fn first_seen(until: &[Condition], words: &LinkCounts, made: &Made, lab: &Lab) -
 
 // The same right after an event, where so many words were kept before, and it is known what an event needs.
 #[inline(always)]
+#[tactic(auto, using(crate::proofs::Needing::none_of_none, crate::proofs::Needing::counted_of_none))]
 pub(crate) fn first_held(
     until: &[Condition],
     needs: &Needs,
@@ -111,6 +237,7 @@ pub(crate) fn first_held(
 
 // The same where there are conditions: apart, since what it needs of memory is made ready where it begins.
 #[inline(always)]
+#[tactic(auto, using(crate::proofs::Needing::none_held_lacking, crate::proofs::WordCounts::none_counted))]
 fn first_among(
     until: &[Condition],
     needs: &Needs,

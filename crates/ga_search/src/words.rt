@@ -5,8 +5,7 @@ ghost use Rattle.std.specs.Prelude.{◌≤◌};
 use ga_grid::NodeId;
 use ga_word::Word18;
 
-pub(crate) mod ends;
-mod telling;
+pub(crate) mod telling;
 
 /// A word that went over a link.
 #[derive(Clone, Copy, PartialEq, Eq, Debug)]

@@ -1,12 +1,65 @@
-//! Telling the words that went over a link one after another.
+//! Telling the words that went over a link one after another, and counting them. A word is told of both ends of the link.
 
-ghost use Rattle.std.specs.Prelude.{◌≡◌, option_to_list};
-ghost use Rattle.ga_search.specs.Words.{carried_as};
+ghost use Rattle.std.specs.Prelude.{◌≡◌, ◌≤◌, option_to_list};
+ghost use Rattle.ga_lab.specs.Machine.{history_of};
+ghost use Rattle.ga_search.specs.Words.{end_of, words_of, words_after, carried_as, is_over, one_over, word_count};
 
-use super::ends::{end_of, is_shorter};
 use super::{Sent, Words};
 use ga_grid::NodeId;
 use ga_lab::{Lab, Made};
+
+// Whether the reader has fewer steps than the writer. The steps of either tell the words.
+#[tactic(auto, using(crate::proofs::WordCounts::by_either))]
+fn is_shorter(lab: &Lab, writer: NodeId, reader: NodeId) -> bool
+    ensures { words_after writer.number reader.number 0 (history_of lab.now (end_of result writer reader))
+        ≡ words_of lab.now writer.number reader.number }
+{
+    lab.steps(reader) < lab.steps(writer)
+}
+
+// The reader or the writer.
+fn end_of(by_reader: bool, writer: NodeId, reader: NodeId) -> NodeId
+    ensures { result.number ≡ end_of by_reader writer reader }
+{
+    if by_reader { reader } else { writer }
+}
+
+// Whether the event carried a word over the link.
+pub(crate) fn is_over(made: &Made, writer: NodeId, reader: NodeId) -> bool
+    ensures { result ≡ is_over writer.number reader.number made.now }
+{
+    match made {
+        Made::Own { .. } => false,
+        Made::Pass {
+            writer: from,
+            reader: to,
+            ..
+        } => from.number == writer.number && to.number == reader.number,
+    }
+}
+
+// One where it did.
+pub(crate) fn one_over(made: &Made, writer: NodeId, reader: NodeId) -> u32
+    ensures one { result ≡ one_over writer.number reader.number made.now }
+    ensures most { result ≤ 1 }
+{
+    if is_over(made, writer, reader) { 1 } else { 0 }
+}
+
+/// How many words went from the writer to the reader, of those that are kept. Takes time by the steps of the one that has fewer.
+pub fn count_words(lab: &Lab, writer: NodeId, reader: NodeId) -> u32
+    ensures { result ≡ word_count lab.now writer.number reader.number }
+{
+    let end = end_of(is_shorter(lab, writer, reader), writer, reader);
+    let mut words = 0;
+    'places: for place in 0..lab.steps(end) {
+        match lab.told(end, place) {
+            Some(made) => words += one_over(&made, writer, reader),
+            None => return words,
+        }
+    }
+    words
+}
 
 // The word that an event carried over the link, with this number.
 fn sent_as(made: &Made, writer: NodeId, reader: NodeId, number: u32) -> Option<Sent>
@@ -54,7 +107,7 @@ impl Words {
     }
 
     // Whether the reader's steps are to be read: at first where they are fewer than the writer's, then as before.
-    #[tactic(auto, using(crate::proofs::Ends::at_first))]
+    #[tactic(auto, using(crate::proofs::WordCounts::at_first))]
     fn reads_reader(&self, lab: &Lab) -> bool
         ensures { words_left lab.now (record self.now { by_reader = result }) ≡ words_left lab.now self.now }
     {

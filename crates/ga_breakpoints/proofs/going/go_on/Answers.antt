@@ -2,7 +2,7 @@ use Rattle.std.proofs.Common.{◌∙◌, ℕ, None, ap, sym, subst}
 use Rattle.ga_event.specs.declared.made.Made.{Made}
 use Rattle.ga_lab.specs.Machine.{State}
 use Rattle.ga_search.specs.Running.{Running, running, after_events}
-use Rattle.ga_search.proofs.WatchedEvents.{after_none}
+use Rattle.ga_search.proofs.Events.{after_none}
 use Rattle.std.specs.Prelude.{is_some}
 use Rattle.ga_breakpoints.specs.kept.Cells.{ends_by, halt_of, with_hits}
 use Rattle.ga_breakpoints.specs.Going.{Course, HasGone, tally_on, going_on}

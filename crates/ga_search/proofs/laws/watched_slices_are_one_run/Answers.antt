@@ -1,5 +1,5 @@
 use Rattle.ga_search.specs.Watched.{watching}
-use Rattle.ga_search.proofs.WatchedEvents.{after_after_first, watch_after_after, ended_later_first, after_none}
+use Rattle.ga_search.proofs.Events.{after_after_first, watch_after_after, ended_later_first, after_none}
 use Rattle.ga_search.proofs.laws.watched_slices_are_one_run.Goals as goal
 
 pub returns-clause-events : goal.returns-clause-events

@@ -4,8 +4,7 @@ use Rattle.ga_lab.specs.Machine.{chip_of}
 use Rattle.ga_search.specs.Running.{Running, running, chosen, told, run_moved}
 use Rattle.ga_search.proofs.WordCounts.{all_counted_on}
 use Rattle.ga_search.proofs.Stepping.{choice_is, nothing_past, quiet_is}
-use Rattle.ga_search.proofs.Events.{told_is, moved_is, held_is}
-use Rattle.ga_search.proofs.Overs.{stayed}
+use Rattle.ga_search.proofs.Events.{told_is, moved_is, held_is, stayed}
 use Rattle.ga_search.proofs.running.advance.Goals as goal
 
 pub next_from-requires-clause-past : goal.next_from-requires-clause-past

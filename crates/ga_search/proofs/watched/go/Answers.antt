@@ -2,7 +2,7 @@ use Rattle.std.proofs.Common.{sym}
 use Rattle.ga_lab.specs.Machine.{chip_of}
 use Rattle.ga_search.specs.Running.{running}
 use Rattle.ga_search.proofs.Stepping.{quiet_is}
-use Rattle.ga_search.proofs.WatchedEvents.{none_left, told_is_first, moved_is_first}
+use Rattle.ga_search.proofs.Events.{none_left, told_is_first, moved_is_first}
 use Rattle.ga_search.proofs.watched.go.Goals as goal
 
 pub returns-in-None-clause-halted : goal.returns-in-None-clause-halted

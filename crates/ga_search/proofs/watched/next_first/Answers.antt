@@ -5,7 +5,7 @@ use Rattle.ga_races.specs.Orders.{can_go}
 use Rattle.ga_search.specs.Running.{Running, running}
 use Rattle.ga_search.specs.Watched.{chosen_first}
 use Rattle.ga_search.proofs.Stepping.{choice_is, nothing_past}
-use Rattle.ga_search.proofs.WatchedEvents.{chosen_ready, chosen_other}
+use Rattle.ga_search.proofs.Events.{chosen_ready, chosen_other}
 use Rattle.ga_search.proofs.watched.next_first.Goals as goal
 
 pub next_from-requires-clause-past : goal.next_from-requires-clause-past

@@ -1,9 +1,9 @@
 use Rattle.std.proofs.Common.{◌≡◌, ◌∙◌, true, false, refl, ap, arith, subst}
 use Rattle.std.specs.Prelude.{is_some}
-use Rattle.ga_search.specs.kept.Backward.{HoldsReady}
+use Rattle.ga_search.specs.kept.{HoldsReady}
 use Rattle.ga_search.specs.Running.{Running, running}
 use Rattle.ga_search.specs.Watched.{watching, ends_behind}
-use Rattle.ga_search.proofs.WatchedEvents.{gone_on_first, made_more_first, seen_more, ends_is, never_more_first, ended_seen, ended_halted_first}
+use Rattle.ga_search.proofs.Events.{gone_on_first, made_more_first, seen_more, ends_is, never_more_first, ended_seen, ended_halted_first}
 use Rattle.ga_search.proofs.watched.run_watched.Goals as goal
 
 pub loop-events-preserved : goal.loop-events-preserved

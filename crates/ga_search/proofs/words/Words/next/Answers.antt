@@ -1,7 +1,7 @@
 use Rattle.std.proofs.Common.{◌∙◌, ℕ, ◌+◌, ◌∷◌, drop, sym, ap, arith}
 use Rattle.ga_lab.specs.Machine.{history_of}
 use Rattle.ga_search.specs.Words.{words_after, words_left}
-use Rattle.ga_search.proofs.Telling.{read_on, read_all, read_past, passed_over, told_word}
+use Rattle.ga_search.proofs.WordCounts.{read_on, read_all, read_past, passed_over, told_word}
 use Rattle.ga_search.proofs.words.Words.next.Goals as goal
 
 pub returns-in-Some-sent_as-clause-word : goal.returns-in-Some-sent_as-clause-word

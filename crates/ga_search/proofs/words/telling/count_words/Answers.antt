@@ -2,9 +2,8 @@ use Rattle.std.proofs.Common.{◌≡◌, ◌∙◌, ℕ, ◌+◌, ◌≤◌, Lis
 use Rattle.ga_event.specs.declared.made.Made.{Made}
 use Rattle.ga_lab.specs.Machine.{history_of}
 use Rattle.ga_search.specs.Words.{one_over, words_after, word_count}
-use Rattle.ga_search.proofs.Telling.{read_all}
-use Rattle.ga_search.proofs.WordCounts.{one_more, few_words}
-use Rattle.ga_search.proofs.counting.count_words.Goals as goal
+use Rattle.ga_search.proofs.WordCounts.{read_all, one_more, few_words}
+use Rattle.ga_search.proofs.words.telling.count_words.Goals as goal
 
 pub overflow_add-words : goal.overflow_add-words
 overflow_add-words c =

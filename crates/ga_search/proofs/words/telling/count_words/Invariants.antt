@@ -1,7 +1,7 @@
 use Rattle.std.proofs.Common.{◌≡◌, ◌+◌, length, drop}
 use Rattle.ga_lab.specs.Machine.{history_of}
 use Rattle.ga_search.specs.Words.{words_after, word_count}
-use Rattle.ga_search.proofs.counting.count_words.Given as goal
+use Rattle.ga_search.proofs.words.telling.count_words.Given as goal
 
 abbrev pub invariant-places : goal.invariant-places
 invariant-places l =

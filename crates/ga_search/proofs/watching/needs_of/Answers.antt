@@ -2,7 +2,7 @@ use Rattle.std.proofs.Common.{◌≡◌, Some, length, refl, arith}
 use Rattle.std.specs.Prelude.{slice_get}
 use Rattle.std.proofs.lemmas.Option.{slice_get_read, slice_get_within}
 use Rattle.ga_search.proofs.Needing.{needed_more}
-use Rattle.ga_search.proofs.needs.needs_of.Goals as goal
+use Rattle.ga_search.proofs.watching.needs_of.Goals as goal
 
 pub loop-condition-preserved : goal.loop-condition-preserved
 loop-condition-preserved c =

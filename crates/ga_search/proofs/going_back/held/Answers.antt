@@ -3,9 +3,9 @@ use Rattle.ga_node.specs.Record.{record_of}
 use Rattle.ga_event.specs.Told.{steps_of}
 use Rattle.ga_lab.specs.Machine.{State, standing, earlier}
 use Rattle.ga_search.specs.declared.condition.Condition.{Condition}
-use Rattle.ga_search.specs.kept.Backward.{asked_node}
-use Rattle.ga_search.proofs.Earlier.{stands_at, holds_here, comes_here, reaches_here, writes_here}
-use Rattle.ga_search.proofs.past.held.Goals as goal
+use Rattle.ga_search.specs.kept.{asked_node}
+use Rattle.ga_search.proofs.Newest.{stands_at, holds_here, comes_here, reaches_here, writes_here}
+use Rattle.ga_search.proofs.going_back.held.Goals as goal
 
 pub returns-in-Holds : goal.returns-in-Holds
 returns-in-Holds c =
@@ -22,18 +22,18 @@ returns-in-ComesTo c =
     let s : State = c.args.events.now.machine in
     let n = asked_node c.args.until.now in
     let place = c.args.events.now.place + 1 in
-    comes_here c.args.until.now c.in-ComesTo.node c.in-ComesTo.address c.p_at.result c.args.made.now (earlier s place) (record_of c.node-in-ComesTo.result.now) c.in-ComesTo.is
+    comes_here c.args.until.now c.in-ComesTo.node c.in-ComesTo.address c.p_of.result c.args.made.now (earlier s place) (record_of c.node-in-ComesTo.result.now) c.in-ComesTo.is
     (stands_at c.args.walk.now s n (steps_of n.number (take place s.kept)) place (record_of c.node-in-ComesTo.result.now) c.requires.stands refl c.node-in-ComesTo.ensures)
-    c.p_at.ensures
+    c.p_of.ensures
 
 pub returns-in-Reaches : goal.returns-in-Reaches
 returns-in-Reaches c =
     let s : State = c.args.events.now.machine in
     let n = asked_node c.args.until.now in
     let place = c.args.events.now.place + 1 in
-    reaches_here c.args.until.now c.in-Reaches.node c.in-Reaches.address c.reached.result c.args.made.now (earlier s place) (record_of c.node-in-Reaches.result.now) c.in-Reaches.is
+    reaches_here c.args.until.now c.in-Reaches.node c.in-Reaches.address c.reaches.result c.args.made.now (earlier s place) (record_of c.node-in-Reaches.result.now) c.in-Reaches.is
     (stands_at c.args.walk.now s n (steps_of n.number (take place s.kept)) place (record_of c.node-in-Reaches.result.now) c.requires.stands refl c.node-in-Reaches.ensures)
-    c.reached.ensures
+    c.reaches.ensures
 
 pub stored-has_stored-requires-clause-stands : goal.stored-has_stored-requires-clause-stands
 stored-has_stored-requires-clause-stands c =
