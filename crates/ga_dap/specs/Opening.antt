@@ -5,9 +5,9 @@ use Rattle.ga_image.specs.FirstFault.{IsFirstFault}
 use Rattle.ga_image.specs.declared.fault.ImageFault.{ImageFault}
 use Rattle.ga_lab.specs.Machine.{State}
 use Rattle.ga_notes.specs.declared.notes.Notes.{Notes}
-use Rattle.ga_source.specs.Asks.{AreAsked}
+use Rattle.ga_source.specs.Programs.{AreAsked}
 use Rattle.ga_source.specs.declared.program.Program.{Program}
-use Rattle.ga_source.specs.Sound.{IsSoundSource}
+use Rattle.ga_source.specs.Made.{IsSoundSource}
 use Rattle.ga_text.specs.Lines.{Bytes, lines_of}
 use Rattle.ga_explorer.specs.Opening.{Exploring, begins_as_image, OpensExploring}
 use Rattle.ga_responses.specs.declared.debuggee.Debuggee.{Debuggee}

@@ -5,7 +5,7 @@ ghost use Rattle.ga_grid.specs.Chip.{records_of};
 ghost use Rattle.ga_image.specs.FirstFault.{IsFirstFault};
 ghost use Rattle.ga_image.specs.declared.fault.ImageFault.{ImageFault as AnImageFault};
 ghost use Rattle.ga_image.specs.declared.fault.ImageCause.TheVariants.{Memory as NoMemory};
-ghost use Rattle.ga_source.specs.Sound.{IsSoundSource};
+ghost use Rattle.ga_source.specs.Made.{IsSoundSource};
 ghost use Rattle.ga_parser.specs.declared.fault.SourceCause.TheVariants.{Memory as Wanting};
 ghost use Rattle.ga_text.specs.Lines.{lines_of};
 ghost use Rattle.ga_lab.specs.Machine.{first};

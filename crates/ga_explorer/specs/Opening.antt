@@ -9,9 +9,8 @@ use Rattle.ga_text.specs.Lines.{Bytes, Text}
 use Rattle.ga_image.specs.FirstFault.{no_memory}
 use Rattle.ga_image.specs.declared.fault.ImageFault.{ImageFault}
 use Rattle.ga_source.specs.declared.program.Program.{Program}
-use Rattle.ga_source.specs.Programs.{IsAssembled}
-use Rattle.ga_source.specs.Asks.{AreRead, AreAsked}
-use Rattle.ga_source.specs.Groups.{HasGroups}
+use Rattle.ga_source.specs.Programs.{IsAssembled, AreRead, AreAsked}
+use Rattle.ga_source.specs.Cells.{HasGroups}
 use Rattle.ga_source.specs.Made.{IsChipOfSource}
 use Rattle.ga_notes.specs.Notes.{AreOfSource}
 use Rattle.ga_text.specs.Input.{Unread}

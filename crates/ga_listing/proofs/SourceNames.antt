@@ -8,7 +8,7 @@ use Rattle.ga_node.specs.Record.{NodeState, fresh_node}
 use Rattle.ga_grid.specs.Grid.{load_p_of, default_chip, yxx_of}
 use Rattle.ga_parser.specs.Plain.{no_request, plain_of, words_in, body_in, bodies_in, yxx_in}
 use Rattle.ga_source.specs.Programs.{is_item}
-use Rattle.ga_source.specs.Made.{with_requests, number_or, plain_node, IsNode, HasPlain}
+use Rattle.ga_source.specs.Made.{with_requests, number_or, plain_node, IsNode, HasPlain, IsSoundBody, node_number_of_words}
 use Rattle.ga_listing.specs.Source.{IsLoadedAs, IsSourceOf}
 use Rattle.ga_listing.specs.kept.{usual_p, holds_words, node_words, IsFit, Word, Says, source_words}
 use Rattle.ga_listing.proofs.PlainWords.{given, node_requests, plain_by, node_asks, nothing_asks}
@@ -18,7 +18,6 @@ use Rattle.ga_grid.specs.Chip.{nowhere, node_at}
 use Rattle.ga_grid.proofs.Chips.{node_at-default_chip}
 use Rattle.ga_text.specs.Lines.{Text}
 use Rattle.ga_text.specs.Digits.{decimal3_of}
-use Rattle.ga_source.specs.Sound.{IsSoundBody, node_number_of_words}
 use Rattle.ga_listing.proofs.SourceWords.{says_whole, says_words, starts, body_of, bodies_of, all_bodies, name_back}
 use Rattle.ga_listing.proofs.FreeCells.{node_free}
 

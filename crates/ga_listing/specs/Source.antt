@@ -12,10 +12,8 @@ use Rattle.ga_source.specs.declared.program.Assembled.{Assembled}
 use Rattle.ga_parser.specs.declared.scan.Token.{Token}
 use Rattle.ga_parser.specs.Saying.{all_in, all_said}
 use Rattle.ga_source.specs.Mending.{with_numbers, mended, IsAssembledOf}
-use Rattle.ga_source.specs.Programs.{IsAssembled}
-use Rattle.ga_source.specs.Asks.{AreRead, AreAsked}
-use Rattle.ga_source.specs.Made.{IsChipOfSource}
-use Rattle.ga_source.specs.Sound.{IsSoundSource}
+use Rattle.ga_source.specs.Programs.{IsAssembled, AreRead, AreAsked}
+use Rattle.ga_source.specs.Made.{IsChipOfSource, IsSoundSource}
 use Rattle.ga_text.specs.Image.{HasNoEnd}
 use Rattle.ga_text.specs.Output.{IsReadWhole, Begins}
 use Rattle.ga_display.specs.Texts.{image_fault_text}

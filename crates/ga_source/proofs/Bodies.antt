@@ -1,5 +1,5 @@
--- The words of each node, and the programs that are read of them.
-use Rattle.std.proofs.Common.{◌≡◌, ◌∙◌, ℕ, zero, suc, inl, inr, ◌<◌, ◌≤◌, ◌+◌, Bool, true, false, List, [], ◌∷◌, ◌++◌, length, take, drop, get_or, Option, Some, None, arith, ap, sym, refl, subst}
+-- The words of each node with their lines, the programs that are read of them, and words with faults.
+use Rattle.std.proofs.Common.{◌≡◌, ◌∙◌, ℕ, zero, suc, inl, inr, ◌<◌, ◌≤◌, ◌+◌, Bool, true, false, List, [], ◌∷◌, ◌++◌, length, take, drop, get_or, Option, Some, None, arith, ap, sym, refl, subst, append_assoc, append-nil, drop-cons}
 use Rattle.std.proofs.lemmas.List.{get_or-map, take-map, drop-map, drop_all}
 use Rattle.ga_source.specs.declared.program.Program.{Program}
 use Rattle.ga_parser.specs.declared.scan.Token.{Token}
@@ -8,11 +8,13 @@ use Rattle.std.specs.Prelude.{codes, map}
 use Rattle.std.proofs.lemmas.Bool.{cases_Bool}
 use Rattle.ga_grid.specs.Grid.{node_number}
 use Rattle.ga_parser.specs.Plain.{Plain, is_node, body_in, bodies_in, yxx_in, plain_of, asked_by, texts_in, words_in}
-use Rattle.ga_source.specs.Asks.{IsOf, AreOf}
-use Rattle.ga_parser.specs.Saying.{said_in, all_said}
+use Rattle.ga_source.specs.Programs.{IsOf, AreOf, said_body, said_bodies, AsksFor, IsAsked, AreAskedBy}
+use Rattle.ga_parser.specs.Saying.{said_in, all_said, Said, next_line}
 use Rattle.ga_parser.proofs.Hearing.{same_text}
 use Rattle.ga_parser.proofs.PlainAsked.{map_map}
-use Rattle.ga_source.specs.kept.Packing.{AreOfFirst}
+use Rattle.ga_source.specs.kept.{AreOfFirst, AreAskedFirst}
+use Rattle.ga_parser.specs.declared.fault.Fault.{Fault}
+use Rattle.ga_source.specs.Mending.{place_of_token, first_gone, back, without_at, with_line, with_numbers, mended, without_token}
 
 -- ---- up to the next `node`
 
@@ -43,18 +45,18 @@ body_next (word ∷ texts) (suc i) here = body_next texts i (λ below. here (ome
 
 -- ---- one program more
 
-abbrev is_some : List (List (List ℕ)) → Type 0
+abbrev is_some : {X : Type 0} → List (List X) → Type 0
 is_some [] = ⊥
 is_some (words ∷ rest) = Unit {0}
 
-no_words : {words : List (List ℕ)} {rest : List (List (List ℕ))} → [] ≡ words ∷ rest → ⊥
+no_words : {X : Type 0} {words : List X} {rest : List (List X)} → [] ≡ words ∷ rest → ⊥
 no_words e = subst is_some (sym e) tt
 
-abbrev head_of : List (List (List ℕ)) → List (List ℕ)
+abbrev head_of : {X : Type 0} → List (List X) → List X
 head_of [] = []
 head_of (words ∷ rest) = words
 
-abbrev tail_of : List (List (List ℕ)) → List (List (List ℕ))
+abbrev tail_of : {X : Type 0} → List (List X) → List (List X)
 tail_of [] = []
 tail_of (words ∷ rest) = rest
 
@@ -164,3 +166,126 @@ unfolding bodies_in
 all_read words left programs none read =
     first_all (bodies_in (texts_in (all_said words))) programs
     (subst (λ (rest : List Token). AreOfFirst (bodies_in (texts_in (all_said words))) programs (bodies_in (texts_of rest))) none read)
+
+-- ---- up to the next `node`
+
+pub said_front : (tokens : List Token) (i : ℕ) → ((k : ℕ) → k < i → is_node (get_or (texts_of tokens) k []) ≡ false) → (i < length (texts_of tokens) → is_node (get_or (texts_of tokens) i []) ≡ true) → all_said (take i tokens) ≡ said_body (all_said tokens)
+unfolding said_body
+said_front [] zero none here = refl
+said_front [] (suc i) none here = refl
+said_front (token ∷ tokens) zero none here = let is : is_node token.text.now ≡ true = here (omega arith) in rw is refl
+said_front (token ∷ tokens) (suc i) none here =
+    let other : is_node token.text.now ≡ false = none 0 (omega arith) in
+    rw other (ap (λ (rest : List Said). record { line = token.line; text = token.text.now; kind = token.kind } ∷ rest) (said_front tokens i (λ k below. none (suc k) (omega arith)) (λ below. here (omega arith))))
+
+pub said_behind : (tokens : List Token) (i : ℕ) → ((k : ℕ) → k < i → is_node (get_or (texts_of tokens) k []) ≡ false) → said_bodies (all_said (drop i tokens)) ≡ said_bodies (all_said tokens)
+unfolding said_bodies
+said_behind [] zero none = refl
+said_behind [] (suc i) none = refl
+said_behind (token ∷ tokens) zero none = refl
+said_behind (token ∷ tokens) (suc i) none =
+    let other : is_node token.text.now ≡ false = none 0 (omega arith) in
+    rw other (said_behind tokens i (λ k below. none (suc k) (omega arith)))
+
+-- ---- one program more
+
+asked_more : (all : List (List Said)) (programs : List Program) (left rest : List (List Said)) (words : List Said) (program : Program) → left ≡ words ∷ rest → IsAsked words program → AreAskedFirst all programs left → AreAskedFirst all (programs ++ program ∷ []) rest
+unfolding AreAskedFirst
+asked_more [] [] left rest words program is of first = absurd (no_words (first ∙ is))
+asked_more (body ∷ all) [] left rest words program is of first =
+    let same = first ∙ is in
+    (subst (λ (w : List Said). IsAsked w program) (sym (ap head_of same)) of, ap tail_of same)
+asked_more [] (p ∷ programs) left rest words program is of first = absurd first
+asked_more (body ∷ all) (p ∷ programs) left rest words program is of first =
+    (first.0, asked_more all programs left rest words program is of first.1)
+
+-- none is left
+asked_all : (all : List (List Said)) (programs : List Program) → AreAskedFirst all programs [] → AreAskedBy all programs
+unfolding AreAskedFirst AreAskedBy
+asked_all [] [] none = tt
+asked_all (body ∷ all) [] none = absurd (no_words (sym none))
+asked_all [] (p ∷ programs) first = absurd first
+asked_all (body ∷ all) (p ∷ programs) first = (first.0, asked_all all programs first.1)
+
+-- the words of the node that comes first
+said_first : (words : List Token) (d : Token) (n : ℕ) → 2 ≤ length words → is_node (get_or words 0 d).text.now ≡ true → yxx_in (get_or words 1 d).text.now ≡ Some n → said_bodies (all_said words) ≡ (record { line = (get_or words 1 d).line; text = (get_or words 1 d).text.now; kind = (get_or words 1 d).kind } ∷ said_body (all_said (drop 2 words))) ∷ said_bodies (all_said (drop 2 words))
+unfolding said_body said_bodies
+said_first [] d n two node name = absurd (omega arith)
+said_first (a ∷ []) d n two node name = absurd (omega arith)
+said_first (a ∷ b ∷ words) d n two node name =
+    let other = name_is_other b.text.now n name in
+    rw (node, other) refl
+
+pub one_more_asked : (words behind body : List Token) (d : Token) (first name : List ℕ) (count : ℕ) (program : Program) (programs after : List Program) (all : List (List Said)) → 2 ≤ length words
+    → first ≡ (get_or words 0 d).text.now → is_node first ≡ true
+    → name ≡ (get_or words 1 d).text.now → yxx_in name ≡ Some program.node.number
+    → after ≡ programs ++ program ∷ [] → behind ≡ drop 2 words → body ≡ take count behind
+    → all_said (take count behind) ≡ said_body (all_said behind) → said_bodies (all_said (drop count behind)) ≡ said_bodies (all_said behind)
+    → AsksFor (get_or words 1 d).line (all_said body) program
+    → AreAskedFirst all programs (said_bodies (all_said words)) → AreAskedFirst all after (said_bodies (all_said (drop (count + 2) words)))
+one_more_asked words behind body d first name count program programs after all two is_first node is_name named pushed is_behind is_body front rest asks read =
+    let token = get_or words 1 d in
+    let said : Said = record { line = token.line; text = token.text.now; kind = token.kind } in
+    let texts : all_said body ≡ said_body (all_said (drop 2 words)) = ap all_said is_body ∙ (front ∙ ap (λ (b : List Token). said_body (all_said b)) is_behind) in
+    let of : IsAsked (said ∷ said_body (all_said (drop 2 words))) program =
+    (ap yxx_in (sym is_name) ∙ named, subst (λ (w : List Said). AsksFor token.line w program) texts asks) in
+    let left = said_first words d program.node.number two (ap is_node (sym is_first) ∙ node) (ap yxx_in (sym is_name) ∙ named) in
+    let more = asked_more all programs (said_bodies (all_said words)) (said_bodies (all_said (drop 2 words))) (said ∷ said_body (all_said (drop 2 words))) program left of read in
+    let last : said_bodies (all_said (drop 2 words)) ≡ said_bodies (all_said (drop (count + 2) words)) =
+    ap (λ (b : List Token). said_bodies (all_said b)) (sym is_behind) ∙ (sym rest ∙ ap (λ (b : List Token). said_bodies (all_said b)) (ap (drop count) is_behind ∙ drop_twice words count)) in
+    subst (λ (l : List (List Said)). AreAskedFirst all after l) last
+    (subst (λ (p : List Program). AreAskedFirst all p (said_bodies (all_said (drop 2 words)))) (sym pushed) more)
+
+-- ---- a source
+
+pub none_asked : (words : List Token) (programs : List Program) → programs ≡ [] → AreAskedFirst (said_bodies (all_said words)) programs (said_bodies (all_said words))
+unfolding AreAskedFirst
+none_asked words programs none =
+    subst (λ (p : List Program). AreAskedFirst (said_bodies (all_said words)) p (said_bodies (all_said words))) (sym none) refl
+
+pub all_asked : (words left : List Token) (programs : List Program) → left ≡ [] → AreAskedFirst (said_bodies (all_said words)) programs (said_bodies (all_said left)) → AreAskedBy (said_bodies (all_said words)) programs
+unfolding said_bodies
+all_asked words left programs none read =
+    asked_all (said_bodies (all_said words)) programs
+    (subst (λ (rest : List Token). AreAskedFirst (said_bodies (all_said words)) programs (said_bodies (all_said rest))) none read)
+
+-- ---- numbers
+
+pub one_numbered : (words : List Token) (k number : ℕ) (d one : Token) (before new all : List Token) → k < length words → one ≡ with_line (get_or words k d) number → new ≡ before ++ one ∷ [] → before ++ with_numbers number (drop k words) ≡ all → new ++ with_numbers (next_line number) (drop (k + 1) words) ≡ all
+unfolding with_numbers
+one_numbered words k number d one before new all within is pushed e =
+    let next : suc k ≡ k + 1 = omega arith in
+    let left : drop k words ≡ get_or words k d ∷ drop (k + 1) words = drop-cons words k d within ∙ ap (λ (j : ℕ). get_or words k d ∷ drop j words) next in
+    ap (λ (l : List Token). l ++ with_numbers (next_line number) (drop (k + 1) words)) (pushed ∙ ap (λ (o : Token). before ++ o ∷ []) is)
+    ∙ (append_assoc before (with_line (get_or words k d) number ∷ []) (with_numbers (next_line number) (drop (k + 1) words))
+    ∙ (ap (λ (l : List Token). before ++ with_numbers number l) (sym left) ∙ e))
+
+pub all_numbered : (number : ℕ) (left before all : List Token) → left ≡ [] → before ++ with_numbers number left ≡ all → before ≡ all
+unfolding with_numbers
+all_numbered number left before all none e = sym (append-nil before) ∙ (ap (λ (l : List Token). before ++ with_numbers number l) (sym none) ∙ e)
+
+-- ---- faults
+
+-- what is left of words: those before the first that goes, and those behind the last
+pub left_words : (words : List Token) (number at first : ℕ) (start front rest one two : List Token) → start ≡ [] → at ≡ place_of_token number words → first ≡ first_gone words at → front ≡ take first words → rest ≡ back words first at
+    → one ≡ start ++ front → two ≡ one ++ rest → two ≡ without_token words number
+unfolding without_token
+left_words words number at first start front rest one two none is_at is_first is_front is_rest begun ended =
+    ended
+    ∙ (ap (λ (l : List Token). l ++ rest) (begun ∙ (ap (λ (l : List Token). l ++ front) none ∙ is_front))
+    ∙ (ap (λ (l : List Token). take first words ++ l) is_rest
+    ∙ (ap (λ (f : ℕ). take f words ++ back words f at) is_first ∙ ap (without_at words) is_at)))
+
+-- one fault more
+pub one_mended : (words : List Token) (faults : List Fault) (fault : Fault) → mended words (faults ++ fault ∷ []) ≡ without_token (mended words faults) fault.line
+unfolding mended
+one_mended words [] fault = refl
+one_mended words (first ∷ faults) fault = one_mended (without_token words first.line) faults fault
+
+pub next_mended : (words kept left : List Token) (faults new : List Fault) (fault : Fault) → kept ≡ mended words faults → left ≡ without_token kept fault.line → new ≡ faults ++ fault ∷ [] → left ≡ mended words new
+next_mended words kept left faults new fault before gone pushed =
+    gone ∙ (ap (λ (l : List Token). without_token l fault.line) before ∙ (sym (one_mended words faults fault) ∙ ap (mended words) (sym pushed)))
+
+pub none_mended : (words kept : List Token) (faults : List Fault) → kept ≡ words → faults ≡ [] → kept ≡ mended words faults
+unfolding mended
+none_mended words kept faults same none = same ∙ ap (mended words) (sym none)

@@ -1,5 +1,5 @@
 -- Plain requests, packed one by one.
-use Rattle.std.proofs.Common.{◌≡◌, ◌≢◌, ◌∙◌, ◌+◌, ◌%◌, ◌^◌, inl, inr, set, replicate, get_or-set_other, ℕ, zero, suc, ◌<◌, length, slice_index_or, arith, refl, sym, ap, subst, true, List, [], ◌∷◌, ◌++◌, Option, None, append-nil, append_assoc}
+use Rattle.std.proofs.Common.{◌≡◌, ◌≢◌, ◌∙◌, ◌+◌, ◌%◌, ◌^◌, inl, inr, set, replicate, get_or-set_other, ℕ, zero, suc, ◌<◌, ◌≤◌, length, slice_index_or, arith, refl, sym, ap, subst, true, List, [], ◌∷◌, ◌++◌, Option, None, append-nil, append_assoc}
 use Rattle.std.proofs.lemmas.Bool.{cases_lt}
 use Rattle.std.proofs.lemmas.List.{get_or-replicate, get_or_past, length-replicate}
 use Rattle.ga_parser.specs.declared.item.Operand.TheVariants.{Number}
@@ -10,12 +10,14 @@ use Rattle.ga_parser.specs.declared.item.Request.{Request}
 use Rattle.ga_parser.specs.declared.item.Request.TheVariants.{Put, Go}
 use Rattle.ga_parser.specs.declared.item.Asked.{Asked}
 use Rattle.ga_source.specs.declared.packing.Packer.{Packer}
-use Rattle.ga_source.specs.declared.spot.Spot.{Spot}
+use Rattle.ga_source.specs.declared.group.Spot.{Spot}
 use Rattle.ga_source.specs.Reading.{begin_at, behind, fits}
-use Rattle.ga_source.specs.Made.{address_behind}
-use Rattle.ga_source.specs.Sound.{cell_at, cells_from, cell_of, AreDistinctCells, IsMemoryAddress}
-use Rattle.ga_source.specs.kept.Layout.{IsClosed}
-use Rattle.ga_source.specs.kept.Packing.{requests_of, IsPlainRequest, ArePlain, address_after, IsCellGroup, AreCellGroups, IsPackedPlain, AreOpen, AreWords}
+use Rattle.ga_source.specs.Made.{address_behind, cell_at, cells_from, cell_of, AreDistinctCells, IsMemoryAddress}
+use Rattle.ga_source.specs.kept.{IsClosed, requests_of, IsPlainRequest, ArePlain, address_after, IsCellGroup, AreCellGroups, IsPackedPlain, AreWords}
+
+-- from the k-th on, no cell is given
+abbrev pub AreOpen : List (Option ℕ) → List (ℕ × ℕ) → ℕ → Type 0
+AreOpen given cells from = (k : ℕ) → from ≤ k → k < length cells → slice_index_or given ((cell_of cells k).0 % 512) None ≡ None
 
 -- ---- one more
 

@@ -1,22 +1,147 @@
--- What plain words make of a node.
-use Rattle.std.specs.Prelude.{◌||◌, ◌&&◌}
-use Rattle.std.proofs.Common.{◌≡◌, ◌∙◌, ℕ, ◌+◌, ◌%◌, ◌<◌, ◌≤◌, inl, inr, refl, sym, ap, Bool, true, false, List, [], ◌∷◌, ◌++◌, Option, Some, length, set, slice_index, get_or-set_same, get_or-set_other, arith}
-use Rattle.std.proofs.lemmas.Bool.{and_parts, cases_eq, eqb-true, ne_eqb, both_ways}
-use Rattle.std.proofs.lemmas.List.{length-set}
-use Rattle.ga_ports.specs.declared.address.Target.{Target}
-use Rattle.ga_ports.specs.declared.address.Target.TheVariants.{Ram, Rom, Io, Ports, Bad}
+-- What plain words make of a node: the opcodes of a word whose address field changes, a cell that is written, and those that stay.
+use Rattle.std.specs.Prelude.{bit_xor, ◌==◌, ◌||◌, ◌&&◌}
+use Rattle.std.proofs.Common.{◌≡◌, ◌∙◌, ℕ, zero, suc, ◌<◌, ◌≤◌, arith, ◌+◌, ◌*◌, ◌/◌, ◌%◌, ◌^◌, true, Some, ap, sym, List, length, set, slice_index_or, inl, inr, ◌≢◌, ◌⊎◌, refl, Option, None, Bool, false, [], ◌∷◌, ◌++◌, slice_index}
+use Rattle.std.proofs.lemmas.Nat.{xor_shr}
+use Rattle.std.proofs.lemmas.Bool.{eqb-true, cases_eq, cond-true, cond-false, eq-eqb, ne_eqb, eqb-false, and_parts, both_ways}
+use Rattle.ga_slots.specs.Codes.{op_of}
+use Rattle.ga_slots.specs.Slots.{opcode, opcode_mask, field_size, target}
+use Rattle.ga_slots.specs.declared.op.Op.{Op}
+use Rattle.ga_slots.specs.declared.op.Op.TheVariants.{Return}
+use Rattle.ga_parser.specs.declared.item.Item.{Item}
+use Rattle.ga_source.specs.kept.{op_in, nothing, IsCell, KeepsRest, Holds, Keeps, requests_of, IsPlainRequest, ArePlain}
+use Rattle.ga_source.specs.Reading.{reaches, word_of_target, word_in, begin_at, are_both, is_met, after_request, follows}
+use Rattle.std.proofs.lemmas.List.{get_or-set_same, get_or-set_other, length-set}
+use Rattle.ga_ports.specs.declared.address.Target.TheVariants.{Ram as RamOf, Rom as RomOf, Ram as TargetRam, Rom as TargetRom, Io, Ports, Bad}
 use Rattle.ga_ports.specs.Address.{classified, advanced}
 use Rattle.ga_node.specs.Record.{NodeState}
+use Rattle.ga_node.specs.State.{with_value, HasMemory}
+use Rattle.ga_node.specs.declared.place.Place.{Place}
+use Rattle.ga_node.specs.declared.place.Place.TheVariants.{Ram, Rom}
+use Rattle.ga_source.specs.Cells.{KeepsElsewhere, is_at, asks_for, is_asked}
+use Rattle.ga_source.proofs.Laying.{None≢Some}
+use Rattle.ga_ports.specs.declared.address.Target.{Target}
 use Rattle.ga_parser.specs.declared.item.Operand.TheVariants.{Number}
 use Rattle.ga_parser.specs.declared.item.Item.TheVariants.{Cell}
 use Rattle.ga_parser.specs.declared.item.Request.{Request}
 use Rattle.ga_parser.specs.declared.item.Request.TheVariants.{Put, Go}
 use Rattle.ga_parser.specs.declared.item.Asked.{Asked}
-use Rattle.ga_source.specs.Reading.{begin_at, are_both, word_of_target, is_met, after_request, follows}
-use Rattle.ga_source.specs.Cells.{is_at, asks_for, is_asked}
 use Rattle.ga_source.specs.Made.{with_cell, with_asked, address_behind, with_requests}
-use Rattle.ga_source.specs.kept.Packing.{requests_of, IsPlainRequest, ArePlain}
-use Rattle.ga_source.proofs.Written.{in_ram, in_rom}
+
+-- what stands above some bits decides the bits of the word without its mask above them
+above : (k v w : ℕ) → v / 2 ^ k ≡ w / 2 ^ k → bit_xor v opcode_mask / 2 ^ k ≡ bit_xor w opcode_mask / 2 ^ k
+above k v w e = xor_shr v opcode_mask k ∙ (ap (λ x. bit_xor x (opcode_mask / 2 ^ k)) e ∙ sym (xor_shr w opcode_mask k))
+
+pub same_first : (v w : ℕ) → v / 2 ^ 13 ≡ w / 2 ^ 13 → opcode v 0 ≡ opcode w 0
+same_first v w e = ap (λ x. op_of (x % 32)) (above 13 v w e)
+
+pub same_second : (v w : ℕ) → v / 2 ^ 8 ≡ w / 2 ^ 8 → opcode v 1 ≡ opcode w 1
+same_second v w e = ap (λ x. op_of (x % 32)) (above 8 v w e)
+
+pub same_third : (v w : ℕ) → v / 2 ^ 3 ≡ w / 2 ^ 3 → opcode v 2 ≡ opcode w 2
+same_third v w e = ap (λ x. op_of (x % 32)) (above 3 v w e)
+
+-- a word with the field of an address leads where that is reached
+pub reached : (p word slot address : ℕ) → word % field_size slot ≡ address % field_size slot → reaches p slot (Some address) ≡ true → target p word slot ≡ address
+reached p word slot address e h = ap (λ x. p / field_size slot * field_size slot + x) e ∙ eqb-true (target p address slot) address h
+
+-- the opcodes up to a slot, one by one
+pub each_kept : (v w slot : ℕ) → slot < 3 → opcode v 0 ≡ opcode w 0 → (1 ≤ slot → opcode v 1 ≡ opcode w 1) → (2 ≤ slot → opcode v 2 ≡ opcode w 2) → (k : ℕ) → k ≤ slot → opcode v k ≡ opcode w k
+each_kept v w slot few a b c zero h = a
+each_kept v w slot few a b c (suc zero) h = b h
+each_kept v w slot few a b c (suc (suc zero)) h = c h
+each_kept v w slot few a b c (suc (suc (suc k))) h = absurd (omega arith)
+
+-- one more opcode in its place
+pub one_more : (ops : List Op) (items : List Item) (i : ℕ) (op : Op) → i < length ops → op ≡ op_in (slice_index_or items i nothing) → ((k : ℕ) → k < i → slice_index_or ops k Return ≡ op_in (slice_index_or items k nothing)) → (k : ℕ) → k < i + 1 → slice_index_or (set ops i op) k Return ≡ op_in (slice_index_or items k nothing)
+one_more ops items i op l is before k h = elim (cases_eq k i) [
+  | inl e ↦ (ap (λ j. slice_index_or (set ops i op) j Return) e ∙ get_or-set_same ops i op Return l) ∙ (is ∙ ap (λ j. op_in (slice_index_or items j nothing)) (sym e))
+  | inr other ↦ get_or-set_other ops i k op Return other ∙ before k (omega arith)
+]
+
+-- ---- a cell that is written, and those that stay
+
+-- the cells of both memories by their addresses
+pub in_ram : (address : ℕ) → address % 512 < 64 → classified address ≡ RamOf (address % 512)
+in_ram address l =
+    let low = address % 512 in
+    cond-false (low / 2 ^ 8 == 1) _ _ (ne_eqb (low / 2 ^ 8) 1 (λ e. absurd (omega arith)))
+    ∙ (cond-true (low / 2 ^ 7 == 0) _ _ (eq-eqb (low / 2 ^ 7) 0 (omega arith)) ∙ ap RamOf (omega arith))
+
+pub in_rom : (address : ℕ) → 128 ≤ address % 512 → address % 512 < 192 → classified address ≡ RomOf (address % 512 % 64)
+in_rom address l h =
+    let low = address % 512 in
+    cond-false (low / 2 ^ 8 == 1) _ _ (ne_eqb (low / 2 ^ 8) 1 (λ e. absurd (omega arith)))
+    ∙ cond-false (low / 2 ^ 7 == 0) _ _ (ne_eqb (low / 2 ^ 7) 0 (λ e. absurd (omega arith)))
+
+-- the cell that is written
+pub written_by : (node : NodeState) (place : Place) (address word : ℕ) → IsCell address place → HasMemory node place → word_in (with_value node place word) address ≡ Some word
+written_by node (Ram cell) address word c size =
+    let l : address % 512 < 64 = omega arith in
+    ap (word_of_target (with_value node (Ram cell) word)) (in_ram address l)
+    ∙ ap Some (ap (λ (k : ℕ). slice_index_or (set node.ram cell word) k 0) c.1 ∙ get_or-set_same node.ram cell word 0 (omega arith))
+written_by node (Rom cell) address word c size =
+    let l : 128 ≤ address % 512 = omega arith in
+    let h : address % 512 < 192 = omega arith in
+    let is : address % 512 % 64 ≡ cell = omega arith in
+    ap (word_of_target (with_value node (Rom cell) word)) (in_rom address l h)
+    ∙ ap Some (ap (λ (k : ℕ). slice_index_or (set node.rom cell word) k 0) is ∙ get_or-set_same node.rom cell word 0 (omega arith))
+written_by node place address word c size = absurd c
+
+-- another cell
+pub others_stay : (node : NodeState) (place : Place) (address word other : ℕ) → IsCell address place → (other % 512 < 64) ⊎ ((128 ≤ other % 512) × (other % 512 < 192)) → other % 512 ≢ address % 512 → word_in (with_value node place word) other ≡ word_in node other
+others_stay node (Ram cell) address word other c within apart = elim within [
+  | inl l ↦
+      let ne : other % 512 ≢ cell = (λ e. apart (e ∙ sym c.1)) in
+      ap (word_of_target (with_value node (Ram cell) word)) (in_ram other l)
+      ∙ (ap Some (get_or-set_other node.ram cell (other % 512) word 0 ne) ∙ sym (ap (word_of_target node) (in_ram other l)))
+  | inr h ↦ ap (word_of_target (with_value node (Ram cell) word)) (in_rom other h.0 h.1) ∙ sym (ap (word_of_target node) (in_rom other h.0 h.1))
+]
+others_stay node (Rom cell) address word other c within apart = elim within [
+  | inl l ↦ ap (word_of_target (with_value node (Rom cell) word)) (in_ram other l) ∙ sym (ap (word_of_target node) (in_ram other l))
+  | inr h ↦
+      let at : address % 512 ≡ 128 + cell = c.1 in
+      let low : 128 ≤ other % 512 = h.0 in
+      let high : other % 512 < 192 = h.1 in
+      let small : cell < 64 = c.0 in
+      let ne : other % 512 % 64 ≢ cell = (λ e. apart (omega arith)) in
+      ap (word_of_target (with_value node (Rom cell) word)) (in_rom other h.0 h.1)
+      ∙ (ap Some (get_or-set_other node.rom cell (other % 512 % 64) word 0 ne) ∙ sym (ap (word_of_target node) (in_rom other h.0 h.1)))
+]
+others_stay node place address word other c within apart = absurd c
+
+pub rest_stays : (node : NodeState) (place : Place) (address word : ℕ) → IsCell address place → KeepsRest node (with_value node place word)
+rest_stays node (Ram cell) address word c = refl
+rest_stays node (Rom cell) address word c = refl
+rest_stays node place address word c = absurd c
+
+pub elsewhere_stays : (node : NodeState) (place : Place) (address word : ℕ) → IsCell address place → KeepsElsewhere (is_at address) node (with_value node place word)
+elsewhere_stays node (Ram cell) address word c = record {
+  ram = λ k e. get_or-set_other node.ram cell k word 0 (λ same. eqb-false (address % 512) k e (c.1 ∙ sym same));
+  rom = λ k e. refl;
+}
+elsewhere_stays node (Rom cell) address word c = record {
+  ram = λ k e. refl;
+  rom = λ k e. get_or-set_other node.rom cell k word 0 (λ same. eqb-false (address % 512) (128 + k) e (c.1 ∙ ap (λ (n : ℕ). 128 + n) (sym same)));
+}
+elsewhere_stays node place address word c = absurd c
+
+in_memory_by : (address : ℕ) (place : Place) → IsCell address place → (address % 512 < 64) ⊎ ((128 ≤ address % 512) × (address % 512 < 192))
+in_memory_by address (Ram cell) c = inl (omega arith)
+in_memory_by address (Rom cell) c = inr (omega arith, omega arith)
+in_memory_by address place c = absurd c
+
+some_set : (given : List (Option ℕ)) (k line : ℕ) → k < length given → slice_index_or (set given k (Some line)) k None ≢ None
+some_set given k line l e = None≢Some line (sym e ∙ get_or-set_same given k (Some line) None l)
+
+pub holds_by : (given : List (Option ℕ)) (place : Place) (address line : ℕ) → IsCell address place → address % 512 < length given → Holds (set given (address % 512) (Some line)) (address % 512)
+holds_by given place address line c l = record { in_memory = in_memory_by address place c; is_given = some_set given (address % 512) line l }
+
+pub keeps_by : (node : NodeState) (given : List (Option ℕ)) (place : Place) (address line word : ℕ) → IsCell address place → slice_index_or given (address % 512) None ≡ None → Keeps node given (with_value node place word) (set given (address % 512) (Some line))
+keeps_by node given place address line word c free other held =
+    let apart : other % 512 ≢ address % 512 = (λ e. held.is_given (ap (λ (k : ℕ). slice_index_or given k None) e ∙ free)) in (
+      others_stay node place address word other c held.in_memory apart,
+      record { in_memory = held.in_memory; is_given = λ e. held.is_given (sym (get_or-set_other given (address % 512) (other % 512) (Some line) None apart) ∙ e) },
+    )
 
 -- ---- plain requests
 
@@ -28,12 +153,12 @@ one_plain_more (first ∷ requests) request plain one = (plain.0, one_plain_more
 -- ---- a cell that is written
 
 abbrev cell_or : Target → ℕ → ℕ
-cell_or (Ram k) n = k
-cell_or (Rom k) n = k
+cell_or (TargetRam k) n = k
+cell_or (TargetRom k) n = k
 cell_or _ n = n
 
 abbrev is_ram : Target → Bool
-is_ram (Ram k) = true
+is_ram (TargetRam k) = true
 is_ram _ = false
 
 -- the number that is there
@@ -42,7 +167,7 @@ same_number n m is = sym (eqb-true n m is)
 
 module _ (before after : NodeState) (at n k : ℕ) (small : k < 64) where
   pub ram_written : (t : Target) → classified at ≡ t → are_both (Some n) (word_of_target after t) ≡ true → length before.ram ≡ 64 → (is_at at k ≡ false → slice_index after.ram k ≡ slice_index before.ram k) → slice_index after.ram k ≡ slice_index (with_cell before t n).ram k
-  ram_written (Ram j) is here size stays = elim (cases_eq k j) [
+  ram_written (TargetRam j) is here size stays = elim (cases_eq k j) [
     | inl e ↦
         let there : slice_index after.ram j ≡ n = same_number n (slice_index after.ram j) here in
         ap (slice_index after.ram) e ∙ (there ∙ sym (ap (slice_index (set before.ram j n)) e ∙ get_or-set_same before.ram j n 0 (omega (arith, size, small, e))))
@@ -52,16 +177,16 @@ module _ (before after : NodeState) (at n k : ℕ) (small : k < 64) where
         other (sym (ap (λ (t : Target). cell_or t 0) (sym is ∙ in_ram at low) ∙ e))))
         ∙ sym (get_or-set_other before.ram j k n 0 other)
   ]
-  ram_written (Rom j) is here size stays =
+  ram_written (TargetRom j) is here size stays =
       stays (ne_eqb (at % 512) k (λ e.
       let low : at % 512 < 64 = omega arith in
-      both_ways (is_ram (Rom j)) refl (ap is_ram (sym is ∙ in_ram at low))))
+      both_ways (is_ram (TargetRom j)) refl (ap is_ram (sym is ∙ in_ram at low))))
   ram_written Io is here size stays = absurd (both_ways false refl here)
   ram_written (Ports s) is here size stays = absurd (both_ways false refl here)
   ram_written Bad is here size stays = absurd (both_ways false refl here)
 
   pub rom_written : (t : Target) → classified at ≡ t → are_both (Some n) (word_of_target after t) ≡ true → length before.rom ≡ 64 → (is_at at (128 + k) ≡ false → slice_index after.rom k ≡ slice_index before.rom k) → slice_index after.rom k ≡ slice_index (with_cell before t n).rom k
-  rom_written (Rom j) is here size stays = elim (cases_eq k j) [
+  rom_written (TargetRom j) is here size stays = elim (cases_eq k j) [
     | inl e ↦
         let there : slice_index after.rom j ≡ n = same_number n (slice_index after.rom j) here in
         ap (slice_index after.rom) e ∙ (there ∙ sym (ap (slice_index (set before.rom j n)) e ∙ get_or-set_same before.rom j n 0 (omega (arith, size, small, e))))
@@ -73,11 +198,11 @@ module _ (before after : NodeState) (at n k : ℕ) (small : k < 64) where
         other (sym (ap (λ (t : Target). cell_or t 0) (sym is ∙ in_rom at low high) ∙ cell))))
         ∙ sym (get_or-set_other before.rom j k n 0 other)
   ]
-  rom_written (Ram j) is here size stays =
+  rom_written (TargetRam j) is here size stays =
       stays (ne_eqb (at % 512) (128 + k) (λ e.
       let low : 128 ≤ at % 512 = omega arith in
       let high : at % 512 < 192 = omega arith in
-      both_ways (is_ram (Ram j)) (ap is_ram (sym is ∙ in_rom at low high)) refl))
+      both_ways (is_ram (TargetRam j)) (ap is_ram (sym is ∙ in_rom at low high)) refl))
   rom_written Io is here size stays = absurd (both_ways false refl here)
   rom_written (Ports s) is here size stays = absurd (both_ways false refl here)
   rom_written Bad is here size stays = absurd (both_ways false refl here)
@@ -88,15 +213,15 @@ or_none true y left right = left
 
 -- the memories keep their sizes
 pub with_cell_ram : (node : NodeState) (t : Target) (n : ℕ) → length (with_cell node t n).ram ≡ length node.ram
-with_cell_ram node (Ram k) n = length-set node.ram k n
-with_cell_ram node (Rom k) n = refl
+with_cell_ram node (TargetRam k) n = length-set node.ram k n
+with_cell_ram node (TargetRom k) n = refl
 with_cell_ram node Io n = refl
 with_cell_ram node (Ports s) n = refl
 with_cell_ram node Bad n = refl
 
 pub with_cell_rom : (node : NodeState) (t : Target) (n : ℕ) → length (with_cell node t n).rom ≡ length node.rom
-with_cell_rom node (Ram k) n = refl
-with_cell_rom node (Rom k) n = length-set node.rom k n
+with_cell_rom node (TargetRam k) n = refl
+with_cell_rom node (TargetRom k) n = length-set node.rom k n
 with_cell_rom node Io n = refl
 with_cell_rom node (Ports s) n = refl
 with_cell_rom node Bad n = refl

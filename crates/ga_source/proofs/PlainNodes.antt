@@ -5,7 +5,7 @@ use Rattle.ga_grid.specs.Chip.{node_at, records_of, AreSteady}
 use Rattle.ga_grid.specs.Grid.{default_chip, load_p_of}
 use Rattle.ga_grid.proofs.Chips.{record_at-records_of, node_at-default_chip}
 use Rattle.ga_source.specs.declared.program.Program.{Program}
-use Rattle.ga_source.specs.Programs.{KeepsState, IsAssembled, given_of, value_or, is_item, has_cells, or_start, at_load, HasProgram, IsLoaded, IsUnnamed}
+use Rattle.ga_source.specs.Programs.{KeepsState, IsAssembled, given_of, value_or, is_item, has_cells, or_start, at_load, HasProgram, IsLoaded, IsUnnamed, IsOf, AreOf, AreRead, said_bodies, AreAskedBy, AreAsked}
 use Rattle.std.specs.Prelude.{is_none, ◌||◌, codes, bytes_eq, if◌then◌else◌, Result, Ok, Err, IfOk, IfErr}
 use Rattle.std.specs.List.{All, list_any}
 use Rattle.std.proofs.lemmas.Bool.{cases_Bool, and_parts, ltb-true}
@@ -28,11 +28,9 @@ use Rattle.ga_parser.specs.Vocabulary.{number_by_word}
 use Rattle.ga_source.specs.Cells.{is_asked, IsEmptyElsewhere}
 use Rattle.ga_source.specs.Reading.{begin_at, resolved}
 use Rattle.ga_parser.specs.Plain.{Plain, no_request, by_number, only_if, is_cell, may_be, with_two_words, plain_from, plain_of, value_in, asked_by, words_in, bodies_in, yxx_in, texts_in}
-use Rattle.ga_source.specs.Asks.{IsOf, AreOf, AreRead, said_bodies, AreAskedBy, AreAsked}
-use Rattle.ga_source.specs.Made.{with_cell, with_asked, address_behind, with_requests, number_or, plain_node, IsNode, HasPlain, IsChipOfSource}
-use Rattle.ga_source.specs.kept.Packing.{requests_of, ArePlain, IsNumber, AreNumbers}
-use Rattle.ga_source.specs.kept.Layout.{KeepsRest}
-use Rattle.ga_source.proofs.Empty.{of_each_at_load, assembled_empty}
+use Rattle.ga_source.specs.Made.{with_cell, with_asked, address_behind, with_requests, number_or, plain_node, IsNode, HasPlain, IsChipOfSource, IsSoundSource}
+use Rattle.ga_source.specs.kept.{requests_of, ArePlain, IsNumber, AreNumbers, KeepsRest}
+use Rattle.ga_source.proofs.Loaded.{of_each_at_load, assembled_empty}
 use Rattle.ga_parser.proofs.Hearing.{some_same, no_some, allowed, number_asks}
 use Rattle.ga_source.proofs.Making.{Stays, with_cell_ram, with_cell_rom, one_plain_more, requests_made}
 use Rattle.ga_parser.specs.declared.fault.Fault.{Fault}
@@ -40,7 +38,6 @@ use Rattle.ga_parser.specs.declared.fault.SourceCause.TheVariants.{Memory}
 use Rattle.ga_source.specs.declared.program.Assembled.{Assembled}
 use Rattle.ga_parser.specs.declared.scan.Token.{Token}
 use Rattle.ga_parser.specs.Saying.{Said, said_in, all_said}
-use Rattle.ga_source.specs.Sound.{IsSoundSource}
 
 -- ---- A chip with programs is steady: none of its nodes waits
 

@@ -10,9 +10,8 @@ use Rattle.ga_parser.specs.declared.vocabulary.Directive.TheVariants.{Label, Add
 use Rattle.ga_parser.specs.Saying.{next_line, all_said}
 use Rattle.ga_parser.specs.Plain.{is_node}
 use Rattle.ga_parser.specs.Vocabulary.{directive_in}
-use Rattle.ga_source.specs.Asks.{said_bodies, AreAskedBy}
-use Rattle.ga_source.specs.Groups.{HasGroups}
-use Rattle.ga_source.specs.Programs.{IsAssembled}
+use Rattle.ga_source.specs.Programs.{said_bodies, AreAskedBy, IsAssembled}
+use Rattle.ga_source.specs.Cells.{HasGroups}
 
 -- ---- numbers of words
 

@@ -1,2 +1,398 @@
-pub mod Layout
-pub mod Packing
+-- Requests laid out in cells: what is read of a group, and where the walk through the requests is. Plain requests as groups.
+use Rattle.std.specs.Prelude.{Bool, true, false, List, [], ◌∷◌, ℕ, ◌≡◌, ◌≢◌, ◌<◌, ◌⊎◌, ◌||◌, Option, Some, None, length, take, slice_index_or, suc, ◌++◌, ◌+◌, ◌%◌, ◌-◌, ◌≤◌, ◌^◌, map}
+use Rattle.ga_slots.specs.declared.op.Op.{Op}
+use Rattle.ga_slots.specs.declared.op.Op.TheVariants.{FetchP, Nop, Return}
+use Rattle.ga_parser.specs.declared.item.Item.{Item}
+use Rattle.ga_parser.specs.declared.item.Item.TheVariants.{Opcode, Literal, Back, Ahead, Cell}
+use Rattle.std.specs.List.{All, list_any, flat_map}
+use Rattle.ga_node.specs.Record.{NodeState}
+use Rattle.ga_parser.specs.declared.item.Asked.{Asked}
+use Rattle.ga_source.specs.declared.group.Group.{Group}
+use Rattle.ga_parser.specs.declared.item.Request.{Request}
+use Rattle.ga_parser.specs.declared.item.Request.TheVariants.{Fill, Go, Carry, Put}
+use Rattle.ga_source.specs.declared.packing.Packed.{Packed}
+use Rattle.ga_source.specs.declared.packing.Packer.{Packer}
+use Rattle.ga_source.specs.declared.group.Spot.{Spot}
+use Rattle.ga_source.specs.Reading.{begin_at, behind, item_stands, is_filled, fits, is_met, after_request, follows, resolved, are_both, word_in, reaches, ends_cell}
+use Rattle.ga_source.specs.Cells.{takes, is_asked, KeepsElsewhere, Placed, placed_at, placed_from}
+use Rattle.ga_node.specs.declared.place.Place.{Place}
+use Rattle.ga_node.specs.declared.place.Place.TheVariants.{Ram, Rom}
+use Rattle.ga_slots.specs.Slots.{opcode, target}
+use Rattle.ga_parser.specs.declared.item.Operand.TheVariants.{Label, Number}
+use Rattle.ga_parser.specs.declared.item.Operand.{Operand}
+use Rattle.ga_source.specs.Made.{address_behind, cells_from, cell_of, node_number_of_words, IsSoundBody}
+use Rattle.ga_source.specs.declared.program.Program.{Program}
+use Rattle.ga_source.specs.Programs.{IsAssembled, IsOf, IsAsked}
+use Rattle.ga_parser.specs.Saying.{Said}
+use Rattle.ga_parser.specs.declared.scan.TokenKind.TheVariants.{Word}
+use Rattle.ga_parser.specs.declared.scan.Token.{Token}
+use Rattle.ga_parser.specs.Plain.{body_in, bodies_in}
+use Rattle.ga_parser.specs.kept.Drafting.{texts_of}
+
+-- ---- the opcodes of items, and cells of data
+
+-- the opcode of an item
+abbrev pub op_in : Item → Op
+op_in (Opcode op) = op
+op_in (Literal _) = FetchP
+op_in (Back op _) = op
+op_in (Ahead op _) = op
+op_in (Cell _) = Nop
+
+-- what is read where there is no item
+abbrev pub nothing : Item
+nothing = Opcode Return
+
+-- one cell of data, and nothing else
+abbrev pub is_data : List Item → Bool
+is_data (Cell _ ∷ []) = true
+is_data _ = false
+
+-- ---- the items of a cell
+
+-- the spot behind items
+unfoldable pub behind_all : Spot → List Item → Spot
+behind_all spot [] = spot
+behind_all spot (item ∷ rest) = behind_all (behind spot item) rest
+
+-- the items stand one behind the other
+unfoldable pub Stand : NodeState → List (Option ℕ) → Spot → List Item → Type 0
+Stand node labels spot [] = Unit {0}
+Stand node labels spot (item ∷ rest) = (item_stands node labels spot item ≡ true) × Stand node labels (behind spot item) rest
+
+-- one of the items or its literal stands in the cell
+unfoldable pub taken : Spot → List Item → ℕ → Bool
+taken spot [] cell = false
+taken spot (item ∷ rest) cell = takes spot item cell || taken (behind spot item) rest cell
+
+-- the cell reads as these items, with `.` behind
+pub record IsReadAt (node : NodeState) (labels : List (Option ℕ)) (address : ℕ) (items : List Item) : Type 0 where
+  pub items_stand : Stand node labels (begin_at address) items
+  pub filled : is_filled node (behind_all (begin_at address) items) ≡ true
+
+-- the spot of an item of the cell
+abbrev pub spot_in : ℕ → List Item → ℕ → Spot
+spot_in address items k = behind_all (begin_at address) (take k items)
+
+-- each item has room in its slot of the cell
+pub record IsFit (labels : List (Option ℕ)) (address : ℕ) (items : List Item) : Type 0 where
+  pub slots : (k : ℕ) → k < length items → (spot_in address items k).slot ≡ k
+  pub cells : (k : ℕ) → k < length items → (spot_in address items k).at ≡ address
+  pub room : (k : ℕ) → k < length items → fits labels (spot_in address items k) (slice_index_or items k nothing) ≡ true
+
+-- ---- groups
+
+pub record IsRead (node : NodeState) (labels : List (Option ℕ)) (group : Group) : Type 0 where
+  pub whole : group.broken ≡ None
+  pub cell : IsReadAt node labels group.address group.items.items
+
+abbrev pub IsFitGroup : List (Option ℕ) → Group → Type 0
+IsFitGroup labels group = IsFit labels group.address group.items.items
+
+abbrev pub takes_group : ℕ → Group → Bool
+takes_group cell group = taken (begin_at group.address) group.items.items cell
+
+-- one of the groups has the cell
+abbrev pub are_taken : List Group → ℕ → Bool
+are_taken groups cell = list_any (takes_group cell) groups
+
+-- ---- requests
+
+-- the spot behind requests
+unfoldable pub after_all : List (Option ℕ) → Spot → List Asked → Spot
+after_all labels spot [] = spot
+after_all labels spot (asked ∷ rest) = after_all labels (after_request labels spot asked.request) rest
+
+-- each request is met where the walk comes to it
+unfoldable pub AreMet : NodeState → List (Option ℕ) → Spot → List Asked → Type 0
+AreMet node labels spot [] = Unit {0}
+AreMet node labels spot (asked ∷ rest) = (is_met node labels spot asked.request ≡ true) × AreMet node labels (after_request labels spot asked.request) rest
+
+-- ---- the packer
+
+-- what is known of labels stays so
+abbrev pub Extends : List (Option ℕ) → List (Option ℕ) → Type 0
+Extends before after = (k address : ℕ) → slice_index_or before k None ≡ Some address → slice_index_or after k None ≡ Some address
+
+-- a jump back goes to a label that is known
+abbrev pub IsKnown : List (Option ℕ) → Item → Type 0
+IsKnown labels (Back _ label) = slice_index_or labels label None ≢ None
+IsKnown labels _ = Unit {0}
+
+-- the cell that is being filled has an item in each slot before the spot
+pub record IsInCell (packer : Packer) : Type 0 where
+  pub slot : packer.spot.slot < 4
+  pub size : length packer.filling.items ≡ packer.spot.slot
+
+-- The requests so far are laid out: the walk through them ends at the packer's spot, and where the groups and the open cell
+-- read as their items, each request is met. Whatever the labels that aren't known yet will be.
+pub record IsWalked (packer : Packer) (asked : List Asked) : Type 0 where
+  pub here : behind_all (begin_at packer.spot.at) packer.filling.items ≡ packer.spot
+  pub walk : (labels : List (Option ℕ)) → Extends packer.labels.items labels → after_all labels (begin_at 0) asked ≡ packer.spot
+  pub met : (node : NodeState) (labels : List (Option ℕ)) → Extends packer.labels.items labels → All (IsRead node labels) packer.groups.items → packer.broken ≡ None → Stand node labels (begin_at packer.spot.at) packer.filling.items → AreMet node labels (begin_at 0) asked
+  pub named : (labels : List (Option ℕ)) (cell : ℕ) → Extends packer.labels.items labels → (are_taken packer.groups.items cell ≡ true) ⊎ (taken (begin_at packer.spot.at) packer.filling.items cell ≡ true) → is_asked labels (begin_at 0) asked cell ≡ true
+  pub groups_fit : (labels : List (Option ℕ)) → Extends packer.labels.items labels → All (IsFitGroup labels) packer.groups.items
+  pub open_fits : (labels : List (Option ℕ)) → Extends packer.labels.items labels → IsFit labels packer.spot.at packer.filling.items
+
+-- The same where the last request asks for an item that is still to be put, at the packer's spot.
+pub record IsPending (packer : Packer) (asked : List Asked) (item : Item) : Type 0 where
+  pub here : behind_all (begin_at packer.spot.at) packer.filling.items ≡ packer.spot
+  pub fit : (labels : List (Option ℕ)) → Extends packer.labels.items labels → fits labels packer.spot item ≡ true
+  pub walk : (labels : List (Option ℕ)) → Extends packer.labels.items labels → after_all labels (begin_at 0) asked ≡ behind packer.spot item
+  pub met : (node : NodeState) (labels : List (Option ℕ)) → Extends packer.labels.items labels → All (IsRead node labels) packer.groups.items → packer.broken ≡ None → Stand node labels (begin_at packer.spot.at) packer.filling.items → item_stands node labels packer.spot item ≡ true → AreMet node labels (begin_at 0) asked
+  pub named : (labels : List (Option ℕ)) (cell : ℕ) → Extends packer.labels.items labels → (are_taken packer.groups.items cell ≡ true) ⊎ ((taken (begin_at packer.spot.at) packer.filling.items cell ≡ true) ⊎ (takes packer.spot item cell ≡ true)) → is_asked labels (begin_at 0) asked cell ≡ true
+  pub groups_fit : (labels : List (Option ℕ)) → Extends packer.labels.items labels → All (IsFitGroup labels) packer.groups.items
+  pub open_fits : (labels : List (Option ℕ)) → Extends packer.labels.items labels → IsFit labels packer.spot.at packer.filling.items
+
+-- the cell that was being filled is a group now, where it had begun
+pub record IsClosed (before after : Packer) : Type 0 where
+  pub labels_stay : after.labels.items ≡ before.labels.items
+  pub spot_stays : after.spot ≡ before.spot
+  pub empty : after.filling.items ≡ []
+  pub whole : after.broken ≡ None
+  pub read : (node : NodeState) (labels : List (Option ℕ)) → All (IsRead node labels) after.groups.items → All (IsRead node labels) before.groups.items × IsReadAt node labels before.spot.at before.filling.items × (before.broken ≡ None)
+  pub fit : (labels : List (Option ℕ)) → All (IsFitGroup labels) before.groups.items → IsFit labels before.spot.at before.filling.items → All (IsFitGroup labels) after.groups.items
+  pub cells : (cell : ℕ) → are_taken after.groups.items cell ≡ true → (are_taken before.groups.items cell ≡ true) ⊎ (taken (begin_at before.spot.at) before.filling.items cell ≡ true)
+
+-- a request that asks for a new cell alone
+abbrev pub IsFilling : Request → Type 0
+IsFilling Fill = Unit {0}
+IsFilling (Go _) = Unit {0}
+IsFilling (Carry _) = Unit {0}
+IsFilling _ = ⊥
+
+-- The groups are the requests laid out: where each is read, the cells read as the requests; their cells are those asked for, and
+-- each item has room in its slot.
+pub record IsLaidOut (packed : Packed) (asked : List Asked) : Type 0 where
+  pub read : (node : NodeState) → All (IsRead node packed.labels.items) packed.groups.items → follows node packed.labels.items (begin_at 0) asked ≡ true
+  pub named : (cell : ℕ) → are_taken packed.groups.items cell ≡ true → is_asked packed.labels.items (begin_at 0) asked cell ≡ true
+  pub fit : All (IsFitGroup packed.labels.items) packed.groups.items
+
+-- ---- groups as the places of their items, while requests are packed
+
+-- items of a cell, each with its line, one in each slot from this one on
+unfoldable pub places_in : ℕ → ℕ → List Item → List ℕ → List Placed
+places_in address slot [] lines = []
+places_in address slot (item ∷ items) [] = []
+places_in address slot (item ∷ items) (line ∷ lines) = record { address = address; slot = slot; item = item; line = line } ∷ places_in address (suc slot) items lines
+
+abbrev pub group_places : Group → List Placed
+group_places group = places_in group.address 0 group.items.items group.lines.items
+
+-- a group has an item, and each item has a line
+pub record HasLines (group : Group) : Type 0 where
+  pub begun : 0 < length group.items.items
+  pub each : length group.lines.items ≡ length group.items.items
+
+-- the items of the groups so far and of the open cell
+abbrev pub packer_places : Packer → List Placed
+packer_places packer = flat_map group_places packer.groups.items ++ places_in packer.spot.at 0 packer.filling.items packer.lines.items
+
+-- The groups and the open cell have just the items that the requests so far ask for, where the walk puts them.
+-- Whatever the labels that aren't known yet will be.
+pub record IsGrouped (packer : Packer) (asked : List Asked) : Type 0 where
+  pub places : (labels : List (Option ℕ)) → Extends packer.labels.items labels → placed_from labels (begin_at 0) asked ≡ packer_places packer
+  pub groups : All HasLines packer.groups.items
+  pub lines : length packer.lines.items ≡ length packer.filling.items
+  pub whole : packer.filling.items ≡ [] → packer.broken ≡ None
+
+-- A packer has taken one request more behind those that it had taken.
+pub record TakesOn (old new : Packer) (asked : Asked) : Type 0 where
+  pub cell : IsInCell new
+  pub walked : (before : List Asked) → IsWalked old before → IsWalked new (before ++ asked ∷ [])
+  pub grouped : (before : List Asked) → IsWalked old before → IsGrouped old before → IsGrouped new (before ++ asked ∷ [])
+
+-- The same where the last request asks for an item that is still to be put, at the packer's spot.
+pub record IsPutting (packer : Packer) (asked : List Asked) (item : Item) (line : ℕ) : Type 0 where
+  pub places : (labels : List (Option ℕ)) → Extends packer.labels.items labels → placed_from labels (begin_at 0) asked ≡ packer_places packer ++ placed_at packer.spot item line ∷ []
+  pub groups : All HasLines packer.groups.items
+  pub lines : length packer.lines.items ≡ length packer.filling.items
+
+-- the items of the cell that was being filled are those of a group now
+pub record IsGathered (before after : Packer) : Type 0 where
+  pub places : flat_map group_places after.groups.items ≡ packer_places before
+  pub lines : length before.lines.items ≡ length before.filling.items → after.lines.items ≡ []
+  pub groups : length before.lines.items ≡ length before.filling.items → (before.filling.items ≡ [] → before.broken ≡ None) → All HasLines before.groups.items → All HasLines after.groups.items
+
+-- ---- places that are cells of a memory, and what loading leaves as it was
+
+-- the cell of a memory that an address names
+abbrev pub IsCell : ℕ → Place → Type 0
+IsCell address (Ram k) = (k < 64) × (address % 512 ≡ k)
+IsCell address (Rom k) = (k < 64) × (address % 512 ≡ 0x80 + k)
+IsCell address _ = ⊥
+
+-- nothing but the memories differs
+abbrev pub KeepsRest : NodeState → NodeState → Type 0
+KeepsRest before after = after ≡ record before { ram = after.ram; rom = after.rom }
+
+-- ---- words, and what they hold of items
+
+-- a jump that leads from wherever its label is reached
+abbrev pub Leads : List (Option ℕ) → ℕ → ℕ → ℕ → Type 0
+Leads labels word slot label = (p : ℕ) → reaches p slot (resolved labels (Label label)) ≡ true → are_both (resolved labels (Label label)) (Some (target p word slot)) ≡ true
+
+-- the word has the item in a slot
+abbrev pub HasItem : List (Option ℕ) → ℕ → ℕ → Item → Type 0
+HasItem labels word slot (Opcode op) = opcode word slot ≡ op
+HasItem labels word slot (Literal _) = opcode word slot ≡ FetchP
+HasItem labels word slot (Back op label) = (opcode word slot ≡ op) × Leads labels word slot label
+HasItem labels word slot (Ahead op label) = (opcode word slot ≡ op) × Leads labels word slot label
+HasItem labels word slot (Cell value) = are_both (resolved labels value) (Some word) ≡ true
+
+-- the last item of a cell may stand in this slot
+abbrev pub MayEnd : ℕ → Item → Type 0
+MayEnd slot (Back _ _) = slot < 3
+MayEnd slot (Ahead _ _) = slot < 3
+MayEnd slot (Cell _) = slot ≡ 0
+MayEnd slot _ = Unit {0}
+
+-- the word has each item in its slot, and `.` behind
+pub record IsWordOf (labels : List (Option ℕ)) (items : List Item) (word : ℕ) : Type 0 where
+  pub has : (k : ℕ) → k < length items → HasItem labels word k (slice_index_or items k nothing)
+  pub dots : (k : ℕ) → length items ≤ k → k < 4 → ends_cell (slice_index_or items (length items - 1) nothing) ≡ false → opcode word k ≡ Nop
+
+-- ---- cells
+
+-- a cell of RAM or ROM that was given
+pub record Holds (given : List (Option ℕ)) (cell : ℕ) : Type 0 where
+  pub in_memory : (cell < 64) ⊎ ((128 ≤ cell) × (cell < 192))
+  pub is_given : slice_index_or given cell None ≢ None
+
+-- what was given stays
+abbrev pub Keeps : NodeState → List (Option ℕ) → NodeState → List (Option ℕ) → Type 0
+Keeps before given after given_then = (address : ℕ) → Holds given (address % 512) → (word_in after address ≡ word_in before address) × Holds given_then (address % 512)
+
+-- besides its opcode, what an item needs: its literal, or that its jump reaches
+abbrev pub HasRest : NodeState → List (Option ℕ) → Spot → Item → Type 0
+HasRest node labels spot (Literal value) = are_both (resolved labels value) (word_in node spot.p) ≡ true
+HasRest node labels spot (Back _ label) = (spot.slot < 3) × (reaches spot.p spot.slot (resolved labels (Label label)) ≡ true)
+HasRest node labels spot (Ahead _ label) = (spot.slot < 3) × (reaches spot.p spot.slot (resolved labels (Label label)) ≡ true)
+HasRest node labels spot _ = Unit {0}
+
+-- the cell of an item's literal is given
+abbrev pub HoldsRest : List (Option ℕ) → Spot → Item → Type 0
+HoldsRest given spot (Literal _) = Holds given (spot.p % 512)
+HoldsRest given spot _ = Unit {0}
+
+-- the word of a group stands in its cell
+pub record HasWord (node : NodeState) (labels : List (Option ℕ)) (address : ℕ) (items : List Item) : Type 0 where
+  pub word : ℕ
+  pub is_word : IsWordOf labels items word
+  pub in_cell : word_in node address ≡ Some word
+
+-- the group's word and its first items are written
+pub record IsWriting (before : NodeState) (given : List (Option ℕ)) (node : NodeState) (later labels : List (Option ℕ)) (group : Group) (spot : Spot) (i : ℕ) : Type 0 where
+  pub where_is : spot ≡ spot_in group.address group.items.items i
+  pub rest : KeepsRest before node
+  pub elsewhere : KeepsElsewhere (λ (cell : ℕ). takes_group cell group) before node
+  pub kept : Keeps before given node later
+  pub has_word : HasWord node labels group.address group.items.items
+  pub held : Holds later (group.address % 512)
+  pub so_far : Stand node labels (begin_at group.address) (take i group.items.items)
+  pub cells : (cell : ℕ) → taken (begin_at group.address) (take i group.items.items) cell ≡ true → Holds later cell
+
+-- the group is read, and its cells are given
+pub record IsLoadedGroup (node : NodeState) (labels given : List (Option ℕ)) (group : Group) : Type 0 where
+  pub read : IsRead node labels group
+  pub held : (cell : ℕ) → takes_group cell group ≡ true → Holds given cell
+
+-- a cell of a memory
+abbrev pub IsMemory : Place → Type 0
+IsMemory (Ram cell) = cell < 64
+IsMemory (Rom cell) = cell < 64
+IsMemory _ = ⊥
+
+-- ---- plain requests as groups: each cell a group of its own
+
+-- requests without their lines
+abbrev pub requests_of : List Asked → List Request
+requests_of asked = map (λ one. one.request) asked
+
+-- a cell of data with a number, or an address to go on at
+abbrev pub IsPlainRequest : Request → Type 0
+IsPlainRequest (Put (Cell (Number n))) = n < 2 ^ 18
+IsPlainRequest (Go address) = Unit {0}
+IsPlainRequest _ = ⊥
+
+-- each request is such
+unfoldable pub ArePlain : List Request → Type 0
+ArePlain [] = Unit {0}
+ArePlain (request ∷ requests) = IsPlainRequest request × ArePlain requests
+
+-- a number below a bound, where there is a value
+abbrev pub IsNumber : ℕ → Option Operand → Type 0
+IsNumber bound None = Unit {0}
+IsNumber bound (Some (Number n)) = n < bound
+IsNumber bound (Some (Label k)) = ⊥
+
+-- the registers are given numbers in range
+pub record AreNumbers (p a b : Option Operand) : Type 0 where
+  pub p_below : IsNumber 0x400 p
+  pub a_below : IsNumber 0x40000 a
+  pub b_below : IsNumber 0x200 b
+
+-- the address behind requests
+unfoldable pub address_after : ℕ → List Request → ℕ
+address_after at [] = at
+address_after at (request ∷ requests) = address_after (address_behind at request) requests
+
+-- the group is this cell
+pub record IsCellGroup (cell : ℕ × ℕ) (group : Group) : Type 0 where
+  pub address : group.address ≡ cell.0
+  pub items : group.items.items ≡ Cell (Number cell.1) ∷ []
+  pub whole : group.broken ≡ None
+
+-- the groups are these cells
+unfoldable pub AreCellGroups : List (ℕ × ℕ) → List Group → Type 0
+AreCellGroups [] [] = Unit {0}
+AreCellGroups (cell ∷ cells) (group ∷ groups) = IsCellGroup cell group × AreCellGroups cells groups
+AreCellGroups _ _ = ⊥
+
+-- plain requests are packed so far, and no cell is being filled
+pub record IsPackedPlain (packer : Packer) (requests : List Request) : Type 0 where
+  pub filling : packer.filling.items ≡ []
+  pub whole : packer.broken ≡ None
+  pub spot : packer.spot ≡ begin_at (address_after 0 requests)
+  pub groups : AreCellGroups (cells_from 0 requests) packer.groups.items
+
+-- the numbers of cells are words
+abbrev pub AreWords : List (ℕ × ℕ) → Type 0
+AreWords cells = (k : ℕ) → k < length cells → (cell_of cells k).1 < 2 ^ 18
+
+-- ---- programs loaded so far
+
+-- a program whose node is marked as begun
+abbrev pub HasBegun : List Bool → Program → Type 0
+HasBegun begun program = slice_index_or begun program.node.number false ≡ true
+
+-- the programs so far, whose nodes are marked
+pub record AreLoaded (chip : List NodeState) (begun : List Bool) (programs : List Program) : Type 0 where
+  pub marked : All (HasBegun begun) programs
+  pub assembled : IsAssembled chip programs
+
+-- the programs are those of the first of these words, and the other words are left
+unfoldable pub AreOfFirst : List (List (List ℕ)) → List Program → List (List (List ℕ)) → Type 0
+AreOfFirst bodies [] left = bodies ≡ left
+AreOfFirst [] (program ∷ programs) left = ⊥
+AreOfFirst (words ∷ bodies) (program ∷ programs) left = IsOf words program × AreOfFirst bodies programs left
+
+-- the same of words with their lines
+unfoldable pub AreAskedFirst : List (List Said) → List Program → List (List Said) → Type 0
+AreAskedFirst bodies [] left = bodies ≡ left
+AreAskedFirst [] (program ∷ programs) left = ⊥
+AreAskedFirst (words ∷ bodies) (program ∷ programs) left = IsAsked words program × AreAskedFirst bodies programs left
+
+-- ---- what is left of a source that only want of memory keeps from being assembled
+
+-- the words of nodes that haven't begun, each once
+pub record AreSound (begun : List Bool) (bodies : List (List (List ℕ))) : Type 0 where
+  pub each : All IsSoundBody bodies
+  pub apart : (j k : ℕ) → j < k → k < length bodies → node_number_of_words bodies j ≢ node_number_of_words bodies k
+  pub fresh : (k n : ℕ) → k < length bodies → node_number_of_words bodies k ≡ Some n → slice_index_or begun n false ≡ false
+
+-- the same of words that are left
+pub record IsSoundFrom (begun : List Bool) (words : List Token) : Type 0 where
+  pub kinds : All (λ token. token.kind ≡ Word) words
+  pub begins : body_in (texts_of words) ≡ []
+  pub bodies : AreSound begun (bodies_in (texts_of words))

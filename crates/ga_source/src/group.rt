@@ -1,10 +1,20 @@
-//! The items of a cell.
+//! A place in the cells of a node, and the items of a cell.
 
 ghost use Rattle.std.specs.Prelude.{◌≡◌, slice_index};
-ghost use Rattle.ga_source.specs.kept.Layout.{is_data as is_data_of};
+ghost use Rattle.ga_source.specs.kept.{is_data as is_data_of};
 
 use arrayvec::ArrayVec;
 use ga_parser::Item;
+
+/// A slot of a cell, with P behind the cell and its literals so far, unless an opcode moved it.
+#[derive(Clone, Copy, PartialEq, Eq)]
+pub(crate) struct Spot {
+    pub at: u32,
+    pub slot: u8,
+    pub p: u32,
+    /// Whether an opcode before it in the cell moves P itself.
+    pub is_moved: bool,
+}
 
 /// The items of one instruction word with its address, or one cell of data.
 #[derive(Drop)]

@@ -11,7 +11,6 @@ mod mending;
 mod packing;
 mod program;
 mod reading;
-mod spot;
 mod stores;
 
 pub use ga_parser::{

@@ -5,16 +5,14 @@ ghost use Rattle.ga_node.specs.State.{with_value, HasMemory};
 ghost use Rattle.ga_slots.specs.Codes.{code_of};
 ghost use Rattle.ga_slots.specs.Slots.{opcode as opcode_of, target as target_of};
 ghost use Rattle.ga_source.specs.Reading.{begin_at as begin_of, ends_cell, follows as follows_of, reaches as reaches_to, resolved, word_in};
-ghost use Rattle.ga_source.specs.kept.Layout.{IsFitGroup, IsLaidOut, takes_group, HasItem, HasRest, Holds, HoldsRest, IsLoadedGroup, IsMemory, IsWordOf, Keeps, Leads, MayEnd, IsCell, KeepsRest, op_in, nothing};
+ghost use Rattle.ga_source.specs.kept.{IsFitGroup, IsLaidOut, takes_group, HasItem, HasRest, Holds, HoldsRest, IsLoadedGroup, IsMemory, IsWordOf, Keeps, Leads, MayEnd, IsCell, KeepsRest, op_in, nothing, IsCellGroup, AreCellGroups, AreWords};
 ghost use Rattle.ga_parser.specs.declared.item.Operand.{Operand as ValueOf};
-ghost use Rattle.ga_source.specs.Sound.{IsMemoryAddress, AreDistinctCells};
-ghost use Rattle.ga_source.specs.kept.Packing.{IsCellGroup, AreCellGroups, AreWords};
+ghost use Rattle.ga_source.specs.Made.{IsMemoryAddress, AreDistinctCells};
 ghost use Rattle.ga_source.specs.Cells.{KeepsElsewhere, is_asked, is_at, takes};
 
-use super::group::Group;
+use super::group::{Group, Spot};
 use super::packing::Packed;
 use super::reading::{begin_at, behind, reaches, resolve};
-use super::spot::Spot;
 use ga_node::{Node, Place};
 use ga_parser::{Asked, Fault, Item, Operand, SourceCause, fault_at};
 use ga_slots::{Op, encode};
@@ -39,7 +37,7 @@ pub(crate) fn place_of(address: u32) -> Option<Place>
 }
 
 /// The word with a jump to an address in its slot, the last one; bits of a word that neither hold are 0.
-#[tactic(auto, using(crate::proofs::Targets::same_first, crate::proofs::Targets::same_second, crate::proofs::Targets::same_third, crate::proofs::Targets::reached))]
+#[tactic(auto, using(crate::proofs::Making::same_first, crate::proofs::Making::same_second, crate::proofs::Making::same_third, crate::proofs::Making::reached))]
 fn with_target(word: Word18, slot: usize, address: u32) -> Word18
     requires { slot < 3 }
     ensures first { opcode_of result 0 ≡ opcode_of word 0 }

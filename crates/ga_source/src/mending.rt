@@ -175,6 +175,7 @@ fn back<'a, 's>(words: &'a [Token<'s>], first: usize, at: usize) -> &'a [Token<'
 }
 
 /// The words without the one of a number and those that go with it.
+#[tactic(auto, using(crate::proofs::Bodies::left_words))]
 fn without<'s>(
     alloc: Global,
     words: &[Token<'s>],

@@ -6,14 +6,12 @@ ghost use Rattle.ga_source.specs.Reading.{after_request, fits as fits_of, begin_
 ghost use Rattle.ga_parser.specs.declared.fault.SourceCause.TheVariants.{Memory};
 ghost use Rattle.ga_parser.specs.declared.item.Operand.TheVariants.{Number};
 ghost use Rattle.ga_parser.specs.declared.item.Request.{Request as RequestOf};
-ghost use Rattle.ga_source.specs.Sound.{cells_from};
-ghost use Rattle.ga_source.specs.Groups.{laid_by, groups_of};
-ghost use Rattle.ga_source.specs.kept.Layout.{IsGathered, IsGrouped, IsPutting, IsClosed, IsFilling, IsInCell, IsKnown, IsLaidOut, IsPending, IsWalked};
-ghost use Rattle.ga_source.specs.kept.Packing.{requests_of, IsPlainRequest, ArePlain, AreCellGroups, IsPackedPlain};
+ghost use Rattle.ga_source.specs.Made.{cells_from};
+ghost use Rattle.ga_source.specs.Cells.{laid_by, groups_of};
+ghost use Rattle.ga_source.specs.kept.{IsGathered, IsGrouped, IsPutting, IsClosed, IsFilling, IsInCell, IsKnown, IsLaidOut, IsPending, IsWalked, TakesOn, requests_of, IsPlainRequest, ArePlain, AreCellGroups, IsPackedPlain};
 
-use super::group::Group;
+use super::group::{Group, Spot};
 use super::reading::{begin_at, behind, fits, next_cell};
-use super::spot::Spot;
 use arrayvec::ArrayVec;
 use ga_parser::{Asked, Fault, Item, Request, SourceCause, carried, fault_at};
 use ga_slots::Op;
@@ -149,9 +147,7 @@ impl Packer {
     fn put(&mut self, asked: Asked, item: Item) -> Result<(), Fault<'static>>
         requires cell { IsInCell self.old }
         requires put { asked.request ≡ Request.Put item }
-        ensures cell { OnOk result (IsInCell self.new) }
-        ensures walked { OnOk result ((before : List Asked) → IsWalked self.old before → IsWalked self.new (before ++ asked ∷ [])) }
-        ensures grouped { OnOk result ((before : List Asked) → IsWalked self.old before → IsGrouped self.old before → IsGrouped self.new (before ++ asked ∷ [])) }
+        ensures taken { OnOk result (TakesOn self.old self.new asked) }
         ensures packed { OnOk result ((n : ℕ) (requests : List RequestOf) → item ≡ Item.Cell (Number n) → IsPackedPlain self.old requests →
             IsPackedPlain self.new (requests ++ Request.Put item ∷ [])) }
         ensures refused { IfErr result (λ fault. (n : ℕ) → item ≡ Item.Cell (Number n) → fault.cause ≡ Memory) }
@@ -168,9 +164,7 @@ impl Packer {
     fn unext(&mut self, asked: Asked, label: usize) -> Result<(), Fault<'static>>
         requires cell { IsInCell self.old }
         requires unext { asked.request ≡ Request.Unext label }
-        ensures cell { OnOk result (IsInCell self.new) }
-        ensures walked { OnOk result ((before : List Asked) → IsWalked self.old before → IsWalked self.new (before ++ asked ∷ [])) }
-        ensures grouped { OnOk result ((before : List Asked) → IsWalked self.old before → IsGrouped self.old before → IsGrouped self.new (before ++ asked ∷ [])) }
+        ensures { OnOk result (TakesOn self.old self.new asked) }
     {
         let is_loop = self.is_loop(label);
         let broken = broken_by(self.broken, asked.line, is_loop);
@@ -183,9 +177,7 @@ impl Packer {
     fn mark(&mut self, asked: Asked, label: usize) -> Result<(), Fault<'static>>
         requires cell { IsInCell self.old }
         requires mark { asked.request ≡ Request.Mark label }
-        ensures cell { OnOk result (IsInCell self.new) }
-        ensures walked { OnOk result ((before : List Asked) → IsWalked self.old before → IsWalked self.new (before ++ asked ∷ [])) }
-        ensures grouped { OnOk result ((before : List Asked) → IsWalked self.old before → IsGrouped self.old before → IsGrouped self.new (before ++ asked ∷ [])) }
+        ensures { OnOk result (TakesOn self.old self.new asked) }
     {
         self.close()?;
         let next = next_cell(self.spot);
@@ -206,9 +198,7 @@ impl Packer {
         requires begin { spot.slot ≡ 0 }
         requires fills { IsFilling asked.request }
         requires after { after_request self.old.labels.items self.old.spot asked.request ≡ spot }
-        ensures cell { OnOk result (IsInCell self.new) }
-        ensures walked { OnOk result ((before : List Asked) → IsWalked self.old before → IsWalked self.new (before ++ asked ∷ [])) }
-        ensures grouped { OnOk result ((before : List Asked) → IsWalked self.old before → IsGrouped self.old before → IsGrouped self.new (before ++ asked ∷ [])) }
+        ensures taken { OnOk result (TakesOn self.old self.new asked) }
         ensures packed { OnOk result ((address : ℕ) (requests : List RequestOf) → spot ≡ begin_of address → IsPackedPlain self.old requests →
             IsPackedPlain self.new (requests ++ Request.Go address ∷ [])) }
         ensures refused { IfErr result (λ fault. fault.cause ≡ Memory) }
@@ -220,9 +210,7 @@ impl Packer {
 
     fn take(&mut self, asked: Asked) -> Result<(), Fault<'static>>
         requires { IsInCell self.old }
-        ensures cell { OnOk result (IsInCell self.new) }
-        ensures walked { OnOk result ((before : List Asked) → IsWalked self.old before → IsWalked self.new (before ++ asked ∷ [])) }
-        ensures grouped { OnOk result ((before : List Asked) → IsWalked self.old before → IsGrouped self.old before → IsGrouped self.new (before ++ asked ∷ [])) }
+        ensures taken { OnOk result (TakesOn self.old self.new asked) }
         ensures packed { OnOk result ((requests : List RequestOf) → IsPlainRequest asked.request → IsPackedPlain self.old requests →
             IsPackedPlain self.new (requests ++ asked.request ∷ [])) }
         ensures refused { IfErr result (λ fault. IsPlainRequest asked.request → fault.cause ≡ Memory) }

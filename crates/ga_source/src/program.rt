@@ -3,18 +3,15 @@
 ghost use Rattle.std.specs.Prelude.{ℕ, ◌≡◌, ◌≤◌, ◌<◌, true, false, List, [], length, replicate, take, drop, codes, position, Some, IfOk, IfErr, OnOk, OnErr, IfSome};
 ghost use Rattle.std.specs.List.{All};
 ghost use Rattle.ga_grid.specs.Chip.{records_of, AreSteady};
-ghost use Rattle.ga_source.specs.Programs.{given_of, with_registers, has_cells as has_cells_of, is_item as is_item_of, start_of as start, is_named, at_load, HasProgram, IsAssembled};
-ghost use Rattle.ga_source.specs.Cells.{IsEmptyElsewhere};
+ghost use Rattle.ga_source.specs.Programs.{given_of, with_registers, has_cells as has_cells_of, is_item as is_item_of, start_of as start, is_named, at_load, HasProgram, IsAssembled, AreOf, AreRead, said_body, said_bodies, AsksFor, AreAskedBy, AreAsked};
+ghost use Rattle.ga_source.specs.Cells.{IsEmptyElsewhere, HasGroups};
 ghost use Rattle.ga_grid.specs.Grid.{number_where_any};
 ghost use Rattle.ga_parser.specs.Plain.{Plain, is_node as is_node_word, body_in, bodies_in, yxx_in, texts_in, plain_of, value_in, asked_by};
-ghost use Rattle.ga_source.specs.Asks.{AreOf, AreRead, said_body, said_bodies, AsksFor, AreAskedBy, AreAsked};
-ghost use Rattle.ga_source.specs.Groups.{HasGroups};
 ghost use Rattle.ga_parser.specs.Saying.{all_said, said_in, Said};
-ghost use Rattle.ga_source.specs.Made.{IsChipOfSource};
+ghost use Rattle.ga_source.specs.Made.{IsChipOfSource, AreDistinctCells, cells_from, IsSoundSource};
 ghost use Rattle.ga_parser.specs.declared.fault.SourceCause.TheVariants.{Memory};
 ghost use Rattle.ga_parser.specs.declared.scan.TokenKind.TheVariants.{Word};
-ghost use Rattle.ga_source.specs.Sound.{AreDistinctCells, cells_from, IsSoundSource};
-ghost use Rattle.ga_source.specs.kept.Packing.{IsSoundFrom, IsNumber, AreNumbers, AreLoaded, AreOfFirst, AreAskedFirst};
+ghost use Rattle.ga_source.specs.kept.{IsSoundFrom, IsNumber, AreNumbers, AreLoaded, AreOfFirst, AreAskedFirst};
 ghost use Rattle.ga_parser.specs.kept.Drafting.{texts_of};
 
 use super::group::Group;

@@ -1,9 +1,9 @@
 use Rattle.std.proofs.Common.{ℕ, ◌≡◌, List, length, take}
 use Rattle.std.specs.List.{All}
 use Rattle.ga_source.specs.Cells.{KeepsElsewhere}
-use Rattle.ga_source.specs.kept.Layout.{are_taken, IsLoadedGroup, KeepsRest}
-use Rattle.ga_source.specs.Sound.{AreDistinctCells}
-use Rattle.ga_source.specs.kept.Packing.{AreCellGroups, AreOpen}
+use Rattle.ga_source.specs.kept.{are_taken, IsLoadedGroup, KeepsRest, AreCellGroups}
+use Rattle.ga_source.specs.Made.{AreDistinctCells}
+use Rattle.ga_source.proofs.CellGroups.{AreOpen}
 use Rattle.ga_source.proofs.loading.load.Given as goal
 
 abbrev pub invariant-loop-group : goal.invariant-loop-group

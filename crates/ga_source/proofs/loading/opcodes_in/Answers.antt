@@ -1,6 +1,6 @@
 use Rattle.std.proofs.Common.{arith, ◌≢◌, ◌<◌, ◌∙◌, length, length-set, get_or-set_other}
 use Rattle.ga_slots.specs.declared.op.Op.TheVariants.{Return}
-use Rattle.ga_source.proofs.Targets.{one_more}
+use Rattle.ga_source.proofs.Making.{one_more}
 use Rattle.ga_source.proofs.loading.opcodes_in.Goals as goal
 
 pub loop-slot-preserved : goal.loop-slot-preserved

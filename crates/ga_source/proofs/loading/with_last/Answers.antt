@@ -1,6 +1,6 @@
 use Rattle.std.proofs.Common.{refl}
 use Rattle.ga_parser.specs.declared.item.Item.TheVariants.{Back, Ahead}
-use Rattle.ga_source.proofs.Coded.{jump_item}
+use Rattle.ga_source.proofs.Laying.{jump_item}
 use Rattle.ga_source.proofs.loading.with_last.Goals as goal
 
 pub returns-in-Back-clause-has : goal.returns-in-Back-clause-has

@@ -2,7 +2,7 @@ use Rattle.std.proofs.Common.{rules, arith, sym, subst, ◌≡◌, ◌∙◌, �
 use Rattle.std.proofs.lemmas.List.{length-append}
 use Rattle.ga_parser.specs.declared.scan.Token.{Token}
 use Rattle.ga_source.specs.Mending.{IsAssembledOf}
-use Rattle.ga_source.proofs.Numbering.{next_mended, none_mended}
+use Rattle.ga_source.proofs.Bodies.{next_mended, none_mended}
 use Rattle.ga_source.proofs.mending.assemble_behind_faults.Goals as goal
 
 pub faults-init : goal.faults-init

@@ -1,6 +1,6 @@
 use Rattle.std.proofs.Common.{rules, arith, refl, ◌≡◌, ◌++◌, ◌∷◌, []}
 use Rattle.std.proofs.lemmas.List.{drop_all}
-use Rattle.ga_source.proofs.Numbering.{one_numbered, all_numbered}
+use Rattle.ga_source.proofs.Bodies.{one_numbered, all_numbered}
 use Rattle.ga_source.proofs.mending.number.Goals as goal
 
 pub loop-word-init : goal.loop-word-init

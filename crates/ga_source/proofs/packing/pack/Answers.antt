@@ -1,9 +1,8 @@
 use Rattle.std.proofs.Common.{rules, ◌≡◌, List, arith, ◌<◌, length, take, sym, subst, refl}
 use Rattle.std.specs.Prelude.{Err}
 use Rattle.std.proofs.lemmas.List.{take_all, take_more, map-append}
-use Rattle.ga_source.specs.kept.Layout.{IsWalked, IsGrouped}
+use Rattle.ga_source.specs.kept.{IsWalked, IsGrouped, requests_of, IsPackedPlain}
 use Rattle.ga_parser.specs.declared.item.Asked.{Asked}
-use Rattle.ga_source.specs.kept.Packing.{requests_of, IsPackedPlain}
 use Rattle.ga_source.proofs.CellGroups.{none_packed, one_plain}
 use Rattle.ga_source.proofs.Marking.{walked_none, laid_out}
 use Rattle.ga_source.proofs.Grouped.{grouped_none, grouped}
@@ -16,9 +15,9 @@ pub loop-one-preserved : goal.loop-one-preserved
 loop-one-preserved c =
     let l : c.loop-one.one-index < length c.args.asked.now = omega arith in
     record {
-      cell = c.in_ok-take.ensures.cell;
-      walked = subst (IsWalked c.take.new.self) (sym (take_more c.args.asked.now c.loop-one.one-index _ l)) (c.in_ok-take.ensures.walked (take c.loop-one.one-index c.args.asked.now) c.loop-one.invariant.walked);
-      grouped = subst (IsGrouped c.take.new.self) (sym (take_more c.args.asked.now c.loop-one.one-index _ l)) (c.in_ok-take.ensures.grouped (take c.loop-one.one-index c.args.asked.now) c.loop-one.invariant.walked c.loop-one.invariant.grouped);
+      cell = c.in_ok-take.ensures.taken.cell;
+      walked = subst (IsWalked c.take.new.self) (sym (take_more c.args.asked.now c.loop-one.one-index _ l)) (c.in_ok-take.ensures.taken.walked (take c.loop-one.one-index c.args.asked.now) c.loop-one.invariant.walked);
+      grouped = subst (IsGrouped c.take.new.self) (sym (take_more c.args.asked.now c.loop-one.one-index _ l)) (c.in_ok-take.ensures.taken.grouped (take c.loop-one.one-index c.args.asked.now) c.loop-one.invariant.walked c.loop-one.invariant.grouped);
       packed = λ plain.
           subst (λ (list : List Asked). IsPackedPlain c.take.new.self (requests_of list)) (sym (take_more c.args.asked.now c.loop-one.one-index _ l))
           (subst (IsPackedPlain c.take.new.self) (sym (map-append (λ one. one.request) (take c.loop-one.one-index c.args.asked.now) _))

@@ -6,8 +6,7 @@ use Rattle.ga_parser.specs.declared.fault.SourceCause.TheVariants.{Memory}
 use Rattle.ga_source.specs.Programs.{HasProgram}
 use Rattle.ga_source.proofs.Loaded.{one_more_at}
 use Rattle.ga_source.proofs.Refusing.{not_node, too_few, no_such, begun_twice, first_refused, left_first}
-use Rattle.ga_source.proofs.Bodies.{one_more_read}
-use Rattle.ga_source.proofs.AskedBodies.{one_more_asked}
+use Rattle.ga_source.proofs.Bodies.{one_more_read, one_more_asked}
 use Rattle.ga_source.proofs.program.assemble_first.Goals as goal
 
 pub returns-clause-loaded : goal.returns-clause-loaded

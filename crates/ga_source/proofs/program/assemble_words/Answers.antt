@@ -1,7 +1,6 @@
 use Rattle.std.proofs.Common.{rules}
 use Rattle.std.proofs.lemmas.List.{drop_all}
-use Rattle.ga_source.proofs.Bodies.{none_read, all_read}
-use Rattle.ga_source.proofs.AskedBodies.{none_asked, all_asked}
+use Rattle.ga_source.proofs.Bodies.{none_read, all_read, none_asked, all_asked}
 use Rattle.ga_source.proofs.Refusing.{none_there, source_sound}
 use Rattle.ga_source.proofs.program.assemble_words.Goals as goal
 

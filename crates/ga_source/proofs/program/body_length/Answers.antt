@@ -1,7 +1,6 @@
 use Rattle.std.proofs.Common.{arith, ◌∙◌, sym, below_more, length}
 use Rattle.std.proofs.lemmas.List.{length-map}
-use Rattle.ga_source.proofs.Bodies.{front_of, behind_of, next_of, tested}
-use Rattle.ga_source.proofs.AskedBodies.{said_front, said_behind}
+use Rattle.ga_source.proofs.Bodies.{front_of, behind_of, next_of, tested, said_front, said_behind}
 use Rattle.ga_source.proofs.program.body_length.Goals as goal
 
 pub returns-then-is_node-clause-front : goal.returns-then-is_node-clause-front

@@ -2,7 +2,7 @@ use Rattle.std.proofs.Common.{rules, ◌≡◌, ◌∙◌, ap, sym, true, false,
 use Rattle.ga_source.specs.Reading.{fits, next_cell}
 use Rattle.ga_parser.specs.declared.item.Asked.{Asked}
 use Rattle.ga_parser.specs.declared.item.Request.TheVariants.{Put}
-use Rattle.ga_source.specs.Groups.{placed_at}
+use Rattle.ga_source.specs.Cells.{placed_at}
 use Rattle.ga_source.proofs.Laying.{fits-extends, here-fits, next-fits}
 use Rattle.ga_source.proofs.Walking.{pending_here, pending_next}
 use Rattle.ga_source.proofs.Grouped.{putting_here, putting_next}

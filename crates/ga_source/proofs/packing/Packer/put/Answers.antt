@@ -2,25 +2,23 @@ use Rattle.std.proofs.Common.{rules, ◌++◌, ◌∷◌, [], sym, subst}
 use Rattle.std.proofs.lemmas.Bool.{both_ways}
 use Rattle.ga_parser.specs.declared.item.Asked.{Asked}
 use Rattle.ga_parser.specs.declared.item.Request.TheVariants.{Put}
-use Rattle.ga_source.specs.kept.Layout.{IsKnown, IsWalked, IsGrouped}
-use Rattle.ga_source.specs.kept.Packing.{IsPackedPlain}
+use Rattle.ga_source.specs.kept.{IsKnown, IsWalked, IsGrouped, IsPackedPlain}
 use Rattle.ga_source.proofs.CellGroups.{cell_fits}
 use Rattle.ga_source.proofs.Marking.{of_request}
 use Rattle.ga_source.proofs.packing.Packer.put.Goals as goal
 
-pub returns-clause-walked : goal.returns-clause-walked
-returns-clause-walked c =
+pub returns-clause-taken : goal.returns-clause-taken
+returns-clause-taken c =
     let known : IsKnown c.args.self.now.labels.items c.args.item = search rules in
     let one : Asked = record { line = c.args.asked.line; request = Put c.args.item } in
-    λ before w. subst (λ (asked : Asked). IsWalked c.add.new.self (before ++ asked ∷ [])) (sym (of_request c.args.asked (Put c.args.item) c.requires.put))
-    (c.in_ok-add.ensures.walked (before ++ one ∷ []) (c.in_ok-make_room.ensures.pending before c.args.asked.line known w))
-
-pub returns-clause-grouped : goal.returns-clause-grouped
-returns-clause-grouped c =
-    let known : IsKnown c.args.self.now.labels.items c.args.item = search rules in
-    let one : Asked = record { line = c.args.asked.line; request = Put c.args.item } in
-    λ before w g. subst (λ (asked : Asked). IsGrouped c.add.new.self (before ++ asked ∷ [])) (sym (of_request c.args.asked (Put c.args.item) c.requires.put))
-    (c.in_ok-add.ensures.grouped (before ++ one ∷ []) (c.in_ok-make_room.ensures.putting before c.args.asked.line known w g))
+    let same = sym (of_request c.args.asked (Put c.args.item) c.requires.put) in
+    record {
+      cell = c.in_ok-add.ensures.cell;
+      walked = λ before w. subst (λ (asked : Asked). IsWalked c.add.new.self (before ++ asked ∷ [])) same
+          (c.in_ok-add.ensures.walked (before ++ one ∷ []) (c.in_ok-make_room.ensures.pending before c.args.asked.line known w));
+      grouped = λ before w g. subst (λ (asked : Asked). IsGrouped c.add.new.self (before ++ asked ∷ [])) same
+          (c.in_ok-add.ensures.grouped (before ++ one ∷ []) (c.in_ok-make_room.ensures.putting before c.args.asked.line known w g));
+    }
 
 pub returns-clause-packed : goal.returns-clause-packed
 returns-clause-packed c = λ n requests is w.

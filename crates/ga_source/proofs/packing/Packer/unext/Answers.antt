@@ -2,24 +2,22 @@ use Rattle.std.proofs.Common.{◌++◌, ◌∷◌, [], sym, subst, refl}
 use Rattle.ga_parser.specs.declared.item.Asked.{Asked}
 use Rattle.ga_parser.specs.declared.item.Request.TheVariants.{Unext}
 use Rattle.ga_source.specs.declared.packing.Packer.{Packer}
-use Rattle.ga_source.specs.kept.Layout.{IsWalked, IsGrouped}
+use Rattle.ga_source.specs.kept.{IsWalked, IsGrouped}
 use Rattle.ga_source.proofs.Marking.{of_request, pending_unext}
 use Rattle.ga_source.proofs.Grouped.{putting_unext}
 use Rattle.ga_source.proofs.packing.Packer.unext.Goals as goal
 
-pub returns-clause-walked : goal.returns-clause-walked
-returns-clause-walked c =
+pub returns : goal.returns
+returns c =
     let self = c.args.self.now in
     let marked : Packer = record self { broken = c.broken_by-broken.result } in
     let one : Asked = record { line = c.args.asked.line; request = Unext c.args.label } in
-    λ before w. subst (λ (asked : Asked). IsWalked c.add.new.self (before ++ asked ∷ [])) (sym (of_request c.args.asked (Unext c.args.label) c.requires.unext))
-    (c.in_ok-add.ensures.walked (before ++ one ∷ []) (pending_unext self marked before c.args.asked.line c.args.label
-    (λ e. let parts = c.broken_by-broken.ensures e in (parts.0, c.is_loop-is_loop.ensures parts.1)) refl refl refl refl w))
-
-pub returns-clause-grouped : goal.returns-clause-grouped
-returns-clause-grouped c =
-    let self = c.args.self.now in
-    let marked : Packer = record self { broken = c.broken_by-broken.result } in
-    let one : Asked = record { line = c.args.asked.line; request = Unext c.args.label } in
-    λ before w g. subst (λ (asked : Asked). IsGrouped c.add.new.self (before ++ asked ∷ [])) (sym (of_request c.args.asked (Unext c.args.label) c.requires.unext))
-    (c.in_ok-add.ensures.grouped (before ++ one ∷ []) (putting_unext self marked before c.args.asked.line c.args.label refl refl refl refl refl w g))
+    let same = sym (of_request c.args.asked (Unext c.args.label) c.requires.unext) in
+    record {
+      cell = c.in_ok-add.ensures.cell;
+      walked = λ before w. subst (λ (asked : Asked). IsWalked c.add.new.self (before ++ asked ∷ [])) same
+          (c.in_ok-add.ensures.walked (before ++ one ∷ []) (pending_unext self marked before c.args.asked.line c.args.label
+          (λ e. let parts = c.broken_by-broken.ensures e in (parts.0, c.is_loop-is_loop.ensures parts.1)) refl refl refl refl w));
+      grouped = λ before w g. subst (λ (asked : Asked). IsGrouped c.add.new.self (before ++ asked ∷ [])) same
+          (c.in_ok-add.ensures.grouped (before ++ one ∷ []) (putting_unext self marked before c.args.asked.line c.args.label refl refl refl refl refl w g));
+    }
