@@ -3,9 +3,9 @@ use Rattle.std.specs.List.{list_any}
 use Rattle.std.proofs.lemmas.List.{get_or_default}
 use Rattle.ga_causal.specs.Dependence.{cause_nodes, is_marked, no_cause, event_at}
 use Rattle.ga_causal.specs.Equivalence.{sees}
-use Rattle.ga_picture.proofs.Grounded.{AreGrounds, grounds_first, grounds_met, grounds_not}
-use Rattle.ga_picture.proofs.before.grounds.Goals as goal
-use Rattle.ga_picture.proofs.before.grounds.Goals.{then-met_by, else-met_by}
+use Rattle.ga_picture.proofs.Shaded.{AreGrounds, grounds_first, grounds_met, grounds_not}
+use Rattle.ga_picture.proofs.shade.grounds.Goals as goal
+use Rattle.ga_picture.proofs.shade.grounds.Goals.{then-met_by, else-met_by}
 
 pub events-init : goal.events-init
 events-init c =

@@ -1,10 +1,10 @@
 use Rattle.std.proofs.Common.{◌≡◌, ◌+◌, false, true, length, sym, ◌∙◌, subst, arith}
 use Rattle.std.proofs.lemmas.List.{get_or_default}
 use Rattle.ga_causal.specs.Dependence.{is_marked}
-use Rattle.ga_picture.specs.Runs.{at_place, no_item}
-use Rattle.ga_picture.proofs.Touching.{AreUsed, used_none, used_more, used_same}
-use Rattle.ga_picture.proofs.touched.touched_by.Goals.{then-not-item, else-not-item}
-use Rattle.ga_picture.proofs.touched.touched_by.Goals as goal
+use Rattle.ga_picture.specs.Items.{at_place, no_item}
+use Rattle.ga_picture.proofs.Listed.{AreUsed, used_none, used_more, used_same}
+use Rattle.ga_picture.proofs.lines.touched_by.Goals.{then-not-item, else-not-item}
+use Rattle.ga_picture.proofs.lines.touched_by.Goals as goal
 
 pub items-init : goal.items-init
 items-init c = used_none c.args.items.now (is_marked c.none-touched.result) c.none-touched.ensures

@@ -1,7 +1,7 @@
 use Rattle.std.proofs.Common.{◌-◌}
 use Rattle.ga_causal.specs.Dependence.{is_marked}
-use Rattle.ga_picture.proofs.Grounded.{AreGrounds}
-use Rattle.ga_picture.proofs.before.grounds.Given as goal
+use Rattle.ga_picture.proofs.Shaded.{AreGrounds}
+use Rattle.ga_picture.proofs.shade.grounds.Given as goal
 
 -- the events from here on are looked at
 abbrev pub invariant-events : goal.invariant-events

@@ -1,8 +1,8 @@
 use Rattle.std.proofs.Common.{◌≡◌, ◌+◌, ◌-◌, ◌<◌, length, ap, sym, ◌∙◌, subst, set, false, arith}
 use Rattle.std.proofs.lemmas.List.{get_or_default, length-replicate}
 use Rattle.ga_causal.specs.Dependence.{is_marked, event_at, no_cause}
-use Rattle.ga_picture.proofs.Plains.{ArePlain, plain_none, plain_more}
-use Rattle.ga_picture.proofs.plain.plain_events.Goals as goal
+use Rattle.ga_picture.proofs.Listed.{ArePlain, plain_none, plain_more}
+use Rattle.ga_picture.proofs.item.plain_events.Goals as goal
 
 pub events-init : goal.events-init
 events-init c =
