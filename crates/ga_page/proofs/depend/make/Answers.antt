@@ -3,7 +3,7 @@ use Rattle.ga_grid.specs.Chip.{records_of}
 use Rattle.ga_event.specs.declared.event.Cause.{Cause}
 use Rattle.ga_event.specs.Apply.{apply, cause_of}
 use Rattle.ga_event.specs.Undo.{told_of}
-use Rattle.ga_page.proofs.made.make.Goals as goal
+use Rattle.ga_page.proofs.depend.make.Goals as goal
 
 pub returns-in-Ok-apply : goal.returns-in-Ok-apply
 returns-in-Ok-apply c =

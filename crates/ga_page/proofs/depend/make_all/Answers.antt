@@ -1,8 +1,19 @@
-use Rattle.std.proofs.Common.{[], ◌+◌, take, refl, sym, subst}
+use Rattle.std.proofs.Common.{[], ◌+◌, take, refl, sym, subst, ◌≡◌, ℕ, ◌<◌, List, ◌∷◌, ◌++◌, length, get_or, ◌∙◌, ap}
 use Rattle.ga_grid.specs.Chip.{records_of}
-use Rattle.ga_page.specs.kept.{MakesAll, none}
-use Rattle.ga_page.proofs.Mades.{made_more}
-use Rattle.ga_page.proofs.made.make_all.Goals as goal
+use Rattle.ga_page.specs.kept.{MakesAll, none, Makes, more}
+use Rattle.std.proofs.lemmas.List.{take_more}
+use Rattle.ga_node.specs.Record.{NodeRecord}
+use Rattle.ga_event.specs.declared.event.Cause.{Cause}
+use Rattle.ga_page.proofs.depend.make_all.Goals as goal
+
+-- One event more, behind those of the nodes so far.
+made_more : (load : List NodeRecord) (nodes : List ℕ) (at n : ℕ) (causes : List Cause) (chip after : List NodeRecord) (cause : Cause)
+    → at < length nodes → get_or nodes at 0 ≡ n → MakesAll load (take at nodes) causes chip → Makes chip n cause after
+    → MakesAll load (take (at + 1) nodes) (causes ++ cause ∷ []) after
+made_more load nodes at n causes chip after cause l e all one =
+    subst (λ z. MakesAll load z (causes ++ cause ∷ []) after)
+    (sym (take_more nodes at 0 l ∙ ap (λ z. take at nodes ++ z ∷ []) e))
+    (more all one)
 
 pub steps-init : goal.steps-init
 steps-init c =
