@@ -7,8 +7,8 @@ use std::io;
 use std::io::{ErrorKind, Read};
 use std::process::ExitCode;
 
-/// The most bytes of a program: the bound of an input.
-const LONGEST_PROGRAM: u64 = 16_777_216;
+/// The most bytes of a file: the bound of an input.
+pub const LONGEST_FILE: u64 = 16_777_216;
 
 /// The files of the system.
 #[derive(Drop)]
@@ -23,7 +23,7 @@ impl ProgramFiles for Files<'_> {
     fn read(&mut self, _: Global, path: &str) -> Result<Vec<u8>, SourceError> {
         match read_file(self.rt, path) {
             Ok(text) => {
-                if text.len() as u64 > LONGEST_PROGRAM {
+                if text.len() as u64 > LONGEST_FILE {
                     return Err(SourceError::TooLong);
                 }
                 Ok(text)
@@ -34,10 +34,10 @@ impl ProgramFiles for Files<'_> {
 }
 
 /// The bytes of a file, as far as one more than the bound.
-fn read_file(rt: &HostRuntime, path: &str) -> io::Result<Vec<u8>> {
+pub fn read_file(rt: &HostRuntime, path: &str) -> io::Result<Vec<u8>> {
     let mut text = Vec::new(rt.alloc());
     File::open(rt, path)?
-        .take(LONGEST_PROGRAM + 1)
+        .take(LONGEST_FILE + 1)
         .read_to_end(&mut text)?;
     Ok(text)
 }

@@ -11,7 +11,7 @@ mod arriving;
 ghost use Rattle.std.specs.Prelude.{IfOk};
 ghost use Rattle.ga_console.specs.Settings.{AreInRange};
 
-use adapter::{out_of_memory, serve_editor};
+use adapter::{LONGEST_FILE, out_of_memory, read_file, serve_editor};
 use arriving::begin_reading;
 use ga_check::orders::Bounds;
 use ga_console::{LineFault, Settings, Status, arguments, race_report, session};
@@ -19,7 +19,6 @@ use ga_explorer::{Usage, close, explore, is_cut_off};
 use ga_listing::{assemble_source, disassemble, list_source};
 use ga_orders::{Verdict, check_orders};
 use ga_picture::{View, draw_session};
-use std::fs::File;
 use std::io::{Chain, ErrorKind, Read, Stdin, Take};
 use std::process::ExitCode;
 use std::sync::atomic::{AtomicBool, AtomicU64, Ordering};
@@ -44,9 +43,6 @@ const TICK: u64 = 20;
 
 /// After how many of them progress is told.
 const TICKS: u64 = 50;
-
-/// The most bytes of a file: the bound of an input.
-const LONGEST_FILE: u64 = 16_777_216;
 
 fn main(rt: HostRuntime) -> ExitCode {
     match settings(&rt) {
@@ -182,7 +178,7 @@ fn front_of(rt: &HostRuntime, file: &Option<String>) -> Result<Front, ExitCode> 
         });
     };
     let name = name.as_str();
-    match held(rt, name) {
+    match read_file(rt, name) {
         Ok(mut text) => {
             if text.len() as u64 > LONGEST_FILE {
                 return Err(unread(rt, name, "more than 16777216 bytes", 1));
@@ -200,15 +196,6 @@ fn front_of(rt: &HostRuntime, file: &Option<String>) -> Result<Front, ExitCode> 
         }
         Err(why) => Err(unread_for(rt, name, &why)),
     }
-}
-
-/// The bytes of a file, as far as one more than the bound of an input.
-fn held(rt: &HostRuntime, name: &str) -> io::Result<Vec<u8>> {
-    let mut text = Vec::new(rt.alloc());
-    File::open(rt, name)?
-        .take(LONGEST_FILE + 1)
-        .read_to_end(&mut text)?;
-    Ok(text)
 }
 
 /// Tells why a file can't be read: 1 for want of memory, else 2.

@@ -121,3 +121,20 @@ pub looking_last : (cells : List ℕ) (cell : ℕ) → 64 ≤ cell → IsLooking
 looking_last cells cell end looking =
     let size = looking.size (omega arith) in
     sym (holds_none (drop cell cells) (drop_all cell cells (omega arith))) ∙ looking.same
+
+-- ---- in which memory
+
+or_true : (b : Bool) → true ≡ (b || true)
+or_true true = refl
+or_true false = refl
+
+pub found_in_ram : (ram rom : List ℕ) (cell word : ℕ) → length ram ≡ 64 → cell < 64 → word ≡ get_or ram cell 0 → (word ≡ 0 → ⊥) → IsLooking ram cell → true ≡ (holds_word ram || holds_word rom)
+found_in_ram ram rom cell word size within is some looking = ap (λ (b : Bool). b || holds_word rom) (looking_found ram cell word size within is some looking)
+
+pub found_in_rom : (ram rom : List ℕ) (cell word : ℕ) → length rom ≡ 64 → cell < 64 → word ≡ get_or rom cell 0 → (word ≡ 0 → ⊥) → IsLooking rom cell → true ≡ (holds_word ram || holds_word rom)
+found_in_rom ram rom cell word size within is some looking =
+    or_true (holds_word ram) ∙ ap (λ (b : Bool). holds_word ram || b) (looking_found rom cell word size within is some looking)
+
+pub found_nowhere : (ram rom : List ℕ) (cell : ℕ) → 64 ≤ cell → IsLooking ram cell → IsLooking rom cell → false ≡ (holds_word ram || holds_word rom)
+found_nowhere ram rom cell end in_ram in_rom =
+    λ i. looking_last ram cell end in_ram i || looking_last rom cell end in_rom i

@@ -7,7 +7,7 @@ ghost use Rattle.ga_image.specs.Grammar.{IsImage};
 ghost use Rattle.ga_text.specs.Lines.{Bytes, lines_of};
 ghost use Rattle.ga_console.specs.Run.{IsFault};
 ghost use Rattle.ga_listing.specs.Source.{IsAccepted, Disassembles};
-ghost use Rattle.ga_listing.specs.kept.{Disassembly, IsOrdinary, IsUnmarked, Says, Adds, AddsRemark, number_word, register_words, address_words, cell_words, next_of, cells_words, next_behind, holds_word, holds_words as holds_words_of, usual_p as usual_p_of, registers_words, memory_words, node_words, named_words, source_words, AreCells, HasRegisters, HasMemories, IsFit};
+ghost use Rattle.ga_listing.specs.kept.{Disassembly, IsOrdinary, IsUnmarked, Says, Adds, AddsRemark, number_word, register_words, address_words, cell_words, next_of, cells_words, next_behind, holds_words as holds_words_of, usual_p as usual_p_of, registers_words, memory_words, node_words, named_words, source_words, AreCells, HasRegisters, HasMemories, IsFit};
 
 use super::assembling::write_text;
 use super::listing::{push_hex, push_node};
@@ -125,31 +125,14 @@ fn push_program(text: &mut Vec<u8>, id: NodeId, node: &Node) -> Result<(), Alloc
 }
 
 /// Whether a cell isn't 0.
+#[tactic(auto, using(crate::proofs::Cells::looking_first, crate::proofs::Cells::found_in_ram, crate::proofs::Cells::found_in_rom, crate::proofs::Cells::looking_more, crate::proofs::Cells::found_nowhere))]
 fn holds_words(node: &Node) -> bool
     ensures { result ≡ holds_words_of node.now }
-{
-    holds_ram(node) || holds_rom(node)
-}
-
-/// Whether a cell of RAM isn't 0.
-#[tactic(auto, using(crate::proofs::Cells::looking_first, crate::proofs::Cells::looking_found, crate::proofs::Cells::looking_more, crate::proofs::Cells::looking_last))]
-fn holds_ram(node: &Node) -> bool
-    ensures { result ≡ holds_word node.now.ram }
 {
     for cell in 0..64u8 {
         if node.get(Place::Ram(cell)) != 0 {
             return true;
         }
-    }
-    false
-}
-
-/// Whether a cell of ROM isn't 0.
-#[tactic(auto, using(crate::proofs::Cells::looking_first, crate::proofs::Cells::looking_found, crate::proofs::Cells::looking_more, crate::proofs::Cells::looking_last))]
-fn holds_rom(node: &Node) -> bool
-    ensures { result ≡ holds_word node.now.rom }
-{
-    for cell in 0..64u8 {
         if node.get(Place::Rom(cell)) != 0 {
             return true;
         }

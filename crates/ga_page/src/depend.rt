@@ -1,10 +1,12 @@
 //! What depends on a step, and on what it depends, as one call.
 
-ghost use Rattle.std.specs.Prelude.{◌≡◌, ◌⊎◌, ℕ, List, length, take, map, IfSome};
-ghost use Rattle.ga_page.specs.kept.{AreCodes, code_of};
+ghost use Rattle.std.specs.Prelude.{◌≡◌, ◌⊎◌, ℕ, List, length, take, IfSome};
+ghost use Rattle.ga_grid.specs.Chip.{records_of};
+ghost use Rattle.ga_page.specs.kept.{AreCodes, Makes, MakesAll, code_of};
 
 use crate::buffer::put_front;
-use crate::made::make_all;
+use ga_event::{Cause, apply, cause_of, next_event};
+use ga_grid::{Chip, NODES, NodeId};
 use ga_image::parse;
 use ga_picture::{Shade, shades};
 use std::alloc::Global;
@@ -49,17 +51,8 @@ fn codes(alloc: Global, image: &[u8], nodes: &[u8], place: u32) -> Option<Vec<u8
     let Ok(shaded) = shades(alloc, events, Some(place), Some(place)) else {
         return None;
     };
-    codes_of(alloc, shaded.as_slice())
-}
-
-/// The byte of each colour.
-fn codes_of(alloc: Global, shades: &[Shade]) -> Option<Vec<u8>>
-    ensures { IfSome result (λ codes. codes.items ≡ map code_of shades.now) }
-{
-    match shades.iter().map(|shade| code(*shade)).collect(alloc) {
-        Ok(codes) => Some(codes),
-        Err(_) => None,
-    }
+    let shades = shaded.as_slice();
+    shades.iter().map(|shade| code(*shade)).collect(alloc).ok()
 }
 
 /// The byte of a colour.
@@ -70,5 +63,40 @@ fn code(shade: Shade) -> u8
         Shade::Grey => 0,
         Shade::Black => 1,
         Shade::Red => 2,
+    }
+}
+
+/// Lets the nodes with these numbers make their next events, in order. None where a number is no node's, a node has no event,
+/// or memory is refused.
+fn make_all(alloc: Global, chip: &mut Chip, nodes: &[u8]) -> Option<Vec<Cause>>
+    ensures { IfSome result (λ causes. MakesAll (records_of chip.old) nodes.now causes.items (records_of chip.new)) }
+{
+    let mut causes = Vec::new(alloc);
+    'steps: for at in 0..nodes.len() {
+        let cause = make(chip, nodes[at])?;
+        let Ok(()) = causes.push(cause) else {
+            return None;
+        };
+    }
+    Some(causes)
+}
+
+/// Lets a node make its next event.
+fn make(chip: &mut Chip, number: u8) -> Option<Cause>
+    ensures { IfSome result (λ cause. Makes (records_of chip.old) number cause (records_of chip.new)) }
+{
+    if number as usize >= NODES {
+        return None;
+    }
+    let node = NodeId::new(number);
+    match next_event(chip, node) {
+        Ok(event) => {
+            let cause = cause_of(chip, event);
+            match apply(chip, event) {
+                Ok(_effect) => Some(cause),
+                Err(_) => None,
+            }
+        }
+        Err(_) => None,
     }
 }

@@ -1,6 +1,6 @@
 //! Which nodes made the events that a session keeps, as one call.
 
-ghost use Rattle.std.specs.Prelude.{◌≡◌, ◌++◌, ◌⊎◌, ℕ, List, Ok, IfSome, length, map, take};
+ghost use Rattle.std.specs.Prelude.{◌≡◌, ◌++◌, ◌⊎◌, ℕ, List, Ok, IfSome, length, take};
 ghost use Rattle.ga_text.specs.Lines.{Bytes};
 ghost use Rattle.ga_explorer.specs.Opening.{Exploring};
 ghost use Rattle.ga_picture.specs.Following.{FollowsTo};
@@ -50,17 +50,10 @@ fn makers(alloc: Global, lab: &Lab) -> Option<Vec<u8>>
     ensures { IfSome result (λ nodes. nodes.items ≡ makers_of lab.now) }
 {
     match lab.causes() {
-        Ok(causes) => numbers(alloc, causes.as_slice()),
-        Err(_) => None,
-    }
-}
-
-/// The node of each event.
-fn numbers(alloc: Global, causes: &[Cause]) -> Option<Vec<u8>>
-    ensures { IfSome result (λ nodes. nodes.items ≡ map maker_of causes.now) }
-{
-    match causes.iter().map(|cause| maker(*cause)).collect(alloc) {
-        Ok(nodes) => Some(nodes),
+        Ok(causes) => {
+            let events = causes.as_slice();
+            events.iter().map(|cause| maker(*cause)).collect(alloc).ok()
+        }
         Err(_) => None,
     }
 }

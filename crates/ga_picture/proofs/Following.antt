@@ -1,17 +1,28 @@
 -- From a session that says nothing to one whose answers are dropped.
-use Rattle.std.proofs.Common.{◌≡◌, ℕ, List, [], ◌∷◌, ◌++◌, false, inl, inr, sym, ap, ◌∙◌, Result, Ok, Err, ◌≢◌, refl, subst}
-use Rattle.ga_explorer.specs.Opening.{Exploring}
+use Rattle.std.proofs.Common.{◌≡◌, ℕ, List, [], ◌∷◌, ◌++◌, false, inl, inr, sym, ap, ◌∙◌, Result, Ok, Err, ◌≢◌, refl, subst, ◌-◌, length, ◌↔◌, Bool, true≢false, IsTrue, Some, arith}
+use Rattle.ga_explorer.specs.Opening.{Exploring, OpensExploring, IsFront}
 use Rattle.ga_console.specs.Run.{status_of}
-use Rattle.ga_console.specs.Session.{Answers, Script, Serves, Written}
+use Rattle.ga_console.specs.Session.{Answers, Script, Serves, Written, Answering}
 use Rattle.ga_console.specs.declared.commands.Ending.{Ending}
 use Rattle.ga_console.specs.declared.commands.Ending.TheVariants.{Ended, Quit, Past, ReadFailed}
 use Rattle.ga_text.specs.declared.output.WriteFailed.{WriteFailed}
 use Rattle.ga_console.specs.declared.run.Status.TheVariants.{Done, StreamFault}
-use Rattle.ga_picture.specs.Following.{Hears, Follows, Declines}
-use Rattle.ga_picture.specs.kept.{HearsLine, Goes, Ends}
+use Rattle.ga_picture.specs.Following.{Hears, Follows, Declines, Followed, FollowsTo, IsShort}
+use Rattle.ga_picture.specs.kept.{HearsLine, Goes, Ends, Notes}
 use Rattle.ga_picture.specs.declared.silent.Silent.{Silent}
 use Rattle.ga_lab.specs.declared.fault.LabFault.TheVariants.{Memory}
 use Rattle.ga_console.specs.declared.run.Status.{Status}
+use Rattle.ga_text.specs.Input.{input_limit}
+use Rattle.ga_picture.specs.Following.Unreached.{broken, short}
+use Rattle.std.proofs.lemmas.List.{append-nil}
+use Rattle.std.proofs.lemmas.Option.{same_Some}
+use Rattle.ga_text.specs.Output.{IsSaid}
+use Rattle.ga_console.specs.kept.Run.{Turns}
+use Rattle.ga_console.specs.declared.responder.Turn.{Turn}
+use Rattle.ga_console.specs.declared.responder.Turn.TheVariants as turn
+use Rattle.ga_explorer.specs.Answers.{Explores}
+
+-- ---- from a session that says nothing to one whose answers are dropped
 
 -- how such a session answers a line
 abbrev pub Silently : Silent → List ℕ → List ℕ → Silent → Type 0
@@ -150,3 +161,65 @@ stream_fault (Ok Quit) h = absurd (h refl)
 stream_fault (Ok Past) h = refl
 stream_fault (Ok ReadFailed) h = refl
 stream_fault (Err failed) h = refl
+
+-- ---- from the parts of a session whose answers are dropped to the whole
+
+followed_in : (A : Answering Exploring) (limit : ℕ) (text commands rest said written : List ℕ) (machine last : Exploring) (ending : Result Ending WriteFailed) → IsFront text (commands ++ rest)
+    → OpensExploring text limit machine → Serves A (input_limit - length text) machine commands rest said last ending → Written ending said written
+    → Followed A limit (text ++ commands) rest written last ending
+followed_in A limit text commands rest said written machine last ending front opens serves out = record {
+  text = text;
+  commands = commands;
+  machine = machine;
+  said = said;
+  splits = refl;
+  front = front;
+  opens = opens;
+  serves = serves;
+  out = out;
+}
+
+-- where the input was followed to its end, all that was said was written: nothing
+written_none : (ending : Result Ending WriteFailed) → status_of ending ≡ Done → Written ending [] []
+written_none (Ok done) e = refl
+written_none (Err failed) e = cc
+
+-- behind a text on which a machine was opened
+pub reaches_after : (limit : ℕ) (text commands rest written : List ℕ) (machine : Exploring) (result : Result Exploring Status) → IsFront text (commands ++ rest) → OpensExploring text limit machine
+    → Goes (input_limit - length text) machine commands rest written result → FollowsTo limit (text ++ commands) rest written result
+reaches_after limit text commands rest written machine (Ok last) front opens g =
+    (g.0, g.1, g.2, followed_in Follows limit text commands rest [] [] machine last g.1 front opens g.3 (written_none g.1 g.2))
+reaches_after limit text commands rest written machine (Err status) front opens (last, ending, inl g) =
+    broken last ending g.0 g.1 (followed_in Hears limit text commands rest g.2 written machine last ending front opens g.3 g.4)
+reaches_after limit text commands rest written machine (Err status) front opens (last, ending, inr g) =
+    short last ending g.0 (followed_in Hears limit text commands rest [] [] machine last ending front opens g.1 (written_none ending g.0)) g.2
+
+-- ---- answers that are dropped
+
+-- what was written of an answer of which nothing is pending is the answer
+pub heard_whole : (items answer pending : List ℕ) → IsSaid (Some items) [] answer pending → pending ≡ [] → items ≡ answer
+heard_whole items answer pending h e =
+    same_Some items h.sent h.held ∙ sym (h.splits ∙ ap (λ (t : List ℕ). h.sent ++ t) e ∙ append-nil h.sent)
+
+pub not_short : (told : Bool) (text answer : List ℕ) → (IsTrue told ↔ IsShort text) → told ≡ false → text ≡ answer → ¬ IsShort answer
+not_short told text answer both e same short =
+    true≢false (sym (both.1 (subst IsShort (sym same) short)) ∙ e)
+
+nothing_short : IsShort [] → ⊥
+nothing_short (inl e) = absurd (omega (arith, ap length e))
+nothing_short (inr e) = absurd (omega (arith, ap length e))
+
+-- no answer tells of nothing
+pub quiet_notes : (short : Bool) (answer : List ℕ) → answer ≡ [] → Notes short answer short
+quiet_notes short answer e same = (same, λ told. nothing_short (subst IsShort e told))
+
+same_silent : (m n : Silent) → n.explorer ≡ m.explorer → n.short ≡ m.short → n ≡ m
+same_silent m n e f =
+    let A : Exploring → Silent = λ s. record { explorer = s; short = n.short } in
+    let B : Bool → Silent = λ b. record { explorer = m.explorer; short = b } in
+    ap A e ∙ ap B f
+
+pub silent_turn : (m n : Silent) (line answer : List ℕ) (turn : Turn) → Turns Explores m.explorer line n.explorer (Ok turn) answer → Notes m.short answer n.short
+    → (turn ≡ turn.Quit → n.short ≡ m.short) → Turns Silently m line n (Ok turn) []
+silent_turn m n line answer turn.Answered h noted ends = λ part kept. ((refl, answer, (h part kept).0, noted), (h part kept).1)
+silent_turn m n line answer turn.Quit h noted ends = (h.0, same_silent m n h.1 (ends refl), refl)

@@ -1,16 +1,20 @@
--- Rows put one behind another.
-use Rattle.std.proofs.Common.{⊎_elim, ◌≡◌, ℕ, zero, suc, ◌+◌, ◌==◌, ◌&&◌, ◌||◌, Bool, true, false, List, [], ◌∷◌, ◌++◌, refl, sym, ap, ◌∙◌, subst, add-one, arith, true≢false}
-use Rattle.std.specs.Prelude.{not, if◌then◌else◌, map, nat_le}
+-- Rows, marks and groups put one behind another.
+use Rattle.std.proofs.Common.{⊎_elim, ◌≡◌, ℕ, zero, suc, ◌+◌, ◌==◌, ◌&&◌, ◌||◌, Bool, true, false, List, [], ◌∷◌, ◌++◌, refl, sym, ap, ◌∙◌, subst, add-one, arith, true≢false, ◌<◌, ◌≤◌, length, take, get_or, append_assoc, drop, Some, None}
+use Rattle.std.specs.Prelude.{not, if◌then◌else◌, map, nat_le, flat_map}
 use Rattle.std.specs.List.{All}
 use Rattle.std.proofs.lemmas.Bool.{cases_Bool, both_ways}
-use Rattle.std.proofs.lemmas.List.{append-nil}
+use Rattle.std.proofs.lemmas.List.{append-nil, take_more, take_all, drop_more, drop_all}
 use Rattle.std.proofs.lemmas.List.Elements.{All-push}
 use Rattle.ga_causal.specs.Dependence.{is_a_pass}
 use Rattle.ga_grid.specs.declared.node_id.NodeId.{NodeId}
 use Rattle.ga_picture.specs.declared.item.PictureItem.{PictureItem}
 use Rattle.ga_picture.specs.declared.placing.PictureRow.{PictureRow}
-use Rattle.ga_picture.specs.Runs.{at_place, IsSimple, before_at, behind_at, drawn_with, steps_at, has_row, rows_below}
+use Rattle.ga_picture.specs.Items.{at_place, IsSimple, before_at, behind_at, drawn_with, steps_at, has_row, rows_below}
 use Rattle.ga_picture.specs.Drawing.{IsRow}
+use Rattle.ga_picture.specs.Picture.{IsGroup, AreGroups, row_from}
+use Rattle.ga_picture.specs.declared.race_marks.RaceMark.{RaceMark}
+
+-- ---- rows put one behind another
 
 rows_none : (items : List PictureItem) (fold : ℕ) → rows_below items fold zero ≡ []
 unfolding rows_below
@@ -91,3 +95,52 @@ steps_shown item shown steps before behind fold simple s many one = ⊎_elim
     (λ t. one t ∙ sym (s ∙ alone item before behind fold simple t))
     (λ f. many f)
     (cases_Bool (is_a_pass item.cause.event))
+
+-- ---- groups one behind another
+
+-- the groups of these classes behind a head
+abbrev pub AreBehind : List ℕ → List (List ℕ) → List ℕ → Type 0
+AreBehind head classes text = (groups : List ℕ) × AreGroups classes groups × (text ≡ head ++ groups)
+
+groups_more : (classes : List (List ℕ)) (class groups group : List ℕ) → AreGroups classes groups → IsGroup class group → AreGroups (classes ++ class ∷ []) (groups ++ group)
+groups_more [] class groups group a g = (group, [], g, refl, ap (λ z. z ++ group) a ∙ sym (append-nil group))
+groups_more (x ∷ xs) class groups group a g =
+    (a.0, a.1 ++ group, a.2, groups_more xs class a.1 group a.3 g, ap (λ z. z ++ group) a.4 ∙ append_assoc a.0 a.1 group)
+
+pub behind_more : (head : List ℕ) (classes : List (List ℕ)) (class text group new : List ℕ) → AreBehind head classes text → IsGroup class group → new ≡ text ++ group → AreBehind head (classes ++ class ∷ []) new
+behind_more head classes class text group new b g e =
+    (b.0 ++ group, groups_more classes class b.0 group b.1 g, e ∙ ap (λ z. z ++ group) b.2 ∙ append_assoc head b.0 group)
+
+map_push : {A : Type 0} (f : A → List ℕ) (xs : List A) (x : A) → map f (xs ++ x ∷ []) ≡ map f xs ++ f x ∷ []
+map_push f [] x = refl
+map_push f (y ∷ ys) x = ap (λ (z : List (List ℕ)). f y ∷ z) (map_push f ys x)
+
+-- the classes of one more
+pub classes_next : {A : Type 0} (f : A → List ℕ) (xs : List A) (at : ℕ) (x : A) → at < length xs → x ≡ get_or xs at x → map f (take (at + 1) xs) ≡ map f (take at xs) ++ f x ∷ []
+classes_next f xs at x within is =
+    ap (λ z. map f z) (take_more xs at x within) ∙ ap (λ z. map f (take at xs ++ z ∷ [])) (sym is) ∙ map_push f (take at xs) x
+
+pub classes_all : {A : Type 0} (f : A → List ℕ) (xs : List A) (at : ℕ) (head text : List ℕ) → length xs ≤ at → AreBehind head (map f (take at xs)) text → AreBehind head (map f xs) text
+classes_all f xs at head text past b = subst (λ z. AreBehind head (map f z) text) (take_all at xs past) b
+
+-- ---- marks put one behind another
+
+-- the first row of the rest is that of the event, or the search goes on behind it
+pub row_next : (rows : List PictureRow) (start place at : ℕ) (d : PictureRow) (same : Bool) → at < length rows → same ≡ ((get_or rows at d).place + start == place)
+    → row_from (drop at rows) start place at ≡ (if same then Some at else row_from (drop (at + 1) rows) start place (at + 1))
+row_next rows start place at d same l e =
+    ap (λ (z : List PictureRow). row_from z start place at) (drop_more rows at d l)
+    ∙ ap (λ (b : Bool). if b then Some at else row_from (drop (at + 1) rows) start place (at + 1)) (sym e)
+
+pub row_none : (rows : List PictureRow) (start place at : ℕ) → length rows ≤ at → row_from (drop at rows) start place at ≡ None
+row_none rows start place at past = ap (λ (z : List PictureRow). row_from z start place at) (drop_all at rows past)
+
+-- the marks of one more
+pub marked_next : {A : Type 0} (f : A → List RaceMark) (xs : List A) (at : ℕ) (x : A) (now new all : List RaceMark) → at < length xs → x ≡ get_or xs at x
+    → new ≡ now ++ f x → now ++ flat_map f (drop at xs) ≡ all → new ++ flat_map f (drop (at + 1) xs) ≡ all
+marked_next f xs at x now new all l is e h =
+    ap (λ (z : List RaceMark). z ++ flat_map f (drop (at + 1) xs)) e ∙ append_assoc now (f x) (flat_map f (drop (at + 1) xs))
+    ∙ ap (λ z. now ++ flat_map f z) (sym (drop_more xs at x l ∙ ap (λ z. z ∷ drop (at + 1) xs) (sym is))) ∙ h
+
+pub marked_all : {A : Type 0} (f : A → List RaceMark) (xs : List A) (at : ℕ) (now all : List RaceMark) → length xs ≤ at → now ++ flat_map f (drop at xs) ≡ all → now ≡ all
+marked_all f xs at now all past h = sym (append-nil now) ∙ ap (λ z. now ++ flat_map f z) (sym (drop_all at xs past)) ∙ h

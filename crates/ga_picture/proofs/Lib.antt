@@ -1,14 +1,6 @@
-pub mod Grounded
-pub mod Touching
-pub mod Plains
+pub mod Shaded
+pub mod Listed
 pub mod Running
 pub mod Laid
-pub mod Listed
 pub mod Loose
-pub mod Tallied
-pub mod Lined
-pub mod RaceMarked
-pub mod Grouped
 pub mod Following
-pub mod Reached
-pub mod Hearing

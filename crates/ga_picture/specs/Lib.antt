@@ -1,10 +1,5 @@
 pub mod Items
-pub mod Runs
 pub mod Drawing
-pub mod ByItself
-pub mod RaceMarks
-pub mod Svg
 pub mod Picture
 pub mod kept
 pub mod Following
-pub mod Drawn

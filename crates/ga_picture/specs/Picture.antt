@@ -1,28 +1,105 @@
--- What a picture shows of a machine's kept events (docs/REFERENCE.md, "Pictures"; this project's own).
-use Rattle.std.specs.Prelude.{◌≡◌, ◌↔◌, ℕ, ◌<◌, Bool, true, ◌&&◌, if◌then◌else◌, List, [], length, map, min, Option, Some, None, is_none, IsTrue}
-use Rattle.std.specs.List.{All}
+-- What a picture shows of a machine's kept events, and its text (docs/REFERENCE.md, "Pictures"; this project's own).
+use Rattle.std.specs.Prelude.{◌≡◌, ℕ, List, [], ◌∷◌, ◌++◌, map, codes, ◌+◌, ◌==◌, if◌then◌else◌, flat_map, Option, Some, None, ◌↔◌, ◌<◌, Bool, true, ◌&&◌, length, min, is_none, IsTrue}
+use Rattle.ga_picture.specs.declared.placing.PictureRow.{PictureRow}
+use Rattle.ga_picture.specs.declared.race_marks.RaceMark.{RaceMark}
+use Rattle.ga_picture.specs.declared.shade.Shade.{Shade}
+use Rattle.ga_picture.specs.declared.shade.Shade.TheVariants.{Black, Grey, Red}
+use Rattle.ga_picture.specs.Drawing.{shade_of, AreShades, IsDrawing, IsByItself, without_nodes, told_nodes}
 use Rattle.ga_grid.specs.declared.node_id.NodeId.{NodeId}
 use Rattle.ga_event.specs.declared.event.Cause.{Cause}
 use Rattle.ga_causal.specs.Dependence.{place_of}
+use Rattle.ga_race_detector.specs.declared.races.Race.{Race}
+use Rattle.ga_race_detector.specs.declared.readings.Reading.{Reading}
+use Rattle.ga_picture.specs.declared.race_marks.Otherwise.{Otherwise}
+use Rattle.ga_picture.specs.declared.race_marks.Otherwise.TheVariants.{Pass, Look}
+use Rattle.std.specs.List.{All}
 use Rattle.ga_node.specs.Record.{NodeRecord}
 use Rattle.ga_node.specs.Table.{refusal}
 use Rattle.ga_grid.specs.Chip.{record_at}
 use Rattle.ga_lab.specs.Machine.{State, chip_of, causes_of, stands}
 use Rattle.ga_search.specs.Idle.{MarksIdle}
-use Rattle.ga_race_detector.specs.declared.readings.Reading.{Reading}
 use Rattle.ga_race_detector.specs.Races.{races_asked}
 use Rattle.ga_race_detector.specs.Readings.{IsTold}
 use Rattle.ga_picture.specs.declared.view.View.{View}
-use Rattle.ga_picture.specs.declared.placing.PictureRow.{PictureRow}
 use Rattle.ga_picture.specs.declared.placing.Drawing.{Drawing}
-use Rattle.ga_picture.specs.declared.race_marks.RaceMark.{RaceMark}
-use Rattle.ga_picture.specs.declared.shade.Shade.{Shade}
 use Rattle.ga_picture.specs.declared.item.PictureItem.{PictureItem}
-use Rattle.ga_picture.specs.Drawing.{AreShades, IsDrawing}
 use Rattle.ga_picture.specs.Items.{Known, items_of}
-use Rattle.ga_picture.specs.ByItself.{IsByItself, without_nodes, told_nodes}
-use Rattle.ga_picture.specs.RaceMarks.{marks_of}
-use Rattle.ga_picture.specs.Svg.{IsSvg}
+
+-- ---- the text, as far as it is said of what it consists
+
+-- how a group of a colour begins
+abbrev pub class_of : Shade → List ℕ
+class_of Black = codes "<g class='k'>"
+class_of Grey = codes "<g class='g'>"
+class_of Red = codes "<g class='r'>"
+
+-- how that of a step begins that could have come out otherwise
+abbrev pub race_class : List ℕ
+race_class = codes "<g class='c'>"
+
+-- what is drawn of an event or of such a step is a group that begins so
+pub record IsGroup (class text : List ℕ) : Type 0 where
+  pub body : List ℕ
+  pub is : text ≡ class ++ (body ++ codes "</g>\n")
+
+-- one group for each, in their order
+abbrev pub AreGroups : List (List ℕ) → List ℕ → Type 0
+AreGroups [] text = text ≡ []
+AreGroups (class ∷ classes) text = (group : List ℕ) × (more : List ℕ) × IsGroup class group × AreGroups classes more × (text ≡ group ++ more)
+
+-- those of rows, and those of marks
+abbrev pub classes_in : List PictureRow → List (List ℕ)
+classes_in rows = map (λ (row : PictureRow). class_of (shade_of row.shape)) rows
+
+abbrev pub race_classes : List RaceMark → List (List ℕ)
+race_classes marks = map (λ (mark : RaceMark). race_class) marks
+
+-- a head, the groups of the rows, those of the marks, and a foot
+pub record IsSvg (rows : List PictureRow) (marks : List RaceMark) (text : List ℕ) : Type 0 where
+  pub head : List ℕ
+  pub groups : List ℕ
+  pub races : List ℕ
+  pub drawn : AreGroups (classes_in rows) groups
+  pub raced : AreGroups (race_classes marks) races
+  pub is : text ≡ head ++ (groups ++ (races ++ codes "</svg>\n"))
+
+-- ---- the marks of steps that could have come out otherwise
+
+-- the step that could have come out otherwise
+abbrev pub step_of : Otherwise → NodeId × ℕ
+step_of (Pass race) = (race.reader, race.step)
+step_of (Look reading) = (reading.node, reading.step)
+
+-- the index of the row of the event at a place, where it has one; so many of the oldest events are left out, and so many rows stand before
+abbrev pub row_from : List PictureRow → ℕ → ℕ → ℕ → Option ℕ
+row_from [] start place before = None
+row_from (row ∷ rows) start place before = if row.place + start == place then Some before else row_from rows start place (before + 1)
+
+-- a mark at a row
+abbrev pub mark_at : Otherwise → Option ℕ → List RaceMark
+mark_at what None = []
+mark_at what (Some row) = record { row = row; what = what } ∷ []
+
+-- at that of the event at a place
+abbrev pub mark_in : List PictureRow → ℕ → Otherwise → Option ℕ → List RaceMark
+mark_in rows start what None = []
+mark_in rows start what (Some place) = mark_at what (row_from rows start place 0)
+
+-- at that of its event
+abbrev pub mark_of_race : List Cause → ℕ → List PictureRow → Otherwise → List RaceMark
+mark_of_race events start rows what = mark_in rows start what (place_of events (step_of what).0.number (step_of what).1)
+
+abbrev pub marks_of_passes : List Cause → ℕ → List PictureRow → List Race → List RaceMark
+marks_of_passes events start rows races = flat_map (λ (race : Race). mark_of_race events start rows (Pass race)) races
+
+abbrev pub marks_of_looks : List Cause → ℕ → List PictureRow → List Reading → List RaceMark
+marks_of_looks events start rows readings = flat_map (λ (reading : Reading). mark_of_race events start rows (Look reading)) readings
+
+-- one for each pass and each look that could have come out otherwise, and whose event has a row
+abbrev pub marks_of : List Cause → ℕ → List PictureRow → List Race → List Reading → List RaceMark
+marks_of events start rows races readings = marks_of_passes events start rows races ++ marks_of_looks events start rows readings
+
+-- ---- what a picture shows of a machine's kept events
 
 -- the step stands, where one is given
 abbrev pub stands_for : State → Option (NodeId × ℕ) → Bool

@@ -1,11 +1,11 @@
 -- What only private contracts and proofs name.
-use Rattle.std.specs.Prelude.{◌≡◌, ℕ, ◌<◌, ◌≤◌, Bool, true, ◌&&◌, not, List, length, slice_index, ◌⊎◌, false, [], Result, Ok, Err, ◌↔◌, map, Option, IsTrue, Some, slice_get, if◌then◌else◌, slice_index_or, ◌++◌}
+use Rattle.std.specs.Prelude.{◌≡◌, ℕ, ◌<◌, ◌≤◌, ◌^◌, Bool, true, ◌&&◌, not, List, length, slice_index, ◌⊎◌, false, [], Result, Ok, Err, ◌↔◌, map, Option, IsTrue, Some, slice_get, if◌then◌else◌, slice_index_or, ◌++◌}
 use Rattle.std.specs.List.{list_any}
 use Rattle.ga_event.specs.Touches.{neighbours}
 use Rattle.ga_causal.specs.Dependence.{cause_touches, is_a_pass, is_marked}
 use Rattle.ga_picture.specs.declared.item.PictureItem.{PictureItem}
 use Rattle.ga_picture.specs.declared.by_itself.Tally.{Tally}
-use Rattle.ga_picture.specs.ByItself.{steps_made, IsByItself, without_nodes, told_nodes}
+use Rattle.ga_picture.specs.Drawing.{steps_made, IsByItself, without_nodes, told_nodes}
 use Rattle.ga_text.specs.Lines.{Bytes, Text, Line}
 use Rattle.ga_explorer.specs.Opening.{Exploring}
 use Rattle.ga_lab.specs.declared.fault.LabFault.TheVariants.{Memory}
@@ -23,14 +23,12 @@ use Rattle.ga_picture.specs.declared.item.Facts.{Facts}
 use Rattle.ga_picture.specs.declared.shade.Shade.{Shade}
 use Rattle.ga_picture.specs.declared.view.View.{View}
 use Rattle.ga_picture.specs.Drawing.{AreShades, IsLineOf}
-use Rattle.ga_picture.specs.Items.{Known}
-use Rattle.ga_picture.specs.Picture.{place_for, items_in}
+use Rattle.ga_picture.specs.Items.{Known, is_plain_at, is_same_run}
+use Rattle.ga_picture.specs.Picture.{place_for, items_in, AreGroups, classes_in}
 use Rattle.ga_grid.specs.declared.node_id.NodeId.{NodeId}
 use Rattle.ga_picture.specs.declared.shade.Shade.TheVariants.{Black}
 use Rattle.ga_picture.specs.declared.runs.Runs.{Runs}
-use Rattle.ga_picture.specs.Runs.{is_same_run}
 use Rattle.ga_picture.specs.declared.placing.PictureRow.{PictureRow}
-use Rattle.ga_picture.specs.Svg.{AreGroups, classes_in}
 
 -- ---- what the events of each node are like, as the code keeps it
 
@@ -116,6 +114,19 @@ known_by events shades ready idle cause rewind =
 
 abbrev pub known_in : Facts → (ℕ → Bool) → Known
 known_in facts ready = known_by facts.events.now facts.shades.now ready (is_marked facts.idle.now) facts.cause facts.rewind
+
+-- There are few events, each with its colour and whether it is plain; the one place is not behind the other, and this not past them all.
+pub record AreKnownBetween (facts : Facts) (from to : ℕ) : Type 0 where
+  pub order : from ≤ to
+  pub within : to ≤ length facts.events.now
+  pub few : length facts.events.now < 2 ^ 32
+  pub shades : length facts.shades.now ≡ length facts.events.now
+  pub plain : length facts.plain.now ≡ length facts.events.now
+
+-- those are plain that are so where these nodes are ready behind the events
+abbrev pub ArePlainAs : (ℕ → Bool) → Facts → Type 0
+ArePlainAs ready facts =
+    (place : ℕ) → place < length facts.events.now → slice_index_or facts.plain.now place false ≡ is_plain_at ready facts.events.now place
 
 -- what is drawn of events that are looked at, and which nodes are told at the foot
 pub record AreListed (looked items : List PictureItem) (told : List ByItself) : Type 0 where

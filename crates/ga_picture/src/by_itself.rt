@@ -1,14 +1,14 @@
 //! Nodes that work by themselves, which a picture leaves out.
 
-ghost use Rattle.std.specs.Prelude.{◌≡◌, ◌↔◌, ◌≤◌, ◌<◌, ◌+◌, ◌^◌, ◌&&◌, ◌||◌, not, ◌++◌, ◌∷◌, [], ℕ, Bool, List, true, false, length, slice_index, slice_index_or, slice_set, IsTrue, IfOk};
+ghost use Rattle.std.specs.Prelude.{◌≡◌, ◌↔◌, ◌<◌, ◌+◌, ◌&&◌, ◌||◌, not, ◌++◌, ◌∷◌, [], ℕ, Bool, List, true, false, length, slice_index, slice_set, IsTrue, IfOk};
 ghost use Rattle.std.specs.List.{All, list_any};
 ghost use Rattle.ga_grid.specs.Grid.{neighbour_of};
 ghost use Rattle.ga_event.specs.Touches.{neighbours};
 ghost use Rattle.ga_causal.specs.Dependence.{cause_touches, is_marked};
 ghost use Rattle.ga_causal.specs.kept.{any_of};
-ghost use Rattle.ga_picture.specs.Items.{actor, is_plain_at, items_of};
-ghost use Rattle.ga_picture.specs.ByItself.{IsByItself, told_nodes};
-ghost use Rattle.ga_picture.specs.kept.{known_in, AreTallied, HasFew, HasJoined, IsHeld, is_look, is_loose_by, works_loose, works_joined};
+ghost use Rattle.ga_picture.specs.Items.{actor, items_of};
+ghost use Rattle.ga_picture.specs.Drawing.{IsByItself, told_nodes};
+ghost use Rattle.ga_picture.specs.kept.{AreKnownBetween, ArePlainAs, known_in, AreTallied, HasFew, HasJoined, IsHeld, is_look, is_loose_by, works_loose, works_joined};
 
 use crate::item::{Facts, PictureItem, actor, is_pass, item_at};
 use crate::view::View;
@@ -41,14 +41,8 @@ pub(crate) struct Tally {
 
 /// What the events from one place on and up to another are like.
 pub(crate) fn tally_of(facts: Facts<'_>, view: View, from: usize, to: usize) -> Tally
-    requires order { from ≤ to }
-    requires within { to ≤ length facts.events.now }
-    requires few { length facts.events.now < 2 ^ 32 }
-    requires shades { length facts.shades.now ≡ length facts.events.now }
-    requires plain { length facts.plain.now ≡ length facts.events.now }
-    ensures { (ready : ℕ → Bool) →
-        ((place : ℕ) → place < length facts.entry.events.now →
-        slice_index_or facts.entry.plain.now place false ≡ is_plain_at ready facts.entry.events.now place) →
+    requires { AreKnownBetween facts from to }
+    ensures { (ready : ℕ → Bool) → ArePlainAs ready facts.entry →
         AreTallied (items_of (known_in facts.entry ready) view from to) result }
 {
     let mut tally = Tally::new();

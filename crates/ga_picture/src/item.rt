@@ -1,11 +1,11 @@
 //! The kept events as a picture takes them.
 
-ghost use Rattle.std.specs.Prelude.{◌≡◌, ◌≤◌, ◌<◌, ◌&&◌, ◌||◌, not, ℕ, Bool, false, length, map, is_some, slice_index_or, IfOk};
+ghost use Rattle.std.specs.Prelude.{◌≡◌, ◌≤◌, ◌<◌, ◌&&◌, ◌||◌, not, ℕ, Bool, false, length, map, is_some, slice_index_or, IfOk, if◌then◌else◌};
 ghost use Rattle.ga_event.specs.Apply.{is_number};
-ghost use Rattle.ga_causal.specs.Dependence.{is_marked, is_a_pass};
-ghost use Rattle.ga_picture.specs.Items.{actor, is_plain_at, is_asked_step, is_asked_shade, is_narrow, is_left_out, holds_node, item_of, item_at, items_of};
-ghost use Rattle.ga_picture.specs.ByItself.{without_nodes};
-ghost use Rattle.ga_picture.specs.kept.{known_in};
+ghost use Rattle.ga_causal.specs.Dependence.{is_marked, is_a_pass, cause_touches};
+ghost use Rattle.ga_picture.specs.Items.{actor, is_plain_at, is_asked_step, is_asked_shade, is_narrow, is_left_out, holds_node, item_of, item_at, items_of, is_plain};
+ghost use Rattle.ga_picture.specs.Drawing.{without_nodes};
+ghost use Rattle.ga_picture.specs.kept.{ArePlainAs, known_in};
 
 use crate::shade::Shade;
 use crate::view::View;
@@ -58,9 +58,7 @@ pub(crate) fn items(
     requires within { to ≤ length facts.events.now }
     requires shades { length facts.shades.now ≡ length facts.events.now }
     requires plain { length facts.plain.now ≡ length facts.events.now }
-    ensures { (ready : ℕ → Bool) →
-        ((place : ℕ) → place < length facts.entry.events.now →
-        slice_index_or facts.entry.plain.now place false ≡ is_plain_at ready facts.entry.events.now place) →
+    ensures { (ready : ℕ → Bool) → ArePlainAs ready facts.entry →
         IfOk result (λ items. items.items ≡ map (without_nodes (is_marked alone.now)) (items_of (known_in facts.entry ready) view from to)) }
 {
     let mut items = Vec::with_capacity(alloc, to - from)?;
@@ -199,5 +197,50 @@ pub(crate) fn actor(event: Event) -> NodeId
     match event {
         Event::Own(node) => node,
         Event::Pass { writer, .. } => writer,
+    }
+}
+
+/// Of each event, whether it is a fetch or an opcode that doesn't look: an own event, behind which its node runs. So its next event
+/// is one of its own; or there is none, and the node is ready.
+pub(crate) fn plain_events(
+    alloc: Global,
+    events: &[Cause],
+    ready: [bool; 144],
+) -> Result<Vec<bool>, Memory>
+    ensures size { IfOk result (λ flags. length flags.items ≡ length events.now) }
+    ensures exact { IfOk result (λ flags. (place : ℕ) → place < length events.now →
+        slice_index_or flags.items place false ≡ is_plain_at (is_marked ready) events.now place) }
+{
+    let mut runs = ready;
+    let mut flags = vec![in alloc; false; events.len()]?;
+    'events: for back in 0..events.len() {
+        let at = events.len() - 1 - back;
+        let event = events[at];
+        flags[at] = is_plain(event, &runs);
+        go_back(&mut runs, event);
+    }
+    Ok(flags)
+}
+
+/// Whether it is an own event without a look, of a node that runs behind it.
+fn is_plain(event: Cause, runs: &[bool; 144]) -> bool
+    ensures { result ≡ is_plain (is_marked runs.now) event }
+{
+    match event.event {
+        Event::Own(node) => !event.look && runs[node.index()],
+        Event::Pass { .. } => false,
+    }
+}
+
+/// Which nodes ran before an event: that of an own event, and none of a pass.
+fn go_back(runs: &mut [bool; 144], event: Cause)
+    ensures { (n : ℕ) → is_marked runs.new n ≡ (if cause_touches event n then not (is_a_pass event.event) else is_marked runs.old n) }
+{
+    match event.event {
+        Event::Own(node) => runs[node.index()] = true,
+        Event::Pass { writer, reader, .. } => {
+            runs[writer.index()] = false;
+            runs[reader.index()] = false;
+        }
     }
 }

@@ -3,34 +3,27 @@
 //! picture.
 #![tactic(auto)]
 
-mod before;
 mod by_itself;
 mod follow;
 mod item;
 mod lines;
 mod marks;
 mod placing;
-mod plain;
 mod race_marks;
-mod race_text;
-mod reports;
 mod run;
 mod runs;
 mod shade;
 mod silent;
 mod text;
-mod touched;
-mod tracks;
 mod view;
 
-pub use before::grounds;
 pub use by_itself::ByItself;
 pub use follow::follow_session;
 pub use item::PictureItem;
 pub use placing::{Drawing, PictureRow, Shape, layout};
 pub use race_marks::{Otherwise, RaceMark};
 pub use run::draw_session;
-pub use shade::{Shade, shades};
+pub use shade::{Shade, grounds, shades};
 pub use silent::Silent;
 pub use text::svg;
 pub use view::{Step, View, draw, picture};

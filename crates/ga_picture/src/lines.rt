@@ -1,9 +1,12 @@
-//! The lines of the nodes.
+//! The lines of the nodes, and which nodes are to have one.
 
-ghost use Rattle.std.specs.Prelude.{IfOk};
-ghost use Rattle.ga_causal.specs.Dependence.{is_marked};
+ghost use Rattle.std.specs.Prelude.{IfOk, ◌≡◌, ◌<◌, ℕ, true, false, length};
+ghost use Rattle.ga_causal.specs.Dependence.{is_marked, cause_touches};
 ghost use Rattle.ga_picture.specs.kept.{AreLines};
+ghost use Rattle.ga_picture.specs.Drawing.{IsTouched};
+ghost use Rattle.ga_picture.specs.Items.{at_place};
 
+use crate::item::PictureItem;
 use ga_causal::{Memory, Nodes};
 use ga_grid::{NODES, NodeId};
 use std::alloc::Global;
@@ -29,4 +32,19 @@ pub(crate) fn lines_of(alloc: Global, used: &Nodes) -> Result<Lines, Memory>
         }
     }
     Ok(Lines { nodes, columns })
+}
+
+/// The nodes that the events touch that are not left out.
+pub(crate) fn touched_by(items: &[PictureItem]) -> Nodes
+    ensures needed { (n : ℕ) → is_marked result n ≡ true → IsTouched items.now n }
+    ensures all { (n place : ℕ) → place < length items.now → (at_place items.now place).out ≡ false →
+        cause_touches (at_place items.now place).cause n ≡ true → is_marked result n ≡ true }
+{
+    let mut touched = Nodes::none();
+    'items: for item in items {
+        if !item.out {
+            touched.add_touched(&item.cause);
+        }
+    }
+    touched
 }

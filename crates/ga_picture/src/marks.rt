@@ -46,7 +46,7 @@ fn push_own(
     let (x, y) = at;
     match made {
         Some(Made::Own { node, step, kind }) => {
-            push_own_title(text, *node, *step, *kind)?;
+            push_own_title(text, made, *kind)?;
             if look {
                 push_looks(text, drawing, x, y, *node)?;
             }
@@ -104,19 +104,13 @@ fn push_pass(
     match made {
         Some(
             Made::Pass {
-                writer,
                 writer_step,
-                reader,
                 reader_step,
                 word,
+                ..
             },
         ) => {
-            push_pass_title(
-                text,
-                (*writer, *writer_step),
-                (*reader, *reader_step),
-                *word,
-            )?;
+            push_title(text, made)?;
             push_arrow(text, from, to, y)?;
             push_word(text, from / 2 + to / 2, y, *word)?;
             if from < to {
@@ -140,38 +134,22 @@ fn word_of(kind: Kind) -> &'static str {
 }
 
 /// Adds the text of an own event as a session tells it, with the opcode's name.
-fn push_own_title(
-    text: &mut String,
-    node: NodeId,
-    step: u32,
-    kind: Kind,
-) -> Result<(), AllocError> {
-    let name = node.yxx();
-    let word = word_of(kind);
-    match kind {
-        Kind::Run(code) => write!(
-            text,
-            "<title>{name:03} {step} run {code:02x} {word}</title>"
-        ),
-        Kind::Stop(number) => write!(text, "<title>{name:03} {step} stop {number}</title>"),
-        _ => write!(text, "<title>{name:03} {step} {word}</title>"),
+fn push_own_title(text: &mut String, made: Option<&Made>, kind: Kind) -> Result<(), AllocError> {
+    match (made, kind) {
+        (Some(made), Kind::Run(_)) => {
+            let word = word_of(kind);
+            write!(text, "<title>{made} {word}</title>")
+        }
+        _ => push_title(text, made),
     }
 }
 
-/// Adds the text of a pass as a session tells it.
-fn push_pass_title(
-    text: &mut String,
-    writer: (NodeId, u32),
-    reader: (NodeId, u32),
-    word: Word18,
-) -> Result<(), AllocError> {
-    let (from, to) = (writer.0.yxx(), reader.0.yxx());
-    let (writer_step, reader_step) = (writer.1, reader.1);
-    let word = word.get();
-    write!(
-        text,
-        "<title>pass {from:03} {writer_step} {to:03} {reader_step} {word:06x}</title>"
-    )
+/// Adds the text of an event as a session tells it.
+fn push_title(text: &mut String, made: Option<&Made>) -> Result<(), AllocError> {
+    match made {
+        Some(made) => write!(text, "<title>{made}</title>"),
+        None => Ok(()),
+    }
 }
 
 /// Adds the mark of an own event: a ring for a fetch, a dot for an opcode, a bar for a wait, a cross for a stop.

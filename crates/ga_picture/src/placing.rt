@@ -4,15 +4,14 @@ ghost use Rattle.std.specs.Prelude.{◌==◌, ◌&&◌, ◌||◌, not, ◌≡◌
 ghost use Rattle.std.specs.List.{All};
 ghost use Rattle.ga_grid.specs.declared.node_id.NodeId.{NodeId};
 ghost use Rattle.ga_picture.specs.Drawing.{IsDrawing, IsShape, IsLineOf, shade_of, steps_drawn};
-ghost use Rattle.ga_picture.specs.Runs.{drawn_with, IsSimple};
+ghost use Rattle.ga_picture.specs.Items.{drawn_with, IsSimple};
 ghost use Rattle.ga_causal.specs.Dependence.{cause_touches, is_a_pass};
 
 use crate::by_itself::ByItself;
 use crate::item::{PictureItem, actor};
-use crate::lines::{Lines, lines_of};
+use crate::lines::{Lines, lines_of, touched_by};
 use crate::runs::{Runs, runs_behind};
 use crate::shade::Shade;
-use crate::touched::touched_by;
 use ga_causal::Memory;
 use ga_event::Event;
 use ga_grid::NodeId;

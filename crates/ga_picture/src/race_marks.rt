@@ -1,13 +1,15 @@
-//! Marks of the steps that could have come out otherwise.
+//! Marks of the steps that could have come out otherwise, and what stands in their groups.
 
-ghost use Rattle.std.specs.Prelude.{◌≡◌, ◌+◌, ◌==◌, ◌++◌, ◌<◌, ◌^◌, length, flat_map, IfOk, OnOk};
-ghost use Rattle.ga_picture.specs.RaceMarks.{step_of, row_from, mark_at, mark_of_race, marks_of, marks_of_passes, marks_of_looks};
+ghost use Rattle.std.specs.Prelude.{◌≡◌, ◌+◌, ◌==◌, ◌++◌, ◌<◌, ◌^◌, length, IfOk, OnOk};
+ghost use Rattle.ga_picture.specs.Picture.{step_of, row_from, mark_at, mark_of_race, marks_of};
 
-use crate::placing::PictureRow;
+use crate::placing::{Drawing, PictureRow, Shape};
+use crate::text::{x_of, y_of};
 use ga_causal::{Cause, Memory, place_of};
 use ga_grid::NodeId;
 use ga_race_detector::{Race, Reading};
-use std::alloc::Global;
+use ga_word::Word18;
+use std::alloc::{AllocError, Global};
 
 /// A step that could have come out otherwise.
 #[derive(Clone, Copy, PartialEq, Eq)]
@@ -36,6 +38,7 @@ pub(crate) struct Shown<'k> {
 }
 
 /// A mark for each of these passes and looks whose event has a row.
+#[tactic(auto, using(crate::proofs::Laid::marked_next, crate::proofs::Laid::marked_all))]
 pub(crate) fn marks_of(
     alloc: Global,
     shown: Shown<'_>,
@@ -46,38 +49,13 @@ pub(crate) fn marks_of(
     ensures { IfOk result (λ marks. marks.items ≡ marks_of shown.entry.events.now shown.entry.start shown.entry.rows.now races.now readings.now) }
 {
     let mut marks = Vec::new(alloc);
-    add_passes(&mut marks, shown, races)?;
-    add_looks(&mut marks, shown, readings)?;
-    Ok(marks)
-}
-
-/// Adds the marks of passes.
-#[tactic(auto, using(crate::proofs::RaceMarked::marked_next, crate::proofs::RaceMarked::marked_all))]
-fn add_passes(marks: &mut Vec<RaceMark>, shown: Shown<'_>, races: &[Race]) -> Result<(), Memory>
-    requires { length shown.events.now < 2 ^ 32 }
-    ensures { OnOk result (marks.new.items ≡ marks.old.items
-        ++ marks_of_passes shown.entry.events.now shown.entry.start shown.entry.rows.now races.now) }
-{
     'races: for race in races {
-        add(marks, shown, Otherwise::Pass(*race))?;
+        add(&mut marks, shown, Otherwise::Pass(*race))?;
     }
-    Ok(())
-}
-
-/// Adds the marks of looks.
-fn add_looks(
-    marks: &mut Vec<RaceMark>,
-    shown: Shown<'_>,
-    readings: &[Reading],
-) -> Result<(), Memory>
-    requires { length shown.events.now < 2 ^ 32 }
-    ensures { OnOk result (marks.new.items ≡ marks.old.items
-        ++ marks_of_looks shown.entry.events.now shown.entry.start shown.entry.rows.now readings.now) }
-{
     'readings: for reading in readings {
-        add(marks, shown, Otherwise::Look(*reading))?;
+        add(&mut marks, shown, Otherwise::Look(*reading))?;
     }
-    Ok(())
+    Ok(marks)
 }
 
 /// Adds the mark of a step, where its event has a row.
@@ -114,7 +92,7 @@ fn step_of(what: &Otherwise) -> (NodeId, u32)
 }
 
 /// The index of the row of the event at a place, where it has one.
-#[tactic(auto, using(crate::proofs::RaceMarked::row_next, crate::proofs::RaceMarked::row_none))]
+#[tactic(auto, using(crate::proofs::Laid::row_next, crate::proofs::Laid::row_none))]
 fn row_of(rows: &[PictureRow], start: u32, place: u32) -> Option<usize>
     ensures { result ≡ row_from rows.now start place 0 }
 {
@@ -132,4 +110,121 @@ fn is_at(row: PictureRow, start: u32, place: u32) -> bool
     ensures { result ≡ (row.place + start == place) }
 {
     u64::from(row.place) + u64::from(start) == u64::from(place)
+}
+
+/// How far from a ring the other word stands, and how far the one behind it.
+const NEXT: u32 = 9;
+
+const BEHIND: u32 = 66;
+
+/// Adds a ring round such a step, with its title and the other word.
+pub(crate) fn push_race(
+    text: &mut String,
+    drawing: &Drawing,
+    mark: &RaceMark,
+) -> Result<(), AllocError> {
+    let Some(row) = drawing.rows.get(mark.row) else {
+        return Ok(());
+    };
+    let at = (line_of(row), y_of(mark.row));
+    push_title(text, &mark.what)?;
+    push_ring(text, at)?;
+    push_label(text, at, &mark.what)
+}
+
+/// Adds what `races` tells of it.
+fn push_title(text: &mut String, what: &Otherwise) -> Result<(), AllocError> {
+    match what {
+        Otherwise::Pass(race) => push_pass_title(text, race),
+        Otherwise::Look(reading) => push_look_title(text, reading),
+    }
+}
+
+/// Adds the other word.
+fn push_label(text: &mut String, at: (u32, u64), what: &Otherwise) -> Result<(), AllocError> {
+    match what {
+        Otherwise::Pass(race) => push_word(text, at, race.reader, race.other, race.offered),
+        Otherwise::Look(reading) => {
+            push_word(text, at, reading.node, reading.neighbour, reading.other)
+        }
+    }
+}
+
+/// Where the node of such a step stands from the left: a pass is the reader's.
+fn line_of(row: &PictureRow) -> u32 {
+    match row.shape {
+        Shape::Mark { line, .. } => x_of(line),
+        Shape::Arrow { to, .. } => x_of(to),
+    }
+}
+
+/// Adds a ring.
+fn push_ring(text: &mut String, at: (u32, u64)) -> Result<(), AllocError> {
+    let (x, y) = at;
+    write!(text, "<circle cx='{x}' cy='{y}' r='7'/>")
+}
+
+/// Adds another word below the ring, left or right of it by the names of the node and the neighbour on whom it hangs: next to it
+/// for one in the same row of the chip, behind that for one in another.
+fn push_word(
+    text: &mut String,
+    at: (u32, u64),
+    node: NodeId,
+    neighbour: NodeId,
+    word: Word18,
+) -> Result<(), AllocError> {
+    let (x, y) = at;
+    let (base, word) = (y.saturating_add(12), word.get());
+    let apart = if node.number / 18 == neighbour.number / 18 {
+        NEXT
+    } else {
+        BEHIND
+    };
+    if neighbour.number < node.number {
+        let end = x.saturating_sub(apart);
+        write!(
+            text,
+            "<text class='e' x='{end}' y='{base}'>or {word:06x}</text>"
+        )
+    } else {
+        let start = x.saturating_add(apart);
+        write!(text, "<text x='{start}' y='{base}'>or {word:06x}</text>")
+    }
+}
+
+/// Adds a step, as the title tells it.
+fn push_step(text: &mut String, node: NodeId, step: u32) -> Result<(), AllocError> {
+    let name = node.yxx();
+    write!(text, "{name:03} {step}")
+}
+
+/// Adds what `races` tells of a pass.
+fn push_pass_title(text: &mut String, race: &Race) -> Result<(), AllocError> {
+    let (writer, other) = (race.writer.yxx(), race.other.yxx());
+    let (word, offered) = (race.word.get(), race.offered.get());
+    text.push_str("<title>")?;
+    push_step(text, race.reader, race.step)?;
+    write!(
+        text,
+        " takes {word:06x} from {writer:03}, or {offered:06x} from {other:03}: rewind "
+    )?;
+    push_step(text, race.reader, race.step)?;
+    write!(text, ", step {other:03}</title>")
+}
+
+/// Adds what `races` tells of a look.
+fn push_look_title(text: &mut String, reading: &Reading) -> Result<(), AllocError> {
+    let (word, other, name) = (reading.word.get(), reading.other.get(), reading.node.yxx());
+    text.push_str("<title>")?;
+    push_step(text, reading.node, reading.step)?;
+    write!(text, " reads {word:06x}, or {other:06x} ")?;
+    text.push_str(if reading.early { "behind " } else { "before " })?;
+    push_step(text, reading.neighbour, reading.change)?;
+    text.push_str(": rewind ")?;
+    if reading.early {
+        push_step(text, reading.node, reading.step)?;
+    } else {
+        push_step(text, reading.neighbour, reading.change)?;
+    }
+    write!(text, ", step {name:03}</title>")
 }

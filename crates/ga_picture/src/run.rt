@@ -2,7 +2,7 @@
 ghost use Rattle.ga_text.specs.Output.{WritesText, ReadsAndWrites};
 ghost use Rattle.std.specs.Prelude.{◌≡◌, ◌++◌, Some};
 ghost use Rattle.ga_text.specs.Lines.{Bytes};
-ghost use Rattle.ga_picture.specs.Drawn.{Draws, Pictures, IsOut};
+ghost use Rattle.ga_picture.specs.Following.{Draws, Pictures, IsOut};
 
 use super::follow::{decline, follow_session};
 use super::view::{View, picture};

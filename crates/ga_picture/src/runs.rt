@@ -4,7 +4,7 @@ ghost use Rattle.std.specs.Prelude.{◌≡◌, ◌≤◌, ◌<◌, ◌+◌, ◌^
 ghost use Rattle.std.specs.List.{All};
 ghost use Rattle.ga_causal.specs.Equivalence.{sees};
 ghost use Rattle.ga_picture.specs.declared.shade.Shade.{Shade};
-ghost use Rattle.ga_picture.specs.Runs.{run_with, behind_at, is_same_run, IsSimple};
+ghost use Rattle.ga_picture.specs.Items.{run_with, behind_at, is_same_run, IsSimple};
 ghost use Rattle.ga_picture.specs.kept.{count_in, HasNodes, AreWithin};
 
 use crate::item::{PictureItem, actor};

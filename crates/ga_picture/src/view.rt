@@ -7,21 +7,20 @@ ghost use Rattle.ga_causal.specs.Dependence.{is_marked};
 ghost use Rattle.ga_lab.specs.Machine.{causes_of};
 ghost use Rattle.ga_race_detector.specs.Races.{races_asked};
 ghost use Rattle.ga_race_detector.specs.Readings.{IsTold};
-ghost use Rattle.ga_picture.specs.Picture.{IsPicture, IsPictureOf, IsPictureText, AreRaceMarks, is_ready, all_stand, stands_for, place_for};
-ghost use Rattle.ga_picture.specs.Items.{is_plain_at, items_of};
-ghost use Rattle.ga_picture.specs.kept.{AreItemsOf, AreListed, known_in};
+ghost use Rattle.ga_picture.specs.Picture.{IsPicture, IsPictureText, AreRaceMarks, is_ready, all_stand, stands_for, place_for};
+ghost use Rattle.ga_picture.specs.Items.{items_of};
+ghost use Rattle.ga_picture.specs.kept.{AreItemsOf, AreKnownBetween, AreListed, ArePlainAs, known_in};
 
 use crate::by_itself::{ByItself, tally_of};
-use crate::item::{Facts, PictureItem, items};
+use crate::item::{Facts, PictureItem, items, plain_events};
 use crate::placing::{Drawing, PictureRow, layout};
-use crate::plain::plain_events;
 use crate::race_marks::{RaceMark, Shown, marks_of};
-use crate::reports::reports;
 use crate::shade::shades;
 use crate::text::svg;
 use ga_causal::{Cause, Memory, place_of};
-use ga_grid::{Chip, NodeId};
-use ga_lab::{Lab, LabFault};
+use ga_event::Event;
+use ga_grid::{Chip, NODES, NodeId};
+use ga_lab::{Lab, LabFault, Made};
 use ga_race_detector::{Races, find_races};
 use ga_search::find_idle;
 use std::alloc::Global;
@@ -109,9 +108,11 @@ fn drawn(lab: &Lab, view: View) -> Result<Drawing, Memory>
     ensures { IfOk result (λ drawing. IsPicture lab.now view drawing) }
 {
     let causes = kept_causes(lab)?;
+    let alloc = *causes.allocator();
     let idle = find_idle(lab);
     let ready = ready_nodes(lab.chip());
-    drawn_of(*causes.allocator(), causes.as_slice(), &idle, ready, view)
+    let Listed { items, by_itself } = items_of(alloc, causes.as_slice(), &idle, ready, view)?;
+    layout(alloc, items.as_slice(), by_itself, view.fold)
 }
 
 /// The kept events, so few that a place has room in 32 bits.
@@ -193,21 +194,6 @@ fn found_races(alloc: Global, lab: &mut Lab) -> Result<Races, Memory>
     }
 }
 
-/// The picture of these events, with the idle nodes, and those that neither wait nor are stopped.
-fn drawn_of(
-    alloc: Global,
-    events: &[Cause],
-    idle: &[bool; 144],
-    ready: [bool; 144],
-    view: View,
-) -> Result<Drawing, Memory>
-    requires { length events.now < 2 ^ 32 }
-    ensures { IfOk result (λ drawing. IsPictureOf events.now (is_marked ready) (is_marked idle.now) view drawing) }
-{
-    let Listed { items, by_itself } = items_of(alloc, events, idle, ready, view)?;
-    layout(alloc, items.as_slice(), by_itself, view.fold)
-}
-
 /// Events as the picture takes them, and the nodes that are left out, since they work by themselves.
 #[derive(Drop)]
 struct Listed {
@@ -250,14 +236,8 @@ fn listed_between(
     from: usize,
     to: usize,
 ) -> Result<Listed, Memory>
-    requires order { from ≤ to }
-    requires within { to ≤ length facts.events.now }
-    requires few { length facts.events.now < 2 ^ 32 }
-    requires shades { length facts.shades.now ≡ length facts.events.now }
-    requires plain { length facts.plain.now ≡ length facts.events.now }
-    ensures { (ready : ℕ → Bool) →
-        ((place : ℕ) → place < length facts.entry.events.now →
-        slice_index_or facts.entry.plain.now place false ≡ is_plain_at ready facts.entry.events.now place) →
+    requires { AreKnownBetween facts from to }
+    ensures { (ready : ℕ → Bool) → ArePlainAs ready facts.entry →
         IfOk result (λ listed. AreListed (items_of (known_in facts.entry ready) view from to) listed.items.items listed.by_itself.items) }
 {
     let tally = tally_of(facts, view, from, to);
@@ -288,4 +268,60 @@ fn place(events: &[Cause], step: Option<Step>) -> Option<u32>
         Some((node, number)) => place_of(events, node, number),
         None => None,
     }
+}
+
+/// What is told of the kept events from one place on, in order: each report is the next one of the node that made the event,
+/// a pass's of its writer. Ends at an event without a report.
+///
+/// # Errors
+/// `Memory` alone.
+fn reports(
+    alloc: Global,
+    lab: &Lab,
+    events: &[Cause],
+    from: usize,
+    to: usize,
+) -> Result<Vec<Made>, LabFault> {
+    let mut told = Vec::new(alloc);
+    for number in 0..NODES as u8 {
+        let history = lab.history(NodeId::new(number))?;
+        if told.push(history).is_err() {
+            return Err(LabFault::Memory);
+        }
+    }
+    let mut steps = [0u32; NODES];
+    let mut reports = Vec::new(alloc);
+    for (place, event) in events.iter().take(to).enumerate() {
+        let (node, step) = next_step(&mut steps, event.event);
+        if place >= from {
+            let Some(history) = told.get(node.index()) else {
+                return Ok(reports);
+            };
+            let Some(made) = history.get(step as usize) else {
+                return Ok(reports);
+            };
+            if reports.push(*made).is_err() {
+                return Err(LabFault::Memory);
+            }
+        }
+    }
+    Ok(reports)
+}
+
+/// Counts the steps of an event, and tells whose it is, a pass's of its writer, and how many that node had before.
+fn next_step(steps: &mut [u32; 144], event: Event) -> (NodeId, u32) {
+    match event {
+        Event::Own(node) => (node, count(steps, node)),
+        Event::Pass { writer, reader, .. } => {
+            count(steps, reader);
+            (writer, count(steps, writer))
+        }
+    }
+}
+
+/// Counts a step of a node, and tells how many it had before.
+fn count(steps: &mut [u32; 144], node: NodeId) -> u32 {
+    let before = steps[node.index()];
+    steps[node.index()] = before.saturating_add(1);
+    before
 }

@@ -5,7 +5,7 @@ use Rattle.std.proofs.lemmas.List.FromFn.{map-range_with_len_more}
 use Rattle.ga_causal.specs.Dependence.{is_marked}
 use Rattle.ga_picture.specs.declared.item.PictureItem.{PictureItem}
 use Rattle.ga_picture.specs.Items.{item_at}
-use Rattle.ga_picture.specs.ByItself.{without_nodes}
+use Rattle.ga_picture.specs.Drawing.{without_nodes}
 use Rattle.ga_picture.specs.kept.{known_in}
 use Rattle.ga_picture.proofs.item.items.Goals as goal
 

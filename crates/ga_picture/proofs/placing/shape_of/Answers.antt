@@ -1,5 +1,5 @@
 use Rattle.std.proofs.Common.{refl}
-use Rattle.ga_picture.proofs.Touching.{mark_drawn, arrow_drawn}
+use Rattle.ga_picture.proofs.Listed.{mark_drawn, arrow_drawn}
 use Rattle.ga_picture.proofs.placing.shape_of.Goals as goal
 
 pub returns-in-Own-clause-drawn : goal.returns-in-Own-clause-drawn

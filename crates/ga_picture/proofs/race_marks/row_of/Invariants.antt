@@ -1,5 +1,5 @@
 use Rattle.std.proofs.Common.{◌≡◌, drop}
-use Rattle.ga_picture.specs.RaceMarks.{row_from}
+use Rattle.ga_picture.specs.Picture.{row_from}
 use Rattle.ga_picture.proofs.race_marks.row_of.Given as goal
 
 abbrev pub invariant-rows : goal.invariant-rows

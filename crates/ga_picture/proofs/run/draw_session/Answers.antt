@@ -1,8 +1,8 @@
 use Rattle.std.proofs.Common.{ℕ, List, ◌++◌, Some, ap, subst, ◌∙◌}
 use Rattle.std.proofs.lemmas.List.{append-nil}
 use Rattle.ga_lab.specs.Machine.{State}
-use Rattle.ga_picture.specs.Drawn.{Pictures}
-use Rattle.ga_picture.specs.Drawn.Draws.{reached, stopped}
+use Rattle.ga_picture.specs.Following.{Pictures}
+use Rattle.ga_picture.specs.Following.Draws.{reached, stopped}
 use Rattle.ga_picture.proofs.run.draw_session.Goals as goal
 
 pub returns-in-Ok : goal.returns-in-Ok

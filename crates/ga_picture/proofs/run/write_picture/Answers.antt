@@ -1,6 +1,6 @@
 use Rattle.std.proofs.Common.{subst, inl}
 use Rattle.std.specs.Prelude.{string_bytes}
-use Rattle.ga_picture.specs.Drawn.{IsOut}
+use Rattle.ga_picture.specs.Following.{IsOut}
 use Rattle.ga_picture.proofs.run.write_picture.Goals as goal
 
 pub returns-in-Ok : goal.returns-in-Ok

@@ -1,7 +1,7 @@
 use Rattle.std.proofs.Common.{◌≡◌, ◌+◌, ◌<◌, ◌↔◌, IsTrue, false, slice_index_or, length, sym, ◌∙◌, subst, arith}
 use Rattle.std.proofs.lemmas.List.{get_or_default}
 use Rattle.ga_picture.specs.Drawing.{Goes, DependsOnPlace}
-use Rattle.ga_picture.proofs.Lined.{AreSome, is_shade, shades_none, shades_more}
+use Rattle.ga_picture.proofs.Shaded.{AreSome, is_shade, shades_none, shades_more}
 use Rattle.ga_picture.proofs.shade.shades.Goals as goal
 
 pub events-init : goal.events-init

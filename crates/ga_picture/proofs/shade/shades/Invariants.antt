@@ -1,4 +1,4 @@
-use Rattle.ga_picture.proofs.Lined.{AreSome}
+use Rattle.ga_picture.proofs.Shaded.{AreSome}
 use Rattle.ga_picture.proofs.shade.shades.Given as goal
 
 abbrev pub invariant-events : goal.invariant-events

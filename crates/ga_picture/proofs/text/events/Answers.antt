@@ -2,8 +2,8 @@ use Rattle.std.proofs.Common.{◌<◌, ◌≤◌, ◌++◌, List, ℕ, length, t
 use Rattle.std.specs.Prelude.{string_bytes}
 use Rattle.ga_picture.specs.declared.placing.PictureRow.{PictureRow}
 use Rattle.ga_picture.specs.Drawing.{shade_of}
-use Rattle.ga_picture.specs.Svg.{class_of, classes_in}
-use Rattle.ga_picture.proofs.Grouped.{AreBehind, behind_more, classes_next, classes_all}
+use Rattle.ga_picture.specs.Picture.{class_of, classes_in}
+use Rattle.ga_picture.proofs.Laid.{AreBehind, behind_more, classes_next, classes_all}
 use Rattle.ga_picture.proofs.text.events.Goals as goal
 
 abbrev class_at : PictureRow → List ℕ

@@ -1,7 +1,7 @@
 use Rattle.std.proofs.Common.{take}
 use Rattle.std.specs.Prelude.{string_bytes}
-use Rattle.ga_picture.specs.Svg.{classes_in}
-use Rattle.ga_picture.proofs.Grouped.{AreBehind}
+use Rattle.ga_picture.specs.Picture.{classes_in}
+use Rattle.ga_picture.proofs.Laid.{AreBehind}
 use Rattle.ga_picture.proofs.text.events.Given as goal
 
 abbrev pub invariant-rows : goal.invariant-rows

@@ -1,8 +1,8 @@
 use Rattle.std.proofs.Common.{◌<◌, ◌≤◌, ◌++◌, [], List, ℕ, length, take, sym, ◌∙◌, ap, subst, arith}
 use Rattle.std.specs.Prelude.{string_bytes}
 use Rattle.ga_picture.specs.declared.race_marks.RaceMark.{RaceMark}
-use Rattle.ga_picture.specs.Svg.{race_class, race_classes, AreGroups}
-use Rattle.ga_picture.proofs.Grouped.{AreBehind, behind_more, classes_next, classes_all}
+use Rattle.ga_picture.specs.Picture.{race_class, race_classes, AreGroups}
+use Rattle.ga_picture.proofs.Laid.{AreBehind, behind_more, classes_next, classes_all}
 use Rattle.ga_picture.proofs.text.races.Goals as goal
 
 abbrev class_at : RaceMark → List ℕ

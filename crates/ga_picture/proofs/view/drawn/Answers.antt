@@ -1,17 +1,44 @@
-use Rattle.std.proofs.Common.{subst, ◌∙◌, ap}
+use Rattle.std.proofs.Common.{sym, subst, arith, ap, ◌∙◌, Result, Ok, Err}
+use Rattle.std.specs.Prelude.{IfOk}
+use Rattle.std.specs.List.{All}
 use Rattle.std.proofs.lemmas.Result.{IfOk-weaker}
 use Rattle.ga_causal.specs.Dependence.{is_marked}
+use Rattle.ga_picture.specs.Drawing.{IsDrawing}
 use Rattle.ga_picture.specs.Picture.{IsPictureOf, is_ready}
+use Rattle.ga_picture.specs.Items.{IsSimple}
+use Rattle.ga_picture.proofs.Listed.{drawn_few, drawn_simple}
 use Rattle.ga_picture.proofs.view.drawn.Goals as goal
 
+both_ok : {X Y : Type 0} (r : Result X Y) (P Q : X → Type 0) → IfOk r P → IfOk r Q → IfOk r (λ x. P x × Q x)
+both_ok (Ok x) P Q p q = (p, q)
+both_ok (Err y) P Q p q = p
+
+pub layout-requires-clause-few : goal.layout-requires-clause-few
+layout-requires-clause-few c =
+    omega (arith, drawn_few c.as_slice.result.now (is_marked c.ready_nodes-ready.result) (is_marked c.find_idle-idle.result) c.args.view _ _ c.in_ok-items.ensures)
+
+pub layout-requires-clause-simple : goal.layout-requires-clause-simple
+layout-requires-clause-simple c =
+    subst (λ z. All IsSimple z) (sym c.as_slice-2.ensures.value)
+    (drawn_simple c.as_slice.result.now (is_marked c.ready_nodes-ready.result) (is_marked c.find_idle-idle.result) c.args.view _ _ c.in_ok-items.ensures)
+
 pub returns : goal.returns
-returns c = IfOk-weaker c.drawn_of.result _ _
+returns c =
+    let a = c.in_ok-items.ensures in
+    IfOk-weaker c.layout.result _ _
     (λ drawing d. record {
       ready = is_marked c.ready_nodes-ready.result;
       are_ready = λ n l. c.ready_nodes-ready.ensures n l ∙ ap (λ z. is_ready z n) c.chip.ensures.value;
       idle = is_marked c.find_idle-idle.result;
       are_idle = c.find_idle-idle.ensures;
       drawn = subst (λ z. IsPictureOf z (is_marked c.ready_nodes-ready.result) (is_marked c.find_idle-idle.result) c.args.view drawing)
-          (c.as_slice.ensures.value ∙ c.in_ok-causes.ensures.kept) d;
+          (c.as_slice.ensures.value ∙ c.in_ok-causes.ensures.kept) (record {
+            shades = a.shades;
+            shaded = a.shaded;
+            alone = a.listed.alone;
+            are_alone = a.listed.are_alone;
+            told = d.1 ∙ a.listed.tells;
+            drawn = subst (λ z. IsDrawing z c.args.view.fold drawing) (c.as_slice-2.ensures.value ∙ a.listed.are) d.0;
+          });
     })
-    c.drawn_of.ensures
+    (both_ok c.layout.result _ _ c.layout.ensures.drawn c.layout.ensures.told)

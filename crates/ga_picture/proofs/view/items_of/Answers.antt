@@ -1,9 +1,18 @@
-use Rattle.std.proofs.Common.{false, get_or, ap, ◌∙◌}
+use Rattle.std.proofs.Common.{false, get_or, length, ap, ◌∙◌}
 use Rattle.std.specs.Prelude.{min}
 use Rattle.std.proofs.lemmas.Result.{IfOk-weaker}
 use Rattle.ga_causal.specs.Dependence.{is_marked}
 use Rattle.ga_picture.proofs.Listed.{items_drawn}
 use Rattle.ga_picture.proofs.view.items_of.Goals as goal
+
+pub listed_between-requires : goal.listed_between-requires
+listed_between-requires c = record {
+  order = c.span-from.ensures.order;
+  within = c.span-from.ensures.within;
+  few = c.requires;
+  shades = ap length c.as_slice.ensures.value ∙ c.in_ok-shades.ensures.size;
+  plain = ap length c.as_slice-2.ensures.value ∙ c.in_ok-plain.ensures.size;
+}
 
 pub returns : goal.returns
 returns c =

@@ -1,7 +1,6 @@
 use Rattle.std.proofs.Common.{subst}
 use Rattle.std.specs.Prelude.{string_bytes}
-use Rattle.ga_picture.specs.Picture.{AreRaceMarks}
-use Rattle.ga_picture.specs.Svg.{IsSvg}
+use Rattle.ga_picture.specs.Picture.{AreRaceMarks, IsSvg}
 use Rattle.ga_picture.proofs.view.written.Goals as goal
 
 pub returns-in-Ok-svg-clause-ok : goal.returns-in-Ok-svg-clause-ok

@@ -2,7 +2,7 @@ use Rattle.std.proofs.Common.{◌≡◌, ℕ, replicate, get_or, false, ⊎_elim
 use Rattle.std.proofs.lemmas.List.{get_or-replicate, get_or_past, length-replicate}
 use Rattle.std.proofs.lemmas.Bool.{cases_lt}
 use Rattle.std.specs.Prelude.{Bool}
-use Rattle.ga_picture.proofs.Tallied.{alone_joined, alone_none}
+use Rattle.ga_picture.proofs.Loose.{alone_joined, alone_none}
 use Rattle.ga_picture.proofs.by_itself.Tally.by_itself.Goals as goal
 
 off_at : (n : ℕ) → get_or (replicate 144 false) n false ≡ false

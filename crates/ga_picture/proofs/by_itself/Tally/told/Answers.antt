@@ -1,7 +1,7 @@
 use Rattle.std.proofs.Common.{◌≡◌, ◌+◌, Vec, Global, ap, ◌∙◌, arith}
 use Rattle.ga_causal.specs.Dependence.{is_marked}
 use Rattle.ga_picture.specs.declared.by_itself.ByItself.{ByItself}
-use Rattle.ga_picture.proofs.Tallied.{told_below, told_more, told_same}
+use Rattle.ga_picture.proofs.Loose.{told_below, told_more, told_same}
 use Rattle.ga_picture.proofs.by_itself.Tally.told.Goals.{then-alone-number+in_ok-push, else-alone-number}
 use Rattle.ga_picture.proofs.by_itself.Tally.told.Goals as goal
 

@@ -4,7 +4,7 @@ use Rattle.ga_console.specs.kept.Run.{Turns}
 use Rattle.ga_console.specs.declared.responder.Turn.TheVariants.{Answered}
 use Rattle.ga_console.proofs.RunLemmas.{said_fresh}
 use Rattle.ga_explorer.specs.Answers.{Explores}
-use Rattle.ga_picture.proofs.Hearing.{quiet_notes}
+use Rattle.ga_picture.proofs.Following.{quiet_notes}
 use Rattle.ga_picture.proofs.silent.Silent.hear.Goals as goal
 
 pub returns-in-Ok-Answered-clause-heard : goal.returns-in-Ok-Answered-clause-heard

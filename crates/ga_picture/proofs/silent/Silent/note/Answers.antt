@@ -1,5 +1,5 @@
 use Rattle.std.proofs.Common.{[], sym, ◌∙◌, true≢false}
-use Rattle.ga_picture.proofs.Hearing.{heard_whole, not_short}
+use Rattle.ga_picture.proofs.Following.{heard_whole, not_short}
 use Rattle.ga_picture.proofs.silent.Silent.note.Goals.{then-self, else-self}
 use Rattle.ga_picture.proofs.silent.Silent.note.Goals as goal
 

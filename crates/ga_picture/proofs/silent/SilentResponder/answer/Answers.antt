@@ -1,6 +1,6 @@
 use Rattle.std.proofs.Common.{rules, []}
 use Rattle.ga_text.proofs.SaidLemmas.{said_pending}
-use Rattle.ga_picture.proofs.Hearing.{silent_turn}
+use Rattle.ga_picture.proofs.Following.{silent_turn}
 use Rattle.ga_picture.proofs.silent.SilentResponder.answer.Goals as goal
 
 pub returns : goal.returns

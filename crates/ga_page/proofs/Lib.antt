@@ -1,2 +1,0 @@
-pub mod Mades
-pub mod Tellings

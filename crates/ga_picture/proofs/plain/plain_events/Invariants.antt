@@ -1,7 +1,0 @@
-use Rattle.std.proofs.Common.{◌-◌, length}
-use Rattle.ga_causal.specs.Dependence.{is_marked}
-use Rattle.ga_picture.proofs.Plains.{ArePlain}
-use Rattle.ga_picture.proofs.plain.plain_events.Given as goal
-
-abbrev pub invariant-events : goal.invariant-events
-invariant-events l = ArePlain (is_marked l.fn.ready) l.events (length l.events - l.back) l.flags.items (is_marked l.runs)

@@ -1,6 +1,0 @@
-use Rattle.ga_causal.specs.Dependence.{is_marked}
-use Rattle.ga_picture.proofs.Touching.{AreUsed}
-use Rattle.ga_picture.proofs.touched.touched_by.Given as goal
-
-abbrev pub invariant-items : goal.invariant-items
-invariant-items l = AreUsed l.items l.item-index (is_marked l.touched)
