@@ -9,7 +9,7 @@ use Rattle.ga_grid.specs.declared.node_id.NodeId.{NodeId}
 use Rattle.ga_lab.specs.Machine.{State, Standing, standing, stands, chip_of, causes_of, rewind_answer}
 use Rattle.ga_origin.specs.Writes.{written_at, either, newest_written}
 use Rattle.ga_origin.specs.declared.writes.CellWrite.{CellWrite}
-use Rattle.ga_origin.proofs.Newest.{written_step, first_told}
+use Rattle.ga_origin.proofs.Keeping.{written_step, first_told}
 use Rattle.ga_answers.specs.Writing.{written_text, cell_writes}
 use Rattle.std.specs.List.{slice_get, All}
 use Rattle.std.proofs.lemmas.Option.{same_Some}

@@ -38,7 +38,7 @@ use Rattle.ga_event.specs.Flow.{Flow, send_flow, take_flow}
 use Rattle.ga_origin.specs.declared.value.Value.{Value}
 use Rattle.ga_origin.specs.Origins.{place_after, node_after, flow_told, flow_at, moved_from, moved_at, told_part, value_of_step, origin_from}
 use Rattle.ga_origin.specs.Fetched.{cell_of_target, fetched_by, fetched_cell}
-use Rattle.ga_origin.specs.kept.Moving.{by_kind}
+use Rattle.ga_origin.specs.kept.{by_kind}
 use Rattle.ga_origin.proofs.Made.{moved_on}
 use Rattle.ga_origin.proofs.Moves.{one_back}
 use Rattle.ga_search.specs.Conditions.{is_step_of}

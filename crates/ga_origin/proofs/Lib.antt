@@ -1,15 +1,8 @@
 pub mod Made
-pub mod Sources
-pub mod Telling
+pub mod Rows
 pub mod Causes
-pub mod Walking
-pub mod Closed
 pub mod Ran
 pub mod Keeping
 pub mod Moves
-pub mod Missing
-pub mod Dues
-pub mod Holding
 pub mod Resting
-pub mod Newest
 pub mod Decided

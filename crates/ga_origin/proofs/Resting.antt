@@ -1,12 +1,22 @@
--- Steps that leave a register or a cell as it was.
-use Rattle.std.proofs.Common.{◌≡◌, ◌+◌, ◌==◌, ◌/◌, ◌^◌, ℕ, Bool, true, false, cond, List, [], ◌∷◌, ◌++◌, Option, Some, None, refl, sym, ap, ◌∙◌}
+-- A register or a cell: what it held right before a step, and the steps that leave it as it was.
+use Rattle.std.proofs.Common.{◌≡◌, ℕ, ◌+◌, ◌<◌, ◌≤◌, take, arith, ◌==◌, ◌/◌, ◌^◌, Bool, true, false, cond, List, [], ◌∷◌, ◌++◌, Option, Some, None, refl, sym, ap, ◌∙◌}
+use Rattle.ga_node.specs.declared.place.Place.{Place}
+use Rattle.ga_node.specs.Record.{NodeRecord}
+use Rattle.ga_grid.specs.Chip.{record_at}
+use Rattle.ga_event.specs.Told.{steps_of}
+use Rattle.ga_lab.specs.Machine.{State, chip_of, earlier, history_of}
+use Rattle.ga_lab.specs.Holding.{Holds}
+use Rattle.ga_origin.specs.declared.kept.Kept.{Kept}
+use Rattle.ga_origin.specs.declared.kept.Kept.TheVariants.{A, B, Ram}
+use Rattle.ga_origin.specs.Origins.{place_after, node_after}
+use Rattle.ga_origin.specs.kept.{place_of, word_of, writes, rests_by, rests, IsWhole}
+use Rattle.ga_origin.proofs.Made.{place_holds}
 use Rattle.std.specs.List.{slice_get}
 use Rattle.ga_slots.specs.declared.op.Op.{Op}
 use Rattle.ga_slots.specs.declared.op.Op.TheVariants as op
 use Rattle.ga_ports.specs.Address.{classified, is_single, side_of}
 use Rattle.ga_ports.specs.declared.address.Target.{Target}
 use Rattle.ga_ports.specs.declared.address.Target.TheVariants as target
-use Rattle.ga_node.specs.Record.{NodeRecord}
 use Rattle.ga_node.specs.Changes.{Change, SetA, SetB, SetRam, SetIo, SetWait, SetStop, changed, after_changes}
 use Rattle.ga_node.specs.Table.{t, r, is_extended, due_of, found, stored, followed, posts, halts, awaited, with_kind, done_by, own_event, own}
 use Rattle.ga_node.specs.declared.kind.Kind.{Kind}
@@ -19,12 +29,35 @@ use Rattle.ga_node.specs.declared.wait.Reader.{Reader}
 use Rattle.ga_node.specs.declared.wait.Reader.TheVariants.{Instruction, Stack}
 use Rattle.ga_event.specs.declared.made.Made.{Made}
 use Rattle.ga_event.specs.declared.made.Made.TheVariants as made
-use Rattle.ga_lab.specs.Machine.{State, history_of}
-use Rattle.ga_origin.specs.declared.kept.Kept.{Kept}
-use Rattle.ga_origin.specs.declared.kept.Kept.TheVariants.{A, B, Ram}
-use Rattle.ga_origin.specs.Origins.{node_after}
-use Rattle.ga_origin.specs.kept.Searching.{word_of, writes, rests_by, rests, IsWhole}
 use Rattle.ga_origin.proofs.Ran.{became_so}
+
+-- ---- what a node held right before a step, by what is kept of the step
+
+-- where it is told
+pub held_old : (s : State) (n at old : ℕ) (what : Place) → at < steps_of n s.kept
+    → ((place : ℕ) → steps_of n (take place s.kept) ≡ at → Holds (record_at (chip_of (earlier s place)) n) what old) → Holds (node_after s n at) what old
+held_old s n at old what within there = there (place_after s.kept n at) (place_holds s.kept n at (omega (arith, within)))
+
+-- and where the step left it
+pub held_left : (s : State) (n at value : ℕ) (what : Place) → at + 1 ≤ steps_of n s.kept
+    → ((before behind v : ℕ) → steps_of n (take before s.kept) ≡ at → steps_of n (take behind s.kept) ≡ at + 1
+    → Holds (record_at (chip_of (earlier s behind)) n) what v → Holds (record_at (chip_of (earlier s before)) n) what v)
+    → Holds (node_after s n (at + 1)) what value → Holds (node_after s n at) what value
+held_left s n at value what within left held =
+    left (place_after s.kept n at) (place_after s.kept n (at + 1)) value (place_holds s.kept n at (omega (arith, within))) (place_holds s.kept n (at + 1) within) held
+
+-- a word that is kept at hand stands at its place
+pub word_held : (kept : Kept) (node : NodeRecord) (word : ℕ) → Holds node (place_of kept) word → word_of kept node ≡ word
+word_held A node word h = h
+word_held B node word h = h
+word_held (Ram cell) node word h = h
+
+pub held_word : (kept : Kept) (node : NodeRecord) (word : ℕ) → word_of kept node ≡ word → Holds node (place_of kept) word
+held_word A node word h = h
+held_word B node word h = h
+held_word (Ram cell) node word h = h
+
+-- ---- steps that leave a register or a cell as it was
 
 -- a change of something else
 abbrev Spares : Change → Kept → Type 0

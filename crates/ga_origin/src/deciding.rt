@@ -7,7 +7,7 @@ ghost use Rattle.ga_lab.specs.Machine.{standing};
 ghost use Rattle.ga_event.specs.Flow.{IsPart, part_of};
 ghost use Rattle.ga_origin.specs.Origins.{origin_of};
 ghost use Rattle.ga_origin.specs.Deciding.{tested_by, code_at, brought_at, came_over, op_tested, kind_tested, decided_by, decided_at};
-ghost use Rattle.ga_origin.specs.kept.Tested.{IsTested, IsOwn, IsPass};
+ghost use Rattle.ga_origin.specs.kept.{IsTested, IsOwn, IsTrailTo};
 
 use crate::listing::sender_in;
 use crate::origin::{flow_by_trail, kept_step, origin_behind, trail_near};
@@ -66,8 +66,7 @@ fn word_in(node: &Node, part: Part) -> u32
 
 // The T from which an instruction word came over a port by the step at a place.
 fn code_by_trail(lab: &Lab, trail: &mut Trail<'_>, node: NodeId, place: u32) -> Option<Value>
-    requires trail { trail.old ≡ standing lab.now node trail.old.step }
-    requires order { place ≤ trail.old.step }
+    requires trail { IsTrailTo lab.now node trail.old place }
     ensures value { result ≡ code_at lab.now node.number place }
     ensures part { IfSome result (λ value. IsPart value.part) }
     ensures trail { trail.new ≡ standing lab.now node trail.new.step }
@@ -194,8 +193,7 @@ fn own_decision<'l>(
     kind: Kind,
     part: Part,
 ) -> Decision
-    requires trail { trail.old ≡ standing lab.now node trail.old.step }
-    requires order { place ≤ trail.old.step }
+    requires trail { IsTrailTo lab.now node trail.old place }
     requires within { place + 1 ≤ steps_of node.number lab.now.kept }
     requires fits { place + 1 < 2 ^ 32 }
     requires told { IsOwn kind made }
@@ -218,60 +216,9 @@ fn own_decision<'l>(
     }
 }
 
-// The step at a place, an own event of this kind, where a value decided it.
-#[inline(always)]
-fn own_decided<'l>(
-    lab: &'l Lab,
-    trail: &mut Trail<'l>,
-    node: NodeId,
-    place: u32,
-    made: Made,
-    kind: Kind,
-) -> Option<Decision>
-    requires trail { trail.old ≡ standing lab.now node trail.old.step }
-    requires order { place ≤ trail.old.step }
-    requires within { place + 1 ≤ steps_of node.number lab.now.kept }
-    requires fits { place + 1 < 2 ^ 32 }
-    requires told { IsOwn kind made }
-    ensures value { result ≡ decided_by lab.now node place made }
-    ensures trail { trail.new ≡ standing lab.now node trail.new.step }
-    ensures order { place ≤ trail.new.step }
-{
-    let part = kind_tested(lab, trail, node, place, kind)?;
-    Some(own_decision(lab, trail, node, place, made, kind, part))
-}
-
-// The same of an instruction word that came over a port.
-fn code_decided<'l>(
-    lab: &'l Lab,
-    trail: &mut Trail<'l>,
-    node: NodeId,
-    place: u32,
-    made: Made,
-    word: Word18,
-) -> Option<Decision>
-    requires trail { trail.old ≡ standing lab.now node trail.old.step }
-    requires order { place ≤ trail.old.step }
-    requires fits { place + 1 < 2 ^ 32 }
-    requires told { IsPass word made }
-    ensures value { result ≡ decided_by lab.now node place made }
-    ensures trail { trail.new ≡ standing lab.now node trail.new.step }
-    ensures order { place ≤ trail.new.step }
-{
-    let tested = code_by_trail(lab, trail, node, place)?;
-    Some(Decision {
-        step: place + 1,
-        made,
-        tested,
-        word,
-        source: source_of(lab, trail, node, tested),
-    })
-}
-
 // The step at a place, where a value decided it.
 fn decided_at<'l>(lab: &'l Lab, trail: &mut Trail<'l>, node: NodeId, place: u32) -> Option<Decision>
-    requires trail { trail.old ≡ standing lab.now node trail.old.step }
-    requires order { place ≤ trail.old.step }
+    requires trail { IsTrailTo lab.now node trail.old place }
     requires within { place + 1 ≤ steps_of node.number lab.now.kept }
     requires fits { place + 1 < 2 ^ 32 }
     ensures value { result ≡ decided_at lab.now node place }
@@ -280,8 +227,21 @@ fn decided_at<'l>(lab: &'l Lab, trail: &mut Trail<'l>, node: NodeId, place: u32)
 {
     match lab.told(node, place) {
         Some(made) => match made {
-            Made::Own { kind, .. } => own_decided(lab, trail, node, place, made, kind),
-            Made::Pass { word, .. } => code_decided(lab, trail, node, place, made, word),
+            Made::Own { kind, .. } => {
+                let part = kind_tested(lab, trail, node, place, kind)?;
+                Some(own_decision(lab, trail, node, place, made, kind, part))
+            }
+            // An instruction word that came over a port.
+            Made::Pass { word, .. } => {
+                let tested = code_by_trail(lab, trail, node, place)?;
+                Some(Decision {
+                    step: place + 1,
+                    made,
+                    tested,
+                    word,
+                    source: source_of(lab, trail, node, tested),
+                })
+            }
         },
         None => None,
     }
@@ -300,7 +260,7 @@ pub struct Decisions<'l> {
 
 impl<'l> Model for Decisions<'l> {
     ghost use Rattle.ga_lab.specs.Machine.{Standing, standing};
-    ghost use Rattle.ga_origin.specs.kept.Tested.{IsDeciding};
+    ghost use Rattle.ga_origin.specs.kept.{IsDeciding};
 
     ghost Value = { Standing };
 

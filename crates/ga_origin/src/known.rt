@@ -8,7 +8,7 @@ ghost use Rattle.ga_node.specs.declared.due.Due.TheVariants as due;
 ghost use Rattle.ga_lab.specs.Machine.{standing};
 ghost use Rattle.ga_event.specs.Flow.{IsPart, choice, target_of, own_flow, take_flow, flow_of, AreSources};
 ghost use Rattle.ga_origin.specs.Origins.{node_after, flow_at};
-ghost use Rattle.ga_origin.specs.kept.Searching.{IsDueBy};
+ghost use Rattle.ga_origin.specs.kept.{IsDueBy, IsTrailTo};
 
 use crate::trail::Trail;
 use ga_event::{Choice, Flow, Made, Part, flow_where, send_flow, take_flow};
@@ -38,8 +38,7 @@ pub(crate) fn p_at(lab: &Lab, node: NodeId, place: u32) -> Option<u32>
 
 // What decides an opcode at a place: P is read off what is kept of the next few steps, A and B off the trail.
 fn choice_of(lab: &Lab, trail: &mut Trail<'_>, node: NodeId, place: u32, op: Op) -> Option<Choice>
-    requires trail { trail.old ≡ standing lab.now node trail.old.step }
-    requires order { place ≤ trail.old.step }
+    requires trail { IsTrailTo lab.now node trail.old place }
     ensures value { IfSome result (λ known. known ≡ choice (due.Run op) (node_after lab.now node.number place)) }
     ensures target { IfSome result (λ known. IsTarget (target_of known)) }
     ensures same { trail.new ≡ trail.old }
@@ -62,8 +61,7 @@ fn choice_of(lab: &Lab, trail: &mut Trail<'_>, node: NodeId, place: u32, op: Op)
 
 // What decides the step at a place, which was this.
 fn choice_at(lab: &Lab, trail: &mut Trail<'_>, node: NodeId, place: u32, due: Due) -> Option<Choice>
-    requires trail { trail.old ≡ standing lab.now node trail.old.step }
-    requires order { place ≤ trail.old.step }
+    requires trail { IsTrailTo lab.now node trail.old place }
     ensures value { IfSome result (λ known. known ≡ choice due (node_after lab.now node.number place)) }
     ensures target { IfSome result (λ known. IsTarget (target_of known)) }
     ensures same { trail.new ≡ trail.old }
@@ -75,7 +73,7 @@ fn choice_at(lab: &Lab, trail: &mut Trail<'_>, node: NodeId, place: u32, due: Du
 }
 
 // What an own event leaves in a part, which the step at a place was.
-#[tactic(auto, using(crate::proofs::Dues::own_where))]
+#[tactic(auto, using(crate::proofs::Ran::own_where))]
 fn own_flow_at(
     lab: &Lab,
     trail: &mut Trail<'_>,
@@ -85,8 +83,7 @@ fn own_flow_at(
     part: Part,
 ) -> Option<Flow>
     requires part { IsPart part }
-    requires trail { trail.old ≡ standing lab.now node trail.old.step }
-    requires order { place ≤ trail.old.step }
+    requires trail { IsTrailTo lab.now node trail.old place }
     requires due { due_of (node_after lab.now node.number place) ≡ due }
     ensures value { IfSome result (λ flow. flow_of flow ≡ own_flow (node_after lab.now node.number place) part) }
     ensures sources { IfSome result (λ flow. AreSources (flow_of flow)) }
@@ -145,8 +142,7 @@ pub(crate) fn known_flow(
     part: Part,
 ) -> Option<Flow>
     requires part { IsPart part }
-    requires trail { trail.old ≡ standing lab.now node trail.old.step }
-    requires order { place ≤ trail.old.step }
+    requires trail { IsTrailTo lab.now node trail.old place }
     ensures value { IfSome result (λ flow. flow_of flow ≡ flow_at lab.now node.number place part) }
     ensures sources { IfSome result (λ flow. AreSources (flow_of flow)) }
     ensures same { trail.new ≡ trail.old }

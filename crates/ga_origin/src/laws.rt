@@ -23,7 +23,7 @@ pub fn named_steps_are_causes()
 
 /// Where all rows are told, none is missing: the step that made the value asked for is told, and with each row the steps that made
 /// the values from which its own came.
-#[tactic(auto, using(crate::proofs::Closed::asked_told, crate::proofs::Closed::sources_told))]
+#[tactic(auto, using(crate::proofs::Rows::asked_told, crate::proofs::Rows::sources_told))]
 pub fn whole_listings_miss_nothing()
     ensures asked { (s : State) (value : Value) (rows : List Row) → AreRows s [] (row_at 0 value ∷ []) rows true → IsToldIn s rows value }
     ensures sources { (s : State) (value : Value) (rows : List Row) → AreRows s [] (row_at 0 value ∷ []) rows true →

@@ -3,22 +3,19 @@
 
 mod asked;
 mod deciding;
-mod fetched;
 mod kept;
 mod known;
 pub mod laws;
 mod listing;
 mod moving;
 mod origin;
-mod registers;
 mod trail;
 mod value;
 mod writes;
 
 pub use asked::{asked_behind, asked_of};
 pub use deciding::{Decision, Decisions};
-pub use fetched::fetched_near;
 pub use listing::{Listing, Row, whence, whence_near};
-pub use origin::origin_of;
+pub use origin::{fetched_near, origin_of};
 pub use value::Value;
 pub use writes::{CellWrite, CellWrites};

@@ -1,15 +1,12 @@
 //! A node that is followed back over its steps, with the registers that address at hand.
 
-ghost use Rattle.std.specs.Prelude.{◌≡◌, ◌<◌, ◌≤◌, ◌+◌, ◌-◌, true, None, IfSome};
-ghost use Rattle.std.specs.List.{slice_get};
-ghost use Rattle.ga_lab.specs.Machine.{history_of};
+ghost use Rattle.std.specs.Prelude.{◌≡◌, ◌≤◌, ◌+◌, true, IfSome};
 ghost use Rattle.ga_event.specs.Flow.{IsPart};
 ghost use Rattle.ga_origin.specs.Origins.{origin_of};
-ghost use Rattle.ga_origin.specs.kept.Searching.{AreHeld};
-ghost use Rattle.ga_origin.specs.kept.Moving.{moved_by};
+ghost use Rattle.ga_origin.specs.kept.{AreHeld, IsFollowed};
 
+use crate::kept::{Registers, registers_at, registers_before, registers_in};
 use crate::moving::{data_place, misses, moved_by};
-use crate::registers::{Registers, registers_at, registers_before, registers_in};
 use crate::value::Value;
 use ga_event::Part;
 use ga_grid::NodeId;
@@ -65,12 +62,7 @@ fn follow_data(lab: &Lab, followed: Followed, along: bool) -> Followed
 fn follow(lab: &Lab, value: Value, along: bool, behind: Registers) -> Followed
     requires part { IsPart value.part }
     requires held { along ≡ true → AreHeld lab.now value.node.number value.step behind }
-    ensures same { origin_of lab.now result.value ≡ origin_of lab.now value }
-    ensures part { IsPart result.value.part }
-    ensures node { result.value.node ≡ value.node }
-    ensures within { result.value.step ≤ value.step }
-    ensures ends { 0 < result.value.step
-        → moved_by (slice_get (history_of lab.now value.node.number) (result.value.step - 1)) result.value.part ≡ None }
+    ensures followed { IsFollowed lab.now value result.value }
     ensures held { along ≡ true → AreHeld lab.now value.node.number result.value.step result.registers }
 {
     let mut value = value;
@@ -128,12 +120,7 @@ fn passed(lab: &Lab, followed: Followed) -> Option<Followed>
 fn follow_on(lab: &Lab, value: Value, behind: Registers) -> Followed
     requires part { IsPart value.part }
     requires held { AreHeld lab.now value.node.number value.step behind }
-    ensures same { origin_of lab.now result.value ≡ origin_of lab.now value }
-    ensures part { IsPart result.value.part }
-    ensures node { result.value.node ≡ value.node }
-    ensures within { result.value.step ≤ value.step }
-    ensures ends { 0 < result.value.step
-        → moved_by (slice_get (history_of lab.now value.node.number) (result.value.step - 1)) result.value.part ≡ None }
+    ensures followed { IsFollowed lab.now value result.value }
     ensures held { AreHeld lab.now value.node.number result.value.step result.registers }
 {
     let registers = behind;
@@ -160,7 +147,7 @@ pub(crate) struct Trail<'l> {
 
 impl<'l> Model for Trail<'l> {
     ghost use Rattle.ga_lab.specs.Machine.{Standing};
-    ghost use Rattle.ga_origin.specs.kept.Searching.{AreHeld};
+    ghost use Rattle.ga_origin.specs.kept.{AreHeld};
 
     ghost Value = { Standing };
 
@@ -170,14 +157,11 @@ impl<'l> Model for Trail<'l> {
 }
 
 impl<'l> Trail<'l> {
-    ghost use Rattle.std.specs.Prelude.{◌≡◌, ◌<◌, ◌≤◌, ◌-◌, None};
-    ghost use Rattle.std.specs.List.{slice_get};
+    ghost use Rattle.std.specs.Prelude.{◌≡◌, ◌≤◌};
     ghost use Rattle.ga_event.specs.Told.{steps_of};
-    ghost use Rattle.ga_lab.specs.Machine.{history_of, standing};
+    ghost use Rattle.ga_lab.specs.Machine.{standing};
     ghost use Rattle.ga_event.specs.Flow.{IsPart};
-    ghost use Rattle.ga_origin.specs.Origins.{origin_of};
-    ghost use Rattle.ga_origin.specs.kept.Searching.{IsWhole, AreHeld};
-    ghost use Rattle.ga_origin.specs.kept.Moving.{moved_by};
+    ghost use Rattle.ga_origin.specs.kept.{IsWhole, AreHeld, IsFollowed, IsTrailTo};
 
     /// From where a node is walked back to.
     pub fn new(lab: &'l Lab, node: NodeId, walk: Walk<'l>) -> Self
@@ -222,12 +206,7 @@ impl<'l> Trail<'l> {
     pub fn told_back(&mut self, lab: &Lab, value: Value) -> Value
         requires part { IsPart value.part }
         requires trail { self.old ≡ standing lab.now value.node self.old.step }
-        ensures same { origin_of lab.now result ≡ origin_of lab.now value }
-        ensures part { IsPart result.part }
-        ensures node { result.node ≡ value.node }
-        ensures within { result.step ≤ value.step }
-        ensures ends { 0 < result.step
-            → moved_by (slice_get (history_of lab.now value.node.number) (result.step - 1)) result.part ≡ None }
+        ensures followed { IsFollowed lab.now value result }
         ensures trail { self.new ≡ self.old }
     {
         if self.step == value.step {
@@ -252,8 +231,7 @@ impl<'l> Trail<'l> {
 
     /// A and B behind so many steps. Takes time by how many steps lie between there and where they were known.
     pub fn registers(&mut self, lab: &Lab, node: NodeId, step: u32) -> Registers
-        requires trail { self.old ≡ standing lab.now node self.old.step }
-        requires order { step ≤ self.old.step }
+        requires trail { IsTrailTo lab.now node self.old step }
         ensures held { AreHeld lab.now node.number step result }
         ensures same { self.new ≡ self.old }
     {

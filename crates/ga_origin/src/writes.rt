@@ -5,12 +5,11 @@ ghost use Rattle.ga_node.specs.Record.{record_of};
 ghost use Rattle.ga_event.specs.Told.{steps_of};
 ghost use Rattle.ga_event.specs.Flow.{flow_of};
 ghost use Rattle.ga_origin.specs.Writes.{is_written, written_at, newest_written};
-ghost use Rattle.ga_origin.specs.kept.Searching.{IsReached, IsFollowedBack, ran_store};
+ghost use Rattle.ga_origin.specs.kept.{IsReached, IsFollowedBack, ran_store};
 
-use crate::kept::{Kept, word_before, word_behind};
+use crate::kept::{Kept, Registers, registers_before, registers_in, word_before, word_behind};
 use crate::moving::misses;
 use crate::origin::{flow_by_trail, is_cell};
-use crate::registers::{Registers, registers_before, registers_in};
 use crate::trail::Trail;
 use ga_event::{Flow, Made, Part};
 use ga_grid::NodeId;
@@ -106,7 +105,7 @@ fn back_to_store(lab: &Lab, node: NodeId, cell: u8, from: Reached) -> Reached
 }
 
 // Goes back over a step that ran a store by A or B which named another cell.
-#[tactic(auto, using(crate::proofs::Newest::wrote_before, crate::proofs::Missing::misses_writes))]
+#[tactic(auto, using(crate::proofs::Keeping::wrote_before, crate::proofs::Keeping::misses_writes))]
 fn back_past_store(lab: &Lab, node: NodeId, cell: u8, from: Reached) -> Option<Reached>
     requires cell { cell < 64 }
     requires held { IsReached lab.now node.number cell from }
@@ -163,7 +162,7 @@ pub struct CellWrites<'l> {
 
 impl<'l> Model for CellWrites<'l> {
     ghost use Rattle.ga_origin.specs.Writes.{Search, search};
-    ghost use Rattle.ga_origin.specs.kept.Searching.{IsSearch};
+    ghost use Rattle.ga_origin.specs.kept.{IsSearch};
 
     ghost Value = { Search };
 

@@ -6,8 +6,8 @@ ghost use Rattle.ga_search.specs.Conditions.{first_held, conditions_asked};
 ghost use Rattle.ga_search.specs.kept.{AreCounted, WereCounted, newest_told, IsNeeded};
 
 use crate::condition::Condition;
-use ga_lab::{Lab, Made};
 use ga_grid::NodeId;
+use ga_lab::{Lab, Made};
 use ga_node::{Kind, Place};
 
 // The opcodes that store are this one and the three behind it: `!p`, `!+`, `!b`, `!`.

@@ -4,7 +4,7 @@ use Rattle.ga_text.proofs.SaidLemmas.{cut_here, said_pending}
 use Rattle.ga_answers.specs.Writing.{cell_writes}
 use Rattle.ga_answers.proofs.Saying.{line_said, line_cut, all_said, next_write, no_write}
 use Rattle.ga_origin.specs.Writes.{Search, search, newest_written}
-use Rattle.ga_origin.proofs.Newest.{newest_within}
+use Rattle.ga_origin.proofs.Keeping.{newest_within}
 use Rattle.ga_answers.proofs.writes_text.say_cell.Goals as goal
 
 pub going-init : goal.going-init

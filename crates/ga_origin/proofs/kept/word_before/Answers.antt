@@ -2,7 +2,7 @@ use Rattle.std.proofs.Common.{◌+◌, sym, subst}
 use Rattle.ga_node.specs.declared.place.Place.{Place}
 use Rattle.ga_lab.specs.Holding.{Holds}
 use Rattle.ga_origin.specs.Origins.{node_after}
-use Rattle.ga_origin.proofs.Holding.{held_old, held_left, word_held, held_word}
+use Rattle.ga_origin.proofs.Resting.{held_old, held_left, word_held, held_word}
 use Rattle.ga_origin.proofs.kept.word_before.Goals as goal
 
 pub returns-in-Some-clause-value : goal.returns-in-Some-clause-value

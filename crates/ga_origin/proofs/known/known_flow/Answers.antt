@@ -1,5 +1,5 @@
 use Rattle.std.proofs.Common.{Some, ap, sym, ◌∙◌}
-use Rattle.ga_origin.proofs.Dues.{due_told}
+use Rattle.ga_origin.proofs.Ran.{due_told}
 use Rattle.ga_origin.proofs.known.known_flow.Goals as goal
 
 pub own_flow_at-requires-clause-due : goal.own_flow_at-requires-clause-due

@@ -2,7 +2,7 @@ use Rattle.std.proofs.Common.{◌+◌, ◌≤◌, ◌∙◌, refl, sym, arith}
 use Rattle.ga_event.specs.Told.{steps_of}
 use Rattle.ga_node.specs.declared.place.Place.TheVariants as place
 use Rattle.ga_origin.specs.Origins.{node_after}
-use Rattle.ga_origin.proofs.Holding.{held_old, held_left}
+use Rattle.ga_origin.proofs.Resting.{held_old, held_left}
 use Rattle.ga_origin.proofs.known.p_at.Goals as goal
 
 pub returns-in-Some : goal.returns-in-Some

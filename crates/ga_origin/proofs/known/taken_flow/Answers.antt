@@ -2,7 +2,7 @@ use Rattle.std.proofs.Common.{ap, sym, ◌∙◌}
 use Rattle.ga_node.specs.declared.place.Place.TheVariants as place
 use Rattle.ga_node.specs.declared.wait.Wait.{Wait}
 use Rattle.ga_event.specs.Flow.{take_flow}
-use Rattle.ga_origin.proofs.Holding.{held_old}
+use Rattle.ga_origin.proofs.Resting.{held_old}
 use Rattle.ga_origin.proofs.known.taken_flow.Goals as goal
 
 pub returns-clause-value : goal.returns-clause-value

@@ -4,7 +4,7 @@ use Rattle.std.proofs.lemmas.Result.{on_ok_weaker}
 use Rattle.ga_event.specs.Flow.{Same, From}
 use Rattle.ga_lab.specs.Machine.{history_of}
 use Rattle.ga_origin.specs.Rows.{row_at}
-use Rattle.ga_origin.proofs.Sources.{below_load, below_made, below_open, load_open}
+use Rattle.ga_origin.proofs.Rows.{below_load, below_made, below_open, load_open}
 use Rattle.ga_origin.proofs.listing.push_below.Goals as goal
 
 pub returns-then-step-eq0-clause-ok : goal.returns-then-step-eq0-clause-ok

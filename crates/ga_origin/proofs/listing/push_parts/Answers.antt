@@ -1,7 +1,7 @@
 use Rattle.std.proofs.Common.{◌++◌, map, reverse, sym, ap, ◌∙◌, arith}
 use Rattle.ga_origin.specs.Origins.{value_of_step}
 use Rattle.ga_origin.specs.Rows.{row_at}
-use Rattle.ga_origin.proofs.Sources.{no_parts, gone_over, few_more}
+use Rattle.ga_origin.proofs.Rows.{no_parts, gone_over, few_more}
 use Rattle.ga_origin.proofs.listing.push_parts.Goals as goal
 
 pub pushing-preserved : goal.pushing-preserved

@@ -1,6 +1,6 @@
 use Rattle.std.proofs.Common.{◌≡◌, ◌≤◌, ◌+◌, true, false, [], length, vec_len, sym, ap, ◌∙◌, arith}
 use Rattle.ga_origin.specs.Rows.{has_value, row_at, below}
-use Rattle.ga_origin.proofs.Walking.{told_again, told_on, told_cut, told_all, no_items, grown_by, open_top, open_left, open_on}
+use Rattle.ga_origin.proofs.Rows.{told_again, told_on, told_cut, told_all, no_items, grown_by, open_top, open_left, open_on}
 use Rattle.ga_origin.proofs.listing.whence_near.Goals as goal
 
 pub origin_near-last-requires-clause-part : goal.origin_near-last-requires-clause-part

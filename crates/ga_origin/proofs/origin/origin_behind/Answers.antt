@@ -15,12 +15,12 @@ steps-preserved c =
     let made = origin_from s node c.args.step c.args.part in
     let is : suc k ≡ value.step = omega (arith, c.steps-test.true) in
     record {
-      node = told.ensures.node;
-      part = told.ensures.part;
+      node = told.ensures.followed.node;
+      part = told.ensures.followed.part;
       trail = stays_so s node c.flow_by_trail-flow.new.trail told.new.self c.flow_by_trail-flow.ensures.trail told.ensures.trail;
-      order = (let same = ap (λ (z : Standing). z.step) told.ensures.trail in omega (arith, told.ensures.within, c.flow_by_trail-flow.ensures.order, same));
-      back = omega (arith, told.ensures.within, c.steps.invariant.back);
-      same = told_so s node (value_of_step node k c.in-Some.from) told.result made refl told.ensures.node told.ensures.same
+      order = (let same = ap (λ (z : Standing). z.step) told.ensures.trail in omega (arith, told.ensures.followed.within, c.flow_by_trail-flow.ensures.order, same));
+      back = omega (arith, told.ensures.followed.within, c.steps.invariant.back);
+      same = told_so s node (value_of_step node k c.in-Some.from) told.result made refl told.ensures.followed.node told.ensures.followed.same
           (back_on s node value.step k value.part c.in-Some.from made is (c.in-Some.ensures.value ∙ ap (λ (z : Flow). moved_from z value.part) c.flow_by_trail-flow.ensures.value) c.steps.invariant.same);
     }
 

@@ -1,7 +1,7 @@
 use Rattle.std.proofs.Common.{◌≡◌, suc, ◌-◌, refl, sym, ◌∙◌, arith}
 use Rattle.ga_origin.specs.Origins.{origin_of}
 use Rattle.ga_origin.proofs.Made.{back_on}
-use Rattle.ga_origin.proofs.Missing.{misses_stays}
+use Rattle.ga_origin.proofs.Keeping.{misses_stays}
 use Rattle.ga_origin.proofs.trail.passed.Goals as goal
 
 pub returns-clause-same : goal.returns-clause-same

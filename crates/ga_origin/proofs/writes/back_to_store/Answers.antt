@@ -1,6 +1,5 @@
 use Rattle.std.proofs.Common.{◌≡◌, ◌-◌, suc, sym, ◌∙◌, arith}
-use Rattle.ga_origin.proofs.Keeping.{none_written}
-use Rattle.ga_origin.proofs.Newest.{wrote_before}
+use Rattle.ga_origin.proofs.Keeping.{none_written, wrote_before}
 use Rattle.ga_origin.proofs.writes.back_to_store.Goals as goal
 
 pub going-preserved : goal.going-preserved

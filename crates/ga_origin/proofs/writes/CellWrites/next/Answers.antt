@@ -1,6 +1,6 @@
 use Rattle.std.proofs.Common.{◌≡◌, ℕ, suc, sym, ap, ◌∙◌, arith}
 use Rattle.ga_origin.specs.Writes.{Search, search, written_at, newest_written}
-use Rattle.ga_origin.proofs.Newest.{wrote_last, wrote_before}
+use Rattle.ga_origin.proofs.Keeping.{wrote_last, wrote_before}
 use Rattle.ga_origin.proofs.writes.CellWrites.next.Goals as goal
 
 pub returns-in-Some-clause-value : goal.returns-in-Some-clause-value

@@ -6,7 +6,7 @@ use Rattle.ga_lab.specs.Machine.{chip_of}
 use Rattle.ga_origin.specs.Origins.{node_after}
 use Rattle.ga_origin.proofs.Made.{then_of, within_so}
 use Rattle.ga_origin.proofs.Ran.{whole_machine}
-use Rattle.ga_origin.proofs.registers.registers_in.Goals as goal
+use Rattle.ga_origin.proofs.kept.registers_in.Goals as goal
 
 pub returns : goal.returns
 returns c =

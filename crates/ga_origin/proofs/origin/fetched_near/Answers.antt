@@ -2,7 +2,7 @@ use Rattle.std.proofs.Common.{◌≡◌, ℕ, suc, ◌-◌, sym, ap, ◌∙◌, 
 use Rattle.ga_ports.specs.Address.{classified}
 use Rattle.ga_origin.specs.declared.value.Value.{Value}
 use Rattle.ga_origin.specs.Fetched.{cell_of_target, fetched_by}
-use Rattle.ga_origin.proofs.fetched.fetched_near.Goals as goal
+use Rattle.ga_origin.proofs.origin.fetched_near.Goals as goal
 
 pub returns : goal.returns
 returns c =

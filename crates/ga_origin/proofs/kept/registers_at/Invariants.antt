@@ -1,6 +1,6 @@
 use Rattle.std.proofs.Common.{◌≤◌}
-use Rattle.ga_origin.specs.kept.Searching.{AreHeld}
-use Rattle.ga_origin.proofs.registers.registers_at.Given as goal
+use Rattle.ga_origin.specs.kept.{AreHeld}
+use Rattle.ga_origin.proofs.kept.registers_at.Given as goal
 
 abbrev pub invariant-going : goal.invariant-going
 invariant-going l = record {

@@ -1,9 +1,9 @@
 use Rattle.std.proofs.Common.{sym, ◌∙◌, arith}
 use Rattle.std.proofs.lemmas.Bool.{and_parts}
 use Rattle.ga_origin.specs.declared.kept.Kept.TheVariants.{A, B}
-use Rattle.ga_origin.specs.kept.Searching.{rests}
+use Rattle.ga_origin.specs.kept.{rests}
 use Rattle.ga_origin.proofs.Resting.{word_rests}
-use Rattle.ga_origin.proofs.registers.registers_before.Goals as goal
+use Rattle.ga_origin.proofs.kept.registers_before.Goals as goal
 
 pub returns-then-both_rest : goal.returns-then-both_rest
 returns-then-both_rest c =
