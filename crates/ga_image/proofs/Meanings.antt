@@ -1,7 +1,7 @@
 -- Reading against the grammar.
 -- What the grammar has is read.
 use Rattle.std.specs.List.{AllByRecursion, IsDistinct, list_any}
-use Rattle.std.proofs.Common.{◌≡◌, ◌≢◌, ℕ, zero, suc, ◌<◌, inl, inr, Bool, true, false, ◌||◌, List, [], ◌∷◌, length, get_or, set, refl, sym, ◌∙◌, subst, length-set, nat_eq, replicate, ◌+◌, ◌≤◌, ◌++◌, map, Option, Some, None, Result, ap, arith, add-zero, ◌*◌, ◌/◌, ◌%◌, ◌⊎◌, flat_map, Ok, append_assoc}
+use Rattle.std.proofs.Common.{◌≡◌, ◌≢◌, ℕ, zero, suc, ◌<◌, inl, inr, Bool, true, false, ◌||◌, List, [], ◌∷◌, length, get_or, set, refl, sym, ◌∙◌, subst, length-set, nat_eq, replicate, ◌+◌, ◌≤◌, ◌++◌, map, Option, Some, None, Result, ap, arith, add-zero, ◌⊎◌, flat_map, Ok, append_assoc}
 use Rattle.std.proofs.lemmas.Bool.{eqb-false}
 use Rattle.std.proofs.lemmas.Bool.Decides.{eqb_tells, nat_tests}
 use Rattle.std.proofs.lemmas.List.{get_or-set_same, get_or-set_other}

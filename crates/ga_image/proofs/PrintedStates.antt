@@ -1,5 +1,5 @@
 -- What the lines that are printed of a node make of the node at load.
-use Rattle.std.specs.Prelude.{nat_lt, ◌==◌, ◌-◌, ◌&&◌}
+use Rattle.std.specs.Prelude.{nat_lt, ◌==◌, ◌-◌}
 use Rattle.std.specs.Int.{from_bool}
 use Rattle.std.specs.List.{list_all}
 use Rattle.std.proofs.Common.{◌≡◌, ◌≢◌, ℕ, ◌+◌, Bool, true, false, cond, List, [], ◌∷◌, ◌++◌, length, take, drop, set, replicate, refl, sym, ◌∙◌, ap, arith, append_assoc, length-append, length-drop}

@@ -1,10 +1,10 @@
 -- The forms of a line, and how each is spelled (docs/REFERENCE.md, "Images"; both formats are this project's own).
 -- Reading a line: the form that it spells.
-use Rattle.std.specs.Prelude.{◌≡◌, ◌≢◌, ℕ, ◌+◌, ◌-◌, ◌/◌, ◌%◌, ◌^◌, ◌<◌, ◌≤◌, ◌==◌, nat_lt, if◌then◌else◌, true, ◌++◌, List, [], ◌∷◌, length, codes, flat_map, ◌&&◌, nat_eq, nat_le, Bool, take, drop, Option, Some, None}
+use Rattle.std.specs.Prelude.{◌≡◌, ◌≢◌, ℕ, ◌+◌, ◌-◌, ◌/◌, ◌%◌, ◌^◌, ◌<◌, ◌≤◌, ◌==◌, nat_lt, if◌then◌else◌, true, ◌++◌, List, [], ◌∷◌, length, codes, ◌&&◌, nat_eq, nat_le, Bool, take, drop, Option, Some, None}
 use Rattle.std.specs.List.{AllByRecursion}
 use Rattle.std.specs.Str.{str_to_ascii_lowercase}
 use Rattle.ga_text.specs.Lines.{Text, Line}
-use Rattle.ga_word.specs.Word.{hex_digit, hex6_of, read6_of}
+use Rattle.ga_word.specs.Word.{read6_of}
 use Rattle.ga_node.specs.State.{IsWaitCode}
 use Rattle.ga_image.specs.declared.field.Field.{Field}
 use Rattle.ga_image.specs.declared.field.Format.{Format}

@@ -9,7 +9,7 @@ use Rattle.std.specs.List.{AllByRecursion}
 use Rattle.ga_node.specs.State.{IsWaitCode}
 use Rattle.ga_image.specs.declared.line.Line.{Line}
 use Rattle.ga_image.specs.declared.field.Bank.{Bank}
-use Rattle.ga_image.specs.Spelling.{Form, Node, Words, End, words_in_row}
+use Rattle.ga_image.specs.Spelling.{Form, Node, Words, End}
 use Rattle.ga_image.specs.declared.parser.Parser.{Parser}
 use Rattle.ga_image.specs.declared.parser.Stage.{Stage as Expects}
 use Rattle.ga_image.specs.Reading.{Stage, Progress, Header, Open, Ended}
