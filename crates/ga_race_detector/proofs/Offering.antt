@@ -21,7 +21,7 @@ use Rattle.ga_causal.specs.Dependence.{rewound_list, NoneLooks}
 use Rattle.ga_event.specs.Told.{events_in}
 use Rattle.ga_causal.proofs.Runs.{causes}
 use Rattle.ga_lab.proofs.Called.{Runs, chip_is}
-use Rattle.ga_lab.proofs.Causal.{runs_reached}
+use Rattle.ga_lab.proofs.Again.{runs_reached}
 use Rattle.ga_races.proofs.Rivals.{Open, open_of, back}
 use Rattle.ga_races.proofs.Blind.{NoneShows, none_races, end_blind}
 use Rattle.ga_race_detector.specs.Races.{offered_by, offered}
