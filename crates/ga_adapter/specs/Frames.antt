@@ -8,7 +8,7 @@ use Rattle.ga_grid.specs.Grid.{yxx_of}
 use Rattle.ga_grid.specs.declared.node_id.NodeId.{NodeId}
 use Rattle.ga_lab.specs.Machine.{State}
 use Rattle.ga_notes.specs.declared.notes.Notes.{Notes}
-use Rattle.ga_notes.specs.declared.slot_word.SlotWord.{SlotWord}
+use Rattle.ga_notes.specs.declared.wording.SlotWord.{SlotWord}
 use Rattle.ga_adapter.specs.declared.spots.Spot.{Spot}
 use Rattle.ga_adapter.specs.declared.calls.OpenCall.{OpenCall}
 use Rattle.ga_adapter.specs.declared.frames.SourceFile.{SourceFile}

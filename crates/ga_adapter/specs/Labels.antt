@@ -8,8 +8,8 @@ use Rattle.ga_grid.specs.declared.node_id.NodeId.{NodeId}
 use Rattle.ga_notes.specs.declared.notes.Name.{Name}
 use Rattle.ga_notes.specs.declared.notes.Note.{Note}
 use Rattle.ga_notes.specs.declared.notes.Notes.{Notes}
-use Rattle.ga_notes.specs.declared.slot_word.SlotWord.{SlotWord}
-use Rattle.ga_notes.specs.declared.slot_word.ToldWord.{ToldWord}
+use Rattle.ga_notes.specs.declared.wording.SlotWord.{SlotWord}
+use Rattle.ga_notes.specs.declared.wording.ToldWord.{ToldWord}
 use Rattle.ga_notes.specs.Notes.{is_note_of, slot_word_of}
 use Rattle.ga_notes.specs.Source.{cell_of_address, nearest_found}
 use Rattle.ga_adapter.specs.declared.spots.Spot.{Spot}

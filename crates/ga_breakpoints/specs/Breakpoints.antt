@@ -8,7 +8,7 @@ use Rattle.ga_event.specs.Told.{steps_of}
 use Rattle.ga_grid.specs.Chip.{record_at}
 use Rattle.ga_lab.specs.Machine.{State, chip_of}
 use Rattle.ga_notes.specs.declared.notes.Notes.{Notes}
-use Rattle.ga_notes.specs.declared.slot_word.SlotWord.{SlotWord}
+use Rattle.ga_notes.specs.declared.wording.SlotWord.{SlotWord}
 use Rattle.ga_notes.specs.Notes.{worded_slot, nearest_word}
 use Rattle.ga_notes.specs.Source.{cell_of_address}
 use Rattle.ga_search.specs.declared.condition.Condition.TheVariants as condition

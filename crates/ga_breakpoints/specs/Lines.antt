@@ -11,7 +11,7 @@ use Rattle.ga_event.specs.declared.made.Made.TheVariants as made
 use Rattle.ga_event.specs.Told.{steps_of}
 use Rattle.ga_lab.specs.Machine.{State, history_of}
 use Rattle.ga_notes.specs.declared.notes.Notes.{Notes}
-use Rattle.ga_notes.specs.declared.slot_word.SlotWord.{SlotWord}
+use Rattle.ga_notes.specs.declared.wording.SlotWord.{SlotWord}
 use Rattle.ga_adapter.specs.declared.spots.Spot.{Spot}
 use Rattle.ga_adapter.specs.Calls.{put_by, is_calling}
 use Rattle.ga_adapter.specs.Labels.{line_at, line_start}

@@ -1,4 +1,2 @@
-pub mod LineLemmas
-pub mod Labels
 pub mod Adding
-pub mod Nearest
+pub mod LineLemmas

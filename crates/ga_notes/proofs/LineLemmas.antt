@@ -1,25 +1,37 @@
 -- The lines of a source, as they are looked for.
-use Rattle.std.proofs.Common.{◌≡◌, ◌∙◌, ℕ, zero, suc, ◌+◌, ◌-◌, ◌<◌, ◌≤◌, false, List, [], ◌∷◌, length, get_or, drop, arith, ap, sym, refl, drop-drop, get_or-drop}
+-- The word that comes first from a line on, as it is looked for.
+use Rattle.std.proofs.Common.{◌≡◌, ◌∙◌, ℕ, zero, suc, ◌+◌, ◌-◌, ◌<◌, ◌≤◌, List, [], ◌∷◌, length, get_or, slice_index_or, drop, arith, ap, sym, refl, drop-drop, get_or-drop, Option}
 use Rattle.std.specs.Str.{IsTrimAscii}
-use Rattle.std.proofs.lemmas.List.{drop_all}
+use Rattle.std.proofs.lemmas.List.{drop_all, drop_more}
 use Rattle.std.proofs.lemmas.Str.Ascii.{trim_ascii_is}
-use Rattle.ga_parser.specs.Saying.{parted, is_feed, source_lines, unmarked}
-use Rattle.ga_parser.proofs.Scanning.{no_end}
+use Rattle.ga_parser.specs.Saying.{parted, source_lines, unmarked}
+use Rattle.ga_text.specs.Lines.{lines_of}
+use Rattle.ga_parser.proofs.Scanning.{first_split}
 use Rattle.ga_notes.specs.Source.{without_front, trimmed, bare_line}
+use Rattle.ga_notes.specs.declared.wording.SlotWord.{SlotWord}
+use Rattle.ga_notes.specs.declared.wording.ToldWord.{ToldWord}
+use Rattle.ga_notes.specs.Notes.{nearer_word, nearest_word}
 
 -- ---- the first line
 
--- a text without a line feed is its only line
-pub only_line : (text : List ℕ) → ((k : ℕ) → k < length text → is_feed (get_or text k 0) ≡ false) → text ≡ get_or (source_lines text) 0 []
-unfolding parted
-only_line [] none = refl
-only_line (b ∷ text) none = sym (ap (λ (lines : List (List ℕ)). get_or lines 0 []) (no_end is_feed (b ∷ text) (omega arith) none))
+-- where there is a line
+pub first_found : (text first rest : List ℕ) → lines_of text ≡ first ∷ lines_of rest → first ≡ slice_index_or (source_lines text) 0 []
+first_found text first rest e = sym (ap (λ (lines : List (List ℕ)). slice_index_or lines 0 []) (first_split text first rest e))
 
--- and no line stands behind it
-pub none_behind : (text : List ℕ) → ((k : ℕ) → k < length text → is_feed (get_or text k 0) ≡ false) → source_lines [] ≡ drop 1 (source_lines text)
+-- and what stands behind it
+pub rest_found : (text first rest : List ℕ) → lines_of text ≡ first ∷ lines_of rest → source_lines rest ≡ drop 1 (source_lines text)
+rest_found text first rest e = sym (ap (λ (lines : List (List ℕ)). drop 1 lines) (first_split text first rest e))
+
+-- where there is none
+pub no_first : (text : List ℕ) → length text ≡ 0 → text ≡ slice_index_or (source_lines text) 0 []
 unfolding parted
-none_behind [] none = refl
-none_behind (b ∷ text) none = sym (ap (λ (lines : List (List ℕ)). drop 1 lines) (no_end is_feed (b ∷ text) (omega arith) none))
+no_first [] none = refl
+no_first (b ∷ text) none = absurd (omega arith)
+
+pub no_rest : (text : List ℕ) → length text ≡ 0 → source_lines text ≡ drop 1 (source_lines text)
+unfolding parted
+no_rest [] none = refl
+no_rest (b ∷ text) none = absurd (omega arith)
 
 -- ---- lines behind others
 
@@ -64,3 +76,16 @@ trimmed_line bare text found is trims = trim_ascii_is bare found (without_front 
 -- nothing stands behind all of a text
 pub all_past : (count : ℕ) (text : List ℕ) → length text ≤ count → [] ≡ drop count text
 all_past count text past = sym (drop_all count text past)
+
+-- ---- the word that comes first from a line on, as it is looked for
+
+-- one word more
+pub one_nearer : (line : ℕ) (best next : Option SlotWord) (all : List ToldWord) (i : ℕ) (d : ToldWord) (found : Option SlotWord) → i < length all → next ≡ nearer_word line best (get_or all i d).word → nearest_word line best (drop i all) ≡ found → nearest_word line next (drop (i + 1) all) ≡ found
+unfolding nearest_word
+one_nearer line best next all i d found within is before =
+    ap (λ (b : Option SlotWord). nearest_word line b (drop (i + 1) all)) is ∙ (sym (ap (nearest_word line best) (drop_more all i d within)) ∙ before)
+
+-- none is left
+pub none_nearer : (line : ℕ) (best : Option SlotWord) (all : List ToldWord) (i : ℕ) (found : Option SlotWord) → length all ≤ i → nearest_word line best (drop i all) ≡ found → best ≡ found
+unfolding nearest_word
+none_nearer line best all i found past before = sym (ap (nearest_word line best) (drop_all i all past)) ∙ before

@@ -1,4 +1,3 @@
-pub mod Notes
 pub mod Source
-pub mod Slots
+pub mod Notes
 pub mod kept

@@ -16,6 +16,14 @@ use ga_source::{Group, Item, Label, Program};
 use ga_word::Word18;
 use std::alloc::{AllocError, Global};
 
+/// Where a source gives a cell, and whether it is an instruction word.
+#[derive(Clone, Copy)]
+struct CellAt {
+    is_code: bool,
+    address: u32,
+    line: u32,
+}
+
 /// What a source says of each cell that it gives and of each slot, and the names of its labels.
 ///
 /// # Errors
@@ -106,16 +114,12 @@ fn add_group(
 {
     let first = group.line();
     let is_code = is_code(group);
-    add_cell(
-        alloc,
-        notes,
-        program,
-        marked,
+    let own = CellAt {
         is_code,
-        group.address,
-        first,
-        lines,
-    )?;
+        address: group.address,
+        line: first,
+    };
+    add_cell(alloc, notes, program, marked, own, lines)?;
     let mut p = advance_p(group.address);
     for (item, line) in group.items.iter().zip(&group.lines) {
         p = add_literal(alloc, notes, program, marked, p, *item, *line, lines)?;
@@ -152,7 +156,12 @@ fn add_literal(
     let Item::Literal(_) = item else {
         return Ok(p);
     };
-    add_cell(alloc, notes, program, marked, false, p, line, lines)?;
+    let literal = CellAt {
+        is_code: false,
+        address: p,
+        line,
+    };
+    add_cell(alloc, notes, program, marked, literal, lines)?;
     Ok(advance_p(p))
 }
 
@@ -162,27 +171,25 @@ fn add_cell(
     notes: &mut Vec<Note>,
     program: &Program<'_>,
     marked: &Marked,
-    is_code: bool,
-    address: u32,
-    line: u32,
+    given: CellAt,
     lines: &mut Lines<'_>,
 ) -> Result<(), AllocError>
     requires { IsMarked program.now marked.now.labels }
-    ensures notes { OnOk result (map noted_by notes.new.items ≡ map noted_by notes.old.items ++ noted_at lines.old program.now is_code address line) }
+    ensures notes { OnOk result (map noted_by notes.new.items ≡ map noted_by notes.old.items ++ noted_at lines.old program.now given.is_code given.address given.line) }
     ensures same { lines.new ≡ lines.old }
 {
-    let Some(cell) = cell_of(address) else {
+    let Some(cell) = cell_of(given.address) else {
         return Ok(());
     };
     let label = marked.before(cell);
-    let text = note_text(alloc, program, address, label, line, lines)?;
-    let is_long = is_long(lines.line(line));
+    let text = note_text(alloc, program, given.address, label, given.line, lines)?;
+    let is_long = is_long(lines.line(given.line));
     notes.push(Note {
         node: program.node,
         cell,
-        address,
-        line,
-        is_code,
+        address: given.address,
+        line: given.line,
+        is_code: given.is_code,
         is_long,
         text,
     })?;

@@ -8,7 +8,6 @@ mod faults;
 mod label;
 mod line;
 mod notes;
-mod slot_word;
 mod wording;
 
 pub use building::notes_of;
@@ -16,4 +15,4 @@ pub use edited::{Edited, edited_image, edited_source, tell_edited};
 pub use faults::{push_fault, tell_fault, tell_long, tell_memory, tell_stores, tell_unsaid};
 pub use line::Lines;
 pub use notes::{Name, Note, Notes};
-pub use slot_word::{SlotWord, ToldWord};
+pub use wording::{SlotWord, ToldWord};

@@ -3,7 +3,7 @@
 ghost use Rattle.std.specs.Prelude.{◌≡◌, [], drop, slice_index_or};
 ghost use Rattle.ga_parser.specs.Saying.{source_lines};
 ghost use Rattle.ga_notes.specs.Source.{bare_line, line_in, is_long_line};
-ghost use Rattle.ga_notes.specs.Slots.{quoted_from};
+ghost use Rattle.ga_notes.specs.Notes.{quoted_from};
 
 use ga_source::unmarked;
 use std::marker::Model;
@@ -96,16 +96,15 @@ fn past(text: &[u8], count: u32) -> &[u8]
 }
 
 /// The first line, and what stands behind it.
+#[tactic(auto, using(crate::proofs::LineLemmas::first_found, crate::proofs::LineLemmas::rest_found, crate::proofs::LineLemmas::no_first, crate::proofs::LineLemmas::no_rest))]
 fn first_line(text: &[u8]) -> (&[u8], &[u8])
     ensures line { result.0.now ≡ slice_index_or (source_lines text.now) 0 [] }
     ensures rest { source_lines result.1.now ≡ drop 1 (source_lines text.now) }
 {
-    for (i, byte) in text.iter().enumerate() {
-        if *byte == b'\n' {
-            return (text.split_at(i).0, text.split_at(i + 1).1);
-        }
+    if text.is_empty() {
+        return (text, text);
     }
-    (text, &[])
+    ga_text::first_line(text)
 }
 
 /// What stands behind the first `wanted` lines of a source, where a rest stands behind the first `before`.

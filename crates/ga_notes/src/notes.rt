@@ -3,7 +3,7 @@
 ghost use Rattle.std.specs.Prelude.{◌≡◌, position};
 ghost use Rattle.ga_notes.specs.Notes.{is_note_of, is_begun, is_node_name, worded_slot as slot_worded_by, is_slot_word, is_nearer as is_nearer_word, nearer_word};
 
-use crate::slot_word::{SlotWord, ToldWord};
+use crate::wording::{SlotWord, ToldWord};
 use ga_grid::NodeId;
 use std::alloc::Global;
 

@@ -3,16 +3,48 @@
 ghost use Rattle.std.specs.Prelude.{◌≡◌, ◌<◌, ◌++◌, ◌∷◌, [], map, length, slice_index, drop, decimal, codes, IfOk, OnOk};
 ghost use Rattle.ga_source.specs.Reading.{p_behind};
 ghost use Rattle.ga_parser.specs.Saying.{all_said, all_in, columns_of, columns_in};
-ghost use Rattle.ga_notes.specs.Slots.{word_line as line_by_number, word_column as column_by_number, quoted_word, quoted_if_long, worded_by, last_slot as last_slot_of, slot_worded, slots_worded, address_worded, literal_worded, group_worded, program_worded, all_worded, AreSlotWords};
+ghost use Rattle.ga_notes.specs.Notes.{word_line as line_by_number, word_column as column_by_number, quoted_word, quoted_if_long, worded_by, last_slot as last_slot_of, word_in_slot as word_by_slot, word_told, slots_worded, address_worded, literal_worded, group_worded, program_worded, all_worded, AreSlotWords};
 
 use crate::building::{is_code, push_number};
 use crate::label::cell_of;
 use crate::line::{Lines, is_long};
-use crate::slot_word::{Begun, SlotWord, ToldWord};
 use ga_grid::NodeId;
 use ga_ports::advance_p;
 use ga_source::{Group, Item, Program, Token, assemble_numbered, source_words};
 use std::alloc::{AllocError, Global};
+
+/// The word of the source from which slots of a cell come.
+#[derive(Clone, Copy)]
+pub struct SlotWord {
+    pub node: NodeId,
+    /// 0 to 63 of RAM, 128 to 191 of ROM.
+    pub cell: u8,
+    /// Whether the cell holds an instruction word, and no literal or data.
+    pub is_code: bool,
+    /// The slots from 0 on: one, but for the last word of a cell.
+    pub first: usize,
+    pub last: usize,
+    pub line: u32,
+    /// That of the word's first byte, in bytes from 1 on, behind a byte order mark.
+    pub column: u32,
+}
+
+/// Such a word, and how it is told.
+#[derive(Drop)]
+pub struct ToldWord {
+    pub word: SlotWord,
+    /// Line, column and the text from the word on, where the line is long that begins the cell; else empty.
+    pub text: Vec<u8>,
+}
+
+/// A cell that the source gives, and the line that begins it.
+#[derive(Clone, Copy)]
+pub(crate) struct Begun {
+    pub(crate) node: NodeId,
+    pub(crate) cell: u8,
+    pub(crate) is_code: bool,
+    pub(crate) line: u32,
+}
 
 /// The words of the slots that a source gives: it is assembled with the numbers of its words in the place of their lines.
 ///
@@ -169,39 +201,41 @@ fn add_slots(
     let size = numbers.len();
     let mut slot = 0usize;
     while slot < size {
-        add_slot(alloc, told, cell, size, slot, numbers[slot], words, lines)?;
+        let word = word_in_slot(cell, size, slot, numbers[slot], words);
+        add_word(alloc, told, cell.line, word, lines)?;
         slot += 1;
     }
     Ok(())
 }
 
-/// Adds that of the item in a slot of a cell with so many items.
-fn add_slot(
-    alloc: Global,
-    told: &mut Vec<ToldWord>,
-    cell: Begun,
-    size: usize,
-    slot: usize,
-    number: u32,
-    words: &[Token<'_>],
-    lines: &mut Lines<'_>,
-) -> Result<(), AllocError>
+/// The word of the item in a slot of a cell with so many items.
+fn word_in_slot(cell: Begun, size: usize, slot: usize, number: u32, words: &[Token<'_>]) -> SlotWord
     requires { slot < size }
-    ensures words { OnOk result (map worded_by told.new.items ≡ map worded_by told.old.items ++ slot_worded lines.old words.now cell size slot number ∷ []) }
-    ensures same { lines.new ≡ lines.old }
+    ensures { result ≡ word_by_slot words.now cell size slot number }
 {
-    let line = word_line(words, number);
-    let column = word_column(words, number);
-    let text = quoted(alloc, cell.line, line, column, lines)?;
-    let word = SlotWord {
+    SlotWord {
         node: cell.node,
         cell: cell.cell,
         is_code: cell.is_code,
         first: slot,
         last: last_slot(size, slot),
-        line,
-        column,
-    };
+        line: word_line(words, number),
+        column: word_column(words, number),
+    }
+}
+
+/// Adds a word of a cell that begins in a line.
+fn add_word(
+    alloc: Global,
+    told: &mut Vec<ToldWord>,
+    begun: u32,
+    word: SlotWord,
+    lines: &mut Lines<'_>,
+) -> Result<(), AllocError>
+    ensures words { OnOk result (map worded_by told.new.items ≡ map worded_by told.old.items ++ word_told lines.old begun word ∷ []) }
+    ensures same { lines.new ≡ lines.old }
+{
+    let text = quoted(alloc, begun, word.line, word.column, lines)?;
     told.push(ToldWord { word, text })?;
     Ok(())
 }

@@ -1,6 +1,6 @@
 use Rattle.std.proofs.Common.{◌≡◌, ◌+◌, ◌*◌, ◌/◌, ℕ, ◌∙◌, sym, ap, arith}
 use Rattle.std.specs.Prelude.{is_some}
-use Rattle.ga_notes.proofs.Labels.{nearest_less, nearest_here, nearest_last}
+use Rattle.ga_notes.proofs.Adding.{nearest_less, nearest_here, nearest_last}
 use Rattle.ga_adapter.specs.Labels.{place_of_label}
 use Rattle.ga_adapter.proofs.labels.place_near.Goals as goal
 

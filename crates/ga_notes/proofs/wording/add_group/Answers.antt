@@ -3,7 +3,7 @@ use Rattle.std.specs.Slice.Iter.{iter_rest}
 use Rattle.std.specs.Iterator.Adapters.{zip_first, zip_second}
 use Rattle.std.proofs.lemmas.List.{length_push}
 use Rattle.std.proofs.lemmas.Slice.Zip.{zip_turn, zip_end}
-use Rattle.ga_notes.specs.Slots.{worded_by, literal_worded, group_worded}
+use Rattle.ga_notes.specs.Notes.{worded_by, literal_worded, group_worded}
 use Rattle.ga_notes.proofs.Adding.{literals_step, literals_all, told_all}
 use Rattle.ga_notes.proofs.wording.add_group.Goals as goal
 

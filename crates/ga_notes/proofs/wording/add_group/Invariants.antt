@@ -1,6 +1,6 @@
 use Rattle.std.proofs.Common.{◌≡◌, ◌++◌, map, length, drop}
 use Rattle.ga_notes.specs.Source.{literals_told}
-use Rattle.ga_notes.specs.Slots.{worded_by, literal_worded, group_worded}
+use Rattle.ga_notes.specs.Notes.{worded_by, literal_worded, group_worded}
 use Rattle.ga_notes.proofs.wording.add_group.Given as goal
 
 abbrev pub invariant-loop-item : goal.invariant-loop-item

@@ -1,5 +1,5 @@
 use Rattle.std.proofs.Common.{◌≡◌, ◌++◌, map, drop, flat_map}
-use Rattle.ga_notes.specs.Slots.{worded_by, group_worded, program_worded}
+use Rattle.ga_notes.specs.Notes.{worded_by, group_worded, program_worded}
 use Rattle.ga_notes.proofs.wording.add_program.Given as goal
 
 abbrev pub invariant-loop-group : goal.invariant-loop-group

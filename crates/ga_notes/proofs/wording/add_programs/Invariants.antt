@@ -1,5 +1,5 @@
 use Rattle.std.proofs.Common.{◌≡◌, ◌++◌, map, drop, flat_map}
-use Rattle.ga_notes.specs.Slots.{worded_by, program_worded, all_worded}
+use Rattle.ga_notes.specs.Notes.{worded_by, program_worded, all_worded}
 use Rattle.ga_notes.proofs.wording.add_programs.Given as goal
 
 abbrev pub invariant-loop-program : goal.invariant-loop-program

@@ -1,15 +1,15 @@
 use Rattle.std.proofs.Common.{◌∙◌, map, length, refl}
-use Rattle.ga_notes.specs.Slots.{worded_by}
+use Rattle.ga_notes.specs.Notes.{worded_by}
 use Rattle.ga_notes.proofs.Adding.{slot_step, slots_all, told_all}
 use Rattle.ga_notes.proofs.wording.add_slots.Goals as goal
 
 pub loop-slot-preserved : goal.loop-slot-preserved
 loop-slot-preserved c =
-    let words = rw c.loop-slot.invariant.same at c.in_ok-add_slot.ensures.words in
+    let words = rw (c.loop-slot.invariant.same, c.word_in_slot-word.ensures) at c.in_ok-add_word.ensures.words in
     record {
-      same = c.add_slot.ensures.same ∙ c.loop-slot.invariant.same;
+      same = c.add_word.ensures.same ∙ c.loop-slot.invariant.same;
       words = slot_step c.args.lines.now c.args.words.now c.args.cell (length c.args.numbers.now) c.loop-slot.slot _ c.args.numbers.now
-          (map worded_by c.loop-slot.told.items) (map worded_by c.add_slot.new.told.items) _
+          (map worded_by c.loop-slot.told.items) (map worded_by c.add_word.new.told.items) _
           c.loop-slot-test.true refl words c.loop-slot.invariant.words;
     }
 

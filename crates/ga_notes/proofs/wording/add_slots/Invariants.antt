@@ -1,5 +1,5 @@
 use Rattle.std.proofs.Common.{◌≡◌, ◌-◌, ◌++◌, map, length, drop}
-use Rattle.ga_notes.specs.Slots.{worded_by, slots_worded}
+use Rattle.ga_notes.specs.Notes.{worded_by, slots_worded}
 use Rattle.ga_notes.proofs.wording.add_slots.Given as goal
 
 abbrev pub invariant-loop-slot : goal.invariant-loop-slot

@@ -1,5 +1,5 @@
 use Rattle.std.proofs.Common.{arith}
-use Rattle.ga_notes.proofs.Labels.{last_none, last_more, last_all}
+use Rattle.ga_notes.proofs.Adding.{last_none, last_more, last_all}
 use Rattle.ga_notes.proofs.label.Marked.of.Goals as goal
 
 pub loop-asked-init : goal.loop-asked-init

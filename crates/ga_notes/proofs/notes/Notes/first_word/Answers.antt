@@ -1,7 +1,7 @@
 use Rattle.std.proofs.Common.{◌∙◌, ap, arith}
-use Rattle.ga_notes.specs.declared.slot_word.ToldWord.{ToldWord}
+use Rattle.ga_notes.specs.declared.wording.ToldWord.{ToldWord}
 use Rattle.ga_notes.specs.Notes.{nearer_word}
-use Rattle.ga_notes.proofs.Nearest.{one_nearer, none_nearer}
+use Rattle.ga_notes.proofs.LineLemmas.{one_nearer, none_nearer}
 use Rattle.ga_notes.proofs.notes.Notes.first_word.Goals as goal
 
 pub loop-told-preserved : goal.loop-told-preserved
