@@ -1,8 +1,7 @@
 //! Back to where a condition held, and how many events went.
 
-ghost use Rattle.std.specs.Prelude.{◌≡◌, length, ◌++◌};
+ghost use Rattle.std.specs.Prelude.{◌≡◌, length};
 ghost use Rattle.ga_text.specs.Output.{Says};
-ghost use Rattle.ga_text.specs.Lines.{Bytes};
 ghost use Rattle.ga_search.specs.Backward.{newest_held, left_from, gone_from};
 ghost use Rattle.ga_answers.specs.Texts.{back_text};
 

@@ -1,7 +1,6 @@
 //! The steps at which a value decided where a node went on, told line by line.
 
 ghost use Rattle.std.specs.Prelude.{◌≡◌, ◌+◌, ◌-◌, ◌≤◌, ◌<◌, ◌^◌, ◌++◌};
-ghost use Rattle.ga_text.specs.Lines.{Bytes};
 ghost use Rattle.arrayvec.specs.ArrayVec.{array_vec_len};
 ghost use Rattle.ga_lab.specs.Machine.{standing};
 ghost use Rattle.ga_display.specs.Texts.{register_text};

@@ -2,7 +2,7 @@
 
 ghost use Rattle.std.specs.Prelude.{◌≡◌, ◌+◌, ◌*◌, ◌-◌, ◌<◌, ◌≤◌, ◌++◌, ◌∷◌, []};
 ghost use Rattle.arrayvec.specs.ArrayVec.{array_vec_len};
-ghost use Rattle.ga_answers.specs.Texts.{chip_text, row_text, rows_text, cell_text, cells_text, side_letter, doing_text};
+ghost use Rattle.ga_answers.specs.Texts.{chip_text, row_text, cell_text, cells_text, side_letter, doing_text};
 
 use arrayvec::ArrayVec;
 use ga_grid::NodeId;

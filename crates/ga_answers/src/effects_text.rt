@@ -1,7 +1,6 @@
 //! What a rollback would take, told line by line.
 
-ghost use Rattle.std.specs.Prelude.{◌≡◌, ◌++◌};
-ghost use Rattle.ga_text.specs.Lines.{Bytes};
+ghost use Rattle.std.specs.Prelude.{◌≡◌};
 ghost use Rattle.ga_text.specs.Output.{Says, SaysExactly};
 ghost use Rattle.ga_answers.specs.Texts.{effect_text, effects_head, effects_text};
 ghost use Rattle.ga_answers.specs.Telling.{TellsEffects};

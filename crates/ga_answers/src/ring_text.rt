@@ -1,11 +1,11 @@
 //! Rings of nodes that can never go on, told line by line.
 
 ghost use Rattle.ga_text.specs.Output.{Says};
-ghost use Rattle.std.specs.Prelude.{◌≡◌, ◌++◌, ◌+◌, ◌≤◌, [], Some};
+ghost use Rattle.std.specs.Prelude.{◌≡◌, ◌+◌, [], Some};
 ghost use Rattle.ga_grid.specs.Grid.{number_where_any};
 ghost use Rattle.ga_grid.specs.Chip.{records_of};
 ghost use Rattle.ga_causal.specs.Dependence.{is_marked};
-ghost use Rattle.ga_answers.specs.Waiting.{awaited_at, sole, sole_awaited, name_text, ring_names, ring_line, ring_text, all_rings};
+ghost use Rattle.ga_answers.specs.Waiting.{awaited_at, sole, sole_awaited, ring_names, ring_line, ring_text, all_rings};
 
 use arrayvec::ArrayVec;
 use ga_grid::{Chip, NodeId, neighbour};

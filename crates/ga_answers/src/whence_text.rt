@@ -1,7 +1,6 @@
 //! Where a value came from, told line by line.
 
 ghost use Rattle.std.specs.Prelude.{◌≡◌, ◌≤◌, ◌<◌, ◌+◌, ◌++◌, ◌⊎◌, Some, flat_map};
-ghost use Rattle.ga_text.specs.Lines.{Bytes};
 ghost use Rattle.arrayvec.specs.ArrayVec.{array_vec_len};
 ghost use Rattle.ga_event.specs.Flow.{IsPart};
 ghost use Rattle.ga_lab.specs.Machine.{stands, standing};

@@ -1,7 +1,6 @@
 //! The words that went over a link, told line by line.
 
-ghost use Rattle.std.specs.Prelude.{◌≡◌, ◌++◌};
-ghost use Rattle.ga_text.specs.Lines.{Bytes};
+ghost use Rattle.std.specs.Prelude.{◌≡◌};
 ghost use Rattle.ga_text.specs.Output.{Says, SaysExactly};
 ghost use Rattle.ga_answers.specs.Texts.{sent_text, words_head, linked_text, link_words_text};
 

@@ -1,8 +1,7 @@
 //! The steps that wrote a cell, told line by line.
 
-ghost use Rattle.std.specs.Prelude.{◌≡◌, ◌<◌, Some, ◌++◌};
+ghost use Rattle.std.specs.Prelude.{◌≡◌, ◌<◌, Some};
 ghost use Rattle.ga_text.specs.Output.{Says};
-ghost use Rattle.ga_text.specs.Lines.{Bytes};
 ghost use Rattle.ga_event.specs.Told.{steps_of};
 ghost use Rattle.ga_answers.specs.Writing.{written_text, cell_writes, writes_text};
 

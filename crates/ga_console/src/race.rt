@@ -1,7 +1,6 @@
 //! A race of workers on the chip of an image.
 ghost use Rattle.ga_text.specs.Output.{WritesText, ReadsAndWrites};
-ghost use Rattle.std.specs.Prelude.{◌≡◌, ◌<◌, ◌≤◌, ◌*◌, ◌++◌, ℕ, map, length, Some, IfOk, IfSome, All, vec_len, slice_get};
-ghost use Rattle.ga_text.specs.Lines.{Bytes};
+ghost use Rattle.std.specs.Prelude.{◌≡◌, ◌<◌, ◌≤◌, ◌*◌, ℕ, map, length, Some, IfOk, IfSome, All, vec_len, slice_get};
 ghost use Rattle.ga_grid.specs.Chip.{records_of};
 ghost use Rattle.ga_console.specs.Race.{calls_by, report_text, IsRaceOfWorkers, Reports};
 ghost use Rattle.ga_console.specs.kept.Run.{Races, Writes};

@@ -1,7 +1,6 @@
 //! A whole session.
 ghost use Rattle.ga_text.specs.Output.{WritesText, ReadsAndWrites, ReadsOnAndWrites};
-ghost use Rattle.std.specs.Prelude.{◌≡◌, ◌++◌, Some, IfOk, IfErr};
-ghost use Rattle.ga_text.specs.Lines.{Bytes};
+ghost use Rattle.std.specs.Prelude.{◌≡◌, IfOk, IfErr};
 ghost use Rattle.ga_text.specs.Input.{IsWithin};
 ghost use Rattle.ga_console.specs.Run.{Runs, RunsBy, Refuses, Opens, IsFault, status_of as status_that};
 ghost use Rattle.ga_console.specs.kept.Run.{AfterImage};

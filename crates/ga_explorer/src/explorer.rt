@@ -1,7 +1,6 @@
 //! What answers the lines of a session of exploring.
 
-ghost use Rattle.std.specs.Prelude.{◌≡◌, ◌≤◌, ◌++◌, length, Some, None, IfSome, IfNone, IsTrue, false};
-ghost use Rattle.ga_text.specs.Lines.{Bytes};
+ghost use Rattle.std.specs.Prelude.{◌≡◌, ◌≤◌, length, Some, None, IfSome, IfNone, IsTrue, false};
 ghost use Rattle.ga_text.specs.Output.{Says};
 ghost use Rattle.ga_explorer.specs.Commands.{request_in, Explored};
 ghost use Rattle.ga_explorer.specs.kept.{exploring};

@@ -1,7 +1,6 @@
 //! What `help` answers, and what is said of a line that spells no command.
 
 ghost use Rattle.std.specs.Prelude.{◌≡◌, ◌++◌, codes, map, option_map, option_copied, slice_get};
-ghost use Rattle.ga_text.specs.Lines.{Bytes};
 ghost use Rattle.ga_text.specs.Output.{Says, SaysExactly};
 ghost use Rattle.ga_explorer.specs.Forms.{form_row_text, form_rows_text, about_text, place_from};
 ghost use Rattle.ga_explorer.specs.Commands.{rows, command_text, place_of_form};

@@ -1,6 +1,6 @@
 //! An image or source that stands in a file and is read before standard input.
 
-ghost use Rattle.std.specs.Prelude.{◌≡◌, OnOk, nat_eq};
+ghost use Rattle.std.specs.Prelude.{◌≡◌, OnOk};
 ghost use Rattle.ga_explorer.specs.Front.{has_end, has_end_line, ends_in_end, is_cut_off, closing, closed};
 
 use crate::opening::is_image;

@@ -1,7 +1,5 @@
 //! A whole session of exploring.
 ghost use Rattle.ga_text.specs.Output.{ReadsAndWrites};
-ghost use Rattle.std.specs.Prelude.{◌≡◌, ◌++◌, Some};
-ghost use Rattle.ga_text.specs.Lines.{Bytes};
 ghost use Rattle.ga_explorer.specs.Session.{RunsExploring};
 
 use crate::beginning::begin;

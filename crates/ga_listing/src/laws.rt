@@ -3,7 +3,7 @@
 ghost use Rattle.std.specs.Prelude.{ℕ, ◌≡◌, ◌<◌, ◌++◌, List};
 ghost use Rattle.ga_node.specs.Record.{NodeState};
 ghost use Rattle.ga_grid.specs.Chip.{node_at, records_of};
-ghost use Rattle.ga_text.specs.Lines.{Bytes, Text, lines_of};
+ghost use Rattle.ga_text.specs.Lines.{Text, lines_of};
 ghost use Rattle.ga_image.specs.Grammar.{IsImage};
 ghost use Rattle.ga_image.specs.Printing.{Describes};
 ghost use Rattle.ga_listing.specs.Source.{IsAssembly, IsLoadedAs, IsAccepted, Assembles};

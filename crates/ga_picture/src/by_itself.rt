@@ -1,6 +1,6 @@
 //! Nodes that work by themselves, which a picture leaves out.
 
-ghost use Rattle.std.specs.Prelude.{◌≡◌, ◌↔◌, ◌<◌, ◌+◌, ◌&&◌, ◌||◌, not, ◌++◌, ◌∷◌, [], ℕ, Bool, List, true, false, length, slice_index, slice_set, IsTrue, IfOk};
+ghost use Rattle.std.specs.Prelude.{◌≡◌, ◌↔◌, ◌<◌, ◌+◌, ◌&&◌, ◌||◌, ◌++◌, ◌∷◌, [], ℕ, Bool, List, true, false, length, slice_index, slice_set, IsTrue, IfOk};
 ghost use Rattle.std.specs.List.{All, list_any};
 ghost use Rattle.ga_grid.specs.Grid.{neighbour_of};
 ghost use Rattle.ga_event.specs.Touches.{neighbours};

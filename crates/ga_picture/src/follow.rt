@@ -1,7 +1,6 @@
 //! A whole session whose answers are dropped.
 ghost use Rattle.ga_text.specs.Output.{WritesText, ReadsAndWrites, ReadsOnAndWrites};
-ghost use Rattle.std.specs.Prelude.{◌≡◌, ◌-◌, ◌++◌, Some};
-ghost use Rattle.ga_text.specs.Lines.{Bytes};
+ghost use Rattle.std.specs.Prelude.{◌-◌};
 ghost use Rattle.ga_text.specs.Input.{IsWithin, input_limit};
 ghost use Rattle.ga_picture.specs.Following.{FollowsTo, Declines};
 ghost use Rattle.ga_picture.specs.kept.{Goes, Ends};

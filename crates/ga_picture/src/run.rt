@@ -1,7 +1,5 @@
 //! A whole session that ends with a picture.
 ghost use Rattle.ga_text.specs.Output.{WritesText, ReadsAndWrites};
-ghost use Rattle.std.specs.Prelude.{◌≡◌, ◌++◌, Some};
-ghost use Rattle.ga_text.specs.Lines.{Bytes};
 ghost use Rattle.ga_picture.specs.Following.{Draws, Pictures, IsOut};
 
 use super::follow::{decline, follow_session};

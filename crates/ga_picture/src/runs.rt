@@ -1,6 +1,6 @@
 //! Runs of events of a node, which may be drawn as one mark.
 
-ghost use Rattle.std.specs.Prelude.{◌≡◌, ◌≤◌, ◌<◌, ◌+◌, ◌^◌, ℕ, if◌then◌else◌, length, slice_index, slice_set, IfOk};
+ghost use Rattle.std.specs.Prelude.{◌≡◌, ◌<◌, ◌+◌, ◌^◌, ℕ, if◌then◌else◌, length, slice_index, slice_set, IfOk};
 ghost use Rattle.std.specs.List.{All};
 ghost use Rattle.ga_causal.specs.Equivalence.{sees};
 ghost use Rattle.ga_picture.specs.declared.shade.Shade.{Shade};

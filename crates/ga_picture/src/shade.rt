@@ -1,7 +1,7 @@
 //! The colours of the events.
 
-ghost use Rattle.std.specs.Prelude.{◌≡◌, ◌↔◌, ◌<◌, ◌≤◌, ℕ, Bool, true, false, List, length, Option, Some, IfOk, IfSome, IsTrue, slice_get, slice_index_or};
-ghost use Rattle.ga_picture.specs.Drawing.{AreShades, IsShade, Goes, DependsOnPlace};
+ghost use Rattle.std.specs.Prelude.{◌≡◌, ◌↔◌, ◌<◌, ℕ, true, false, length, Option, Some, IfOk, IfSome, IsTrue, slice_index_or};
+ghost use Rattle.ga_picture.specs.Drawing.{AreShades, Goes, DependsOnPlace};
 ghost use Rattle.ga_causal.specs.Dependence.{DependsOn};
 
 use ga_causal::{Cause, Memory, Nodes, closure};

@@ -1,6 +1,6 @@
 //! The picture of a lab's kept events.
 
-ghost use Rattle.std.specs.Prelude.{ℕ, Bool, ◌≡◌, ◌↔◌, ◌⊎◌, ◌<◌, ◌≤◌, ◌^◌, false, length, slice_index_or, None, Err, IfOk, IfErr, IfSome, min, string_bytes};
+ghost use Rattle.std.specs.Prelude.{ℕ, Bool, ◌≡◌, ◌↔◌, ◌⊎◌, ◌<◌, ◌≤◌, ◌^◌, false, length, None, Err, IfOk, IfErr, IfSome, min, string_bytes};
 ghost use Rattle.std.specs.List.{All};
 ghost use Rattle.ga_grid.specs.Chip.{records_of};
 ghost use Rattle.ga_causal.specs.Dependence.{is_marked};
