@@ -19,7 +19,7 @@ use Rattle.std.proofs.lemmas.Option.{same_Some}
 use Rattle.ga_text.specs.Output.{IsSaid}
 use Rattle.ga_console.specs.kept.Run.{Turns}
 use Rattle.ga_console.specs.declared.responder.Turn.{Turn}
-use Rattle.ga_console.specs.declared.responder.Turn.TheVariants as turn
+use Rattle.ga_console.specs.declared.responder.Turn.TheVariants as turns
 use Rattle.ga_explorer.specs.Answers.{Explores}
 
 -- ---- from a session that says nothing to one whose answers are dropped
@@ -202,16 +202,16 @@ heard_whole items answer pending h e =
     same_Some items h.sent h.held ∙ sym (h.splits ∙ ap (λ (t : List ℕ). h.sent ++ t) e ∙ append-nil h.sent)
 
 pub not_short : (told : Bool) (text answer : List ℕ) → (IsTrue told ↔ IsShort text) → told ≡ false → text ≡ answer → ¬ IsShort answer
-not_short told text answer both e same short =
-    true≢false (sym (both.1 (subst IsShort (sym same) short)) ∙ e)
+not_short told text answer both e same wanting =
+    true≢false (sym (both.1 (subst IsShort (sym same) wanting)) ∙ e)
 
 nothing_short : IsShort [] → ⊥
 nothing_short (inl e) = absurd (omega (arith, ap length e))
 nothing_short (inr e) = absurd (omega (arith, ap length e))
 
 -- no answer tells of nothing
-pub quiet_notes : (short : Bool) (answer : List ℕ) → answer ≡ [] → Notes short answer short
-quiet_notes short answer e same = (same, λ told. nothing_short (subst IsShort e told))
+pub quiet_notes : (wanting : Bool) (answer : List ℕ) → answer ≡ [] → Notes wanting answer wanting
+quiet_notes wanting answer e same = (same, λ told. nothing_short (subst IsShort e told))
 
 same_silent : (m n : Silent) → n.explorer ≡ m.explorer → n.short ≡ m.short → n ≡ m
 same_silent m n e f =
@@ -220,6 +220,6 @@ same_silent m n e f =
     ap A e ∙ ap B f
 
 pub silent_turn : (m n : Silent) (line answer : List ℕ) (turn : Turn) → Turns Explores m.explorer line n.explorer (Ok turn) answer → Notes m.short answer n.short
-    → (turn ≡ turn.Quit → n.short ≡ m.short) → Turns Silently m line n (Ok turn) []
-silent_turn m n line answer turn.Answered h noted ends = λ part kept. ((refl, answer, (h part kept).0, noted), (h part kept).1)
-silent_turn m n line answer turn.Quit h noted ends = (h.0, same_silent m n h.1 (ends refl), refl)
+    → (turn ≡ turns.Quit → n.short ≡ m.short) → Turns Silently m line n (Ok turn) []
+silent_turn m n line answer turns.Answered h noted ends = λ part kept. ((refl, answer, (h part kept).0, noted), (h part kept).1)
+silent_turn m n line answer turns.Quit h noted ends = (h.0, same_silent m n h.1 (ends refl), refl)

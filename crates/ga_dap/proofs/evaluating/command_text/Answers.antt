@@ -1,4 +1,4 @@
-use Rattle.std.proofs.Common.{◌≡◌, ◌∙◌, ℕ, List, [], ◌++◌, Some, refl, sym, ap, subst}
+use Rattle.std.proofs.Common.{rules, ◌≡◌, ◌∙◌, ℕ, List, [], ◌++◌, Some, refl, sym, ap, subst}
 use Rattle.std.proofs.lemmas.List.{append-nil}
 use Rattle.ga_text.specs.Lines.{Text}
 use Rattle.ga_text.specs.Output.{IsSaid}
@@ -24,10 +24,13 @@ returns-in-Ok-clause-told c =
     let part = h.1 c.args.line.now c.front_of_line.ensures in
     let told = c.in-Ok.ensures.said.1 [] h.0 h.2 in
     let e : h.0 ≡ told.sent = told.splits ∙ ap (λ (z : List ℕ). told.sent ++ z) c.in-Ok.ensures.sent ∙ append-nil told.sent in
-    let whole : c.send.new.self.stream.now.items ≡ h.0 = cc in (
+    let whole : c.send.new.self.stream.now.items ≡ h.0 = cc in
+    let begins = c.new-said.ensures.same in
+    let goes_on = c.in-Ok-Answered.ensures.0 in
+    let ends = c.in-Ok.ensures.said.0 in (
       refl,
       subst (λ (z : Text). Explores (parts_explored c.args.program.now.lab c.args.program.now.source) c.args.line.now z (parts_explored c.answer_line.new.lab c.args.program.now.source))
-          (sym whole) part.0,
+          (search rules) part.0,
       part.1,
     )
 

@@ -15,7 +15,7 @@ both_ok (Err y) P Q p q = p
 
 pub layout-requires-clause-few : goal.layout-requires-clause-few
 layout-requires-clause-few c =
-    omega (arith, drawn_few c.as_slice.result.now (is_marked c.ready_nodes-ready.result) (is_marked c.find_idle-idle.result) c.args.view _ _ c.in_ok-items.ensures)
+    omega (arith, drawn_few c.as_slice.result.now (is_marked c.ready_nodes-ready.result) (is_marked c.find_idle-idle.result) c.args.view _ _ c.in_ok-items.ensures, c.in_ok-causes.ensures.few)
 
 pub layout-requires-clause-simple : goal.layout-requires-clause-simple
 layout-requires-clause-simple c =
