@@ -27,10 +27,12 @@ returns-in-Ok-clause-told c =
     let whole : c.send.new.self.stream.now.items ≡ h.0 = cc in
     let begins = c.new-said.ensures.same in
     let goes_on = c.in-Ok-Answered.ensures.0 in
-    let ends = c.in-Ok.ensures.said.0 in (
+    let ends = c.in-Ok.ensures.said.0 in
+    let name : c.send.new.self.stream.ghost_name ≡ c.new-said.result.stream.ghost_name = ends ∙ goes_on in
+    let left = c.answer-in-Ok-Answered-1.given.1 (sym (name ∙ begins)) in (
       refl,
       subst (λ (z : Text). Explores (parts_explored c.args.program.now.lab c.args.program.now.source) c.args.line.now z (parts_explored c.answer_line.new.lab c.args.program.now.source))
-          (search rules) part.0,
+          (sym whole ∙ ap (λ v. v.items) (sym left)) part.0,
       part.1,
     )
 
