@@ -23,6 +23,7 @@ use Rattle.ga_image.specs.declared.field.Field.TheVariants.{A, B, P, I, Io, Carr
 use Rattle.ga_image.specs.declared.field.Format.TheVariants.{Two}
 use Rattle.ga_text.specs.Lines.{lines_of, with_byte}
 use Rattle.ga_text.proofs.Numbers.{digit_spelled, past_byte}
+use Rattle.ga_image.proofs.Spelled.{AreSix}
 
 -- one piece behind another
 pub grown : (old mid new a b : List ℕ) → mid ≡ old ++ a → new ≡ mid ++ b → new ≡ old ++ (a ++ b)
@@ -230,10 +231,6 @@ lower_numbers (Ram cell) words = lower_cell cell words
 lower_numbers (Rom cell) words = lower_cell cell words
 
 -- ---- spelling
-
--- words that a line can give
-abbrev pub AreSix : List ℕ → Type 0
-AreSix words = AllByRecursion (λ word. word < 2 ^ 24) words
 
 -- one number of a field, or as many words as the field has
 abbrev IsCodeLine : Field → List ℕ → Type 0

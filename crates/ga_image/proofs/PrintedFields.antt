@@ -18,7 +18,8 @@ use Rattle.ga_image.specs.declared.field.Field.TheVariants.{A, B, P, I, Io, Carr
 use Rattle.ga_image.specs.Fields.{writes, number_of}
 use Rattle.ga_image.specs.Grammar.{all_writes, IsFieldLine}
 use Rattle.ga_image.specs.Printing.{AreWords, line_unless, row_of_words, memory_lines, register_lines, state_lines, lines_beside, IsSoundRecord, HasSides, HoldsWords}
-use Rattle.ga_image.proofs.Pieces.{IsLine, AreSix}
+use Rattle.ga_image.proofs.Pieces.{IsLine}
+use Rattle.ga_image.proofs.Spelled.{AreSix}
 use Rattle.std.proofs.Math.Seq.{take-add}
 
 -- ---- each line

@@ -1,6 +1,6 @@
 -- What plain words ask for: cells of data, addresses and registers, by numbers alone (docs/REFERENCE.md, "Source"; this project's
 -- own). A source without labels, opcodes and control words, as a chip's image written out, is of such words alone.
-use Rattle.std.specs.Prelude.{ℕ, ◌≡◌, ◌+◌, ◌*◌, ◌-◌, nat_le, nat_lt, ◌&&◌, ◌||◌, is_none, if◌then◌else◌, List, [], ◌∷◌, ◌++◌, map, drop, slice_index_or, codes, bytes_eq, Bool, true, false, Option, Some, None, option_map}
+use Rattle.std.specs.Prelude.{ℕ, nat_le, nat_lt, ◌&&◌, ◌||◌, is_none, if◌then◌else◌, List, [], ◌∷◌, ◌++◌, map, codes, bytes_eq, Bool, true, false, Option, Some, None, option_map}
 use Rattle.ga_grid.specs.Grid.{node_of, node_number}
 use Rattle.ga_parser.specs.declared.number.Number.{Number as NumberIn}
 use Rattle.ga_parser.specs.declared.number.Number.TheVariants.{Of, OutOfRange, Nothing}

@@ -1,10 +1,10 @@
 -- Numbers and ports as words of a source, and the words that stand for themselves (docs/REFERENCE.md, "Source" and "Addresses"; the
 -- notation is this project's own, after arrayForth).
-use Rattle.std.specs.Prelude.{ℕ, ◌+◌, ◌-◌, ◌*◌, ◌%◌, ◌==◌, nat_lt, nat_le, bit_xor, ◌&&◌, if◌then◌else◌, List, [], ◌∷◌, length, take, drop, codes, bytes_eq, Bool, Option, Some, None, true, false, ◌||◌, map, is_some}
+use Rattle.std.specs.Prelude.{ℕ, ◌-◌, ◌*◌, ◌%◌, ◌==◌, nat_lt, nat_le, bit_xor, ◌&&◌, if◌then◌else◌, List, [], ◌∷◌, length, take, drop, codes, bytes_eq, Bool, Option, Some, None, true, false, ◌||◌, map, is_some}
 use Rattle.std.specs.List.{list_all}
 use Rattle.ga_ports.specs.Steps.{◌>>=◌}
 use Rattle.ga_ports.specs.Address.{set_number}
-use Rattle.std.specs.Option.{option_or, option_and_then, option_map_or}
+use Rattle.std.specs.Option.{option_or, option_map_or}
 use Rattle.std.specs.Char.{is_digit}
 use Rattle.std.specs.Str.Parse.{digits_value}
 use Rattle.ga_parser.specs.declared.number.Number.{Number}

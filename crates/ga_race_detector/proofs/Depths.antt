@@ -1,11 +1,9 @@
 -- On how many of a node's steps the newest event of each node depends, and how many steps of another are left where each is taken back.
-use Rattle.std.proofs.Common.{◌≡◌, ℕ, suc, ◌+◌, ◌-◌, ◌<◌, ◌≤◌, max, cond, Bool, true, false, ◌||◌, inl, inr, List, [], ◌∷◌, length, take, drop, get_or, Option, Some, None, refl, sym, ◌∙◌, ap, ap₂, subst, arith, lt-ltb, le-ltb}
-use Rattle.std.specs.Prelude.{nat_lt, option_map, Result, Ok, Err, IfOk}
+use Rattle.std.proofs.Common.{◌≡◌, ℕ, suc, ◌+◌, ◌-◌, ◌<◌, ◌≤◌, max, cond, Bool, true, false, ◌||◌, inl, inr, List, [], ◌∷◌, length, get_or, Option, Some, None, refl, sym, ◌∙◌, ap, ap₂, subst, arith, lt-ltb, le-ltb}
+use Rattle.std.specs.Prelude.{nat_lt, option_map}
 use Rattle.std.specs.List.{list_any}
 use Rattle.std.proofs.Math.Path.{fun_ext}
 use Rattle.std.proofs.lemmas.Bool.{cases_Bool, cases_lt, or_left, both_ways}
-use Rattle.std.proofs.lemmas.List.{take_more, drop_more, take_all, drop_all}
-use Rattle.std.proofs.lemmas.List.Sums.{sum_by-append}
 use Rattle.ga_ports.specs.declared.side.Side.TheVariants.{Right, Down, Left, Up}
 use Rattle.ga_grid.specs.Grid.{neighbour_of}
 use Rattle.ga_event.specs.declared.event.Cause.{Cause}
@@ -391,51 +389,3 @@ going_last all r m known made count left filled g all_made fill = record { size 
 
     each : (k : ℕ) → k < length filled → get_or filled k 0 ≡ touching m (rewound_list all r (k + 1))
     each k l = left_at k l ∙ ap (λ (z : ℕ). touching m (rewound_list all r z)) (let q : suc k ≡ k + 1 = omega arith in q)
-
--- ---- as the code reads the list
-
-pub touching_next : (n : ℕ) (es : List Cause) (i : ℕ) (e : Cause) → i < length es → e ≡ get_or es i e → touching n (take (i + 1) es) ≡ touching n (take i es) + cond (cause_touches e n) 1 0
-touching_next n es i e l is =
-    ap (touching n) (take_more es i e l)
-    ∙ sum_by-append (λ (x : Cause). cond {A = ℕ} (cause_touches x n) 1 0) (take i es) (get_or es i e ∷ [])
-    ∙ ap (λ (z : ℕ). touching n (take i es) + z)
-    (touching-cons n (get_or es i e) [] ∙ ap (λ (z : Cause). cond {A = ℕ} (cause_touches z n) 1 0 + touching n []) (sym is)
-    ∙ (let x : ℕ = cond (cause_touches e n) 1 0 in let q : x + 0 ≡ x = omega arith in q))
-
-pub behind_here : (es : List Cause) (i : ℕ) (e : Cause) → i < length es → e ≡ get_or es i e → drop i es ≡ e ∷ drop (i + 1) es
-behind_here es i e l is = drop_more es i e l ∙ ap (λ (z : Cause). z ∷ drop (i + 1) es) (sym is)
-
-pub going_end : (all : List Cause) (r m : ℕ) (known : ℕ → ℕ) (made count i : ℕ) (left filled : List ℕ) → length all ≤ i → IsGoing all r m known made count left (drop i all)
-    → made ≡ touching r (take i all) → IsFilled left filled made count → AreLeft all r m filled
-going_end all r m known made count i left filled past g counted fill =
-    going_last all r m known made count left filled (subst (IsGoing all r m known made count left) (drop_all i all past) g) (counted ∙ ap (touching r) (take_all i all past)) fill
-
--- where no event came yet
-pub going_none : (all : List Cause) (r m : ℕ) (known : ℕ → ℕ) (left : LeftOf) → ((n : ℕ) → known n ≡ 0) → left.count ≡ 0 → left.list.items ≡ [] → IsGoing all r m known 0 left.count left.list.items all
-going_none all r m known left none count list =
-    subst (λ (z : ℕ). IsGoing all r m known 0 z left.list.items all) (sym count)
-    (subst (λ (z : List ℕ). IsGoing all r m known 0 0 z all) (sym list) (going_first all r m known none))
-
-pub one_most : (b : Bool) (x y i : ℕ) → y ≡ x + cond {A = ℕ} b 1 0 → x ≤ i → y ≤ i + 1
-one_most true x y i q l = omega (arith, q, l)
-one_most false x y i q l = omega (arith, q, l)
-
-pub if_ok : {T E : Type 0} {A B : T → Type 0} → (r : Result T E) → ((x : T) → A x → B x) → IfOk r A → IfOk r B
-if_ok (Ok x) f h = f x h
-if_ok (Err e) f h = h
-
--- an event that isn't one of its steps is passed by
-pub passed_by : (left : LeftOf) (e : Cause) (d : ℕ) → cause_touches e left.node.number ≡ false → IsTaken left left e d
-passed_by left e d off = record {
-  node = refl;
-  count = (let q : left.count ≡ left.count + 0 = omega arith in q) ∙ ap (λ (b : Bool). left.count + cond {A = ℕ} b 1 0) (sym off);
-  list = subst (λ (b : Bool). IsFilled left.list.items left.list.items (cond b d (length left.list.items)) left.count) (sym off)
-      (record { size = omega arith; same = λ k l. refl; more = λ k l m. absurd (omega (arith, l, m)) });
-}
-
-pub taken_by : (old new : LeftOf) (e : Cause) (d : ℕ) → cause_touches e old.node.number ≡ true → new.node ≡ old.node → new.count ≡ old.count + 1 → IsFilled old.list.items new.list.items d old.count → IsTaken old new e d
-taken_by old new e d on node count filled = record {
-  node = node;
-  count = count ∙ ap (λ (b : Bool). old.count + cond {A = ℕ} b 1 0) (sym on);
-  list = subst (λ (b : Bool). IsFilled old.list.items new.list.items (cond b d (length old.list.items)) old.count) (sym on) filled;
-}

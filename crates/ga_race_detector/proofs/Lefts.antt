@@ -1,10 +1,10 @@
 -- How many steps would be left around the looks of a list.
-use Rattle.std.proofs.Common.{◌≡◌, ℕ, ◌+◌, ◌-◌, ◌<◌, ◌≤◌, cond, inl, inr, List, ◌∷◌, length, take, drop, get_or, set, Option, Some, None, sym, ◌∙◌, ap, subst, arith, get_or-set_other}
+use Rattle.std.proofs.Common.{◌≡◌, ℕ, ◌+◌, ◌-◌, ◌<◌, ◌≤◌, cond, inl, inr, List, ◌∷◌, length, take, drop, get_or, set, Option, Some, None, sym, ◌∙◌, ap, subst, arith, get_or-set_other, Bool, true, false, [], refl}
 use Rattle.std.specs.Prelude.{slice_index, ◌^◌, Result, Ok, Err, IfOk}
 use Rattle.std.specs.List.{All}
 use Rattle.std.proofs.lemmas.Bool.{cases_eq, cases_lt}
 use Rattle.std.proofs.lemmas.Option.{same_Some}
-use Rattle.std.proofs.lemmas.List.{get_or-set_same, get_or_default}
+use Rattle.std.proofs.lemmas.List.{get_or-set_same, get_or_default, take_more, drop_more, take_all, drop_all}
 use Rattle.std.proofs.lemmas.List.Elements.{All-get_or}
 use Rattle.std.proofs.Math.ListN.{get_or-eq_default}
 use Rattle.ga_ports.specs.declared.side.Side.{Side}
@@ -15,13 +15,66 @@ use Rattle.ga_event.specs.declared.event.Cause.{Cause}
 use Rattle.ga_causal.specs.Dependence.{cause_touches, rewound_list}
 use Rattle.ga_causal.specs.Steps.{touching}
 use Rattle.ga_lab.specs.declared.fault.LabFault.{LabFault}
-use Rattle.ga_race_detector.specs.kept.Writers.{AreLeft, IsFilled, depth}
+use Rattle.ga_race_detector.specs.kept.Writers.{AreLeft, IsFilled, depth, IsTaken}
 use Rattle.ga_race_detector.specs.kept.Glances.{IsAround, AreAround, AreFirst, AreTaken, AreFew, around_over, lists_over, sweep_over, taken_of, HangTogether, IsAroundOf, AreKnown}
 use Rattle.ga_race_detector.specs.declared.around.Around.{Around}
 use Rattle.ga_race_detector.specs.declared.around.LeftAround.{LeftAround}
 use Rattle.ga_race_detector.specs.declared.around.Sweep.{Sweep}
-use Rattle.ga_race_detector.proofs.Depths.{IsGoing, IsBehindOne, going_none, going_taken, going_end, one_most}
+use Rattle.ga_race_detector.proofs.Depths.{IsGoing, IsBehindOne, going_taken, going_last, going_first}
 use Rattle.ga_race_detector.specs.declared.glances.Glance.{Glance}
+use Rattle.std.proofs.lemmas.List.Sums.{sum_by-append}
+use Rattle.ga_causal.proofs.Places.{touching-cons}
+use Rattle.ga_race_detector.specs.declared.left.LeftOf.{LeftOf}
+
+-- ---- as the code reads the list
+
+pub touching_next : (n : ℕ) (es : List Cause) (i : ℕ) (e : Cause) → i < length es → e ≡ get_or es i e → touching n (take (i + 1) es) ≡ touching n (take i es) + cond (cause_touches e n) 1 0
+touching_next n es i e l is =
+    ap (touching n) (take_more es i e l)
+    ∙ sum_by-append (λ (x : Cause). cond {A = ℕ} (cause_touches x n) 1 0) (take i es) (get_or es i e ∷ [])
+    ∙ ap (λ (z : ℕ). touching n (take i es) + z)
+    (touching-cons n (get_or es i e) [] ∙ ap (λ (z : Cause). cond {A = ℕ} (cause_touches z n) 1 0 + touching n []) (sym is)
+    ∙ (let x : ℕ = cond (cause_touches e n) 1 0 in let q : x + 0 ≡ x = omega arith in q))
+
+pub behind_here : (es : List Cause) (i : ℕ) (e : Cause) → i < length es → e ≡ get_or es i e → drop i es ≡ e ∷ drop (i + 1) es
+behind_here es i e l is = drop_more es i e l ∙ ap (λ (z : Cause). z ∷ drop (i + 1) es) (sym is)
+
+pub going_end : (all : List Cause) (r m : ℕ) (known : ℕ → ℕ) (made count i : ℕ) (left filled : List ℕ) → length all ≤ i → IsGoing all r m known made count left (drop i all)
+    → made ≡ touching r (take i all) → IsFilled left filled made count → AreLeft all r m filled
+going_end all r m known made count i left filled past g counted fill =
+    going_last all r m known made count left filled (subst (IsGoing all r m known made count left) (drop_all i all past) g) (counted ∙ ap (touching r) (take_all i all past)) fill
+
+-- where no event came yet
+pub going_none : (all : List Cause) (r m : ℕ) (known : ℕ → ℕ) (left : LeftOf) → ((n : ℕ) → known n ≡ 0) → left.count ≡ 0 → left.list.items ≡ [] → IsGoing all r m known 0 left.count left.list.items all
+going_none all r m known left none count list =
+    subst (λ (z : ℕ). IsGoing all r m known 0 z left.list.items all) (sym count)
+    (subst (λ (z : List ℕ). IsGoing all r m known 0 0 z all) (sym list) (going_first all r m known none))
+
+pub one_most : (b : Bool) (x y i : ℕ) → y ≡ x + cond {A = ℕ} b 1 0 → x ≤ i → y ≤ i + 1
+one_most true x y i q l = omega (arith, q, l)
+one_most false x y i q l = omega (arith, q, l)
+
+pub if_ok : {T E : Type 0} {A B : T → Type 0} → (r : Result T E) → ((x : T) → A x → B x) → IfOk r A → IfOk r B
+if_ok (Ok x) f h = f x h
+if_ok (Err e) f h = h
+
+-- an event that isn't one of its steps is passed by
+pub passed_by : (left : LeftOf) (e : Cause) (d : ℕ) → cause_touches e left.node.number ≡ false → IsTaken left left e d
+passed_by left e d off = record {
+  node = refl;
+  count = (let q : left.count ≡ left.count + 0 = omega arith in q) ∙ ap (λ (b : Bool). left.count + cond {A = ℕ} b 1 0) (sym off);
+  list = subst (λ (b : Bool). IsFilled left.list.items left.list.items (cond b d (length left.list.items)) left.count) (sym off)
+      (record { size = omega arith; same = λ k l. refl; more = λ k l m. absurd (omega (arith, l, m)) });
+}
+
+pub taken_by : (old new : LeftOf) (e : Cause) (d : ℕ) → cause_touches e old.node.number ≡ true → new.node ≡ old.node → new.count ≡ old.count + 1 → IsFilled old.list.items new.list.items d old.count → IsTaken old new e d
+taken_by old new e d on node count filled = record {
+  node = node;
+  count = count ∙ ap (λ (b : Bool). old.count + cond {A = ℕ} b 1 0) (sym on);
+  list = subst (λ (b : Bool). IsFilled old.list.items new.list.items (cond b d (length old.list.items)) old.count) (sym on) filled;
+}
+
+-- ---- around the looks
 
 pub left_at : (causes : List Cause) (b m step number : ℕ) (list : List ℕ) → AreLeft causes b m list → 0 < step → step ≤ touching b causes → number ≡ slice_index list (step - 1) → number ≡ touching m (rewound_list causes b step)
 left_at causes b m step number list a first within is =

@@ -1,6 +1,6 @@
 -- A session without looks of which no step could have taken another word has no race.
 use Rattle.ga_lab.proofs.Called as Called
-use Rattle.std.proofs.Common.{◌≡◌, ℕ, List, [], ◌++◌, Option, Some, None, IsSome, true≢false, ◌↔◌, Ok, refl, sym, subst, ◌≢◌, Bool, true, false, ◌&&◌, cond, ◌∙◌, ap}
+use Rattle.std.proofs.Common.{◌≡◌, ℕ, List, [], ◌++◌, Option, Some, None, IsSome, true≢false, ◌↔◌, Ok, refl, sym, subst, ◌≢◌, Bool, ◌&&◌, cond, ◌∙◌, ap}
 use Rattle.std.specs.Prelude.{unwrap_or}
 use Rattle.ga_node.specs.Record.{NodeRecord}
 use Rattle.ga_event.specs.declared.event.Event.{Event}

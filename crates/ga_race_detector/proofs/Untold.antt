@@ -1,8 +1,8 @@
 -- A session of which no step is told as one that could have come out otherwise has no race.
-use Rattle.std.proofs.Common.{◌≡◌, ◌≢◌, ℕ, zero, suc, ◌+◌, ◌-◌, ◌<◌, ◌≤◌, ◌%◌, ◌==◌, cond, Bool, true, false, ◌||◌, ◌&&◌, ◌⊎◌, inl, inr, List, [], ◌∷◌, ◌++◌, Option, Some, None, IsSome, is_none, true≢false, Ok, eq-eqb, lt-ltb, refl, sym, ◌∙◌, ap, subst, arith}
+use Rattle.std.proofs.Common.{◌≡◌, ℕ, zero, suc, ◌+◌, ◌<◌, ◌≤◌, ◌%◌, ◌==◌, cond, Bool, true, false, ◌||◌, ◌&&◌, inl, inr, List, [], ◌∷◌, ◌++◌, Option, Some, None, IsSome, is_none, true≢false, Ok, eq-eqb, lt-ltb, refl, sym, ◌∙◌, ap, subst, arith}
 use Rattle.std.specs.Prelude.{is_some}
 use Rattle.std.specs.List.{slice_get, All}
-use Rattle.std.proofs.lemmas.Bool.{cases_Bool, cases_eq, cases_lt, or_cases, or_parts, and_parts, both_ways, eqb-true}
+use Rattle.std.proofs.lemmas.Bool.{cases_eq, or_cases, or_parts, and_parts, both_ways, eqb-true}
 use Rattle.std.proofs.lemmas.Option.{same_Some}
 use Rattle.ga_ports.specs.declared.side.Side.{Side}
 use Rattle.ga_ports.specs.declared.side.Side.TheVariants.{Right, Down, Left, Up}
@@ -20,23 +20,21 @@ use Rattle.ga_event.specs.declared.event.Cause.{Cause}
 use Rattle.ga_event.specs.declared.made.Made.{Made}
 use Rattle.ga_event.specs.declared.made.Made.TheVariants as made
 use Rattle.ga_event.specs.Touches.{touches}
-use Rattle.ga_event.specs.Apply.{Told, writes_to, reads_from, is_number, unmatched, is_look, replay}
+use Rattle.ga_event.specs.Apply.{writes_to, reads_from, is_number, unmatched, replay}
 use Rattle.ga_event.specs.Next.{next}
-use Rattle.ga_event.proofs.Nexts.{next_can, neighbour_of-within as neighbour_small}
+use Rattle.ga_event.proofs.Nexts.{neighbour_of-within as neighbour_small}
 use Rattle.ga_lab.proofs.Forward.{made_is_next}
-use Rattle.ga_event.specs.Told.{steps_of, mades_of, events_in}
-use Rattle.ga_causal.specs.Dependence.{rest, rest_from, place_of, rewound_list, NoneLooks}
+use Rattle.ga_event.specs.Told.{steps_of, events_in}
+use Rattle.ga_causal.specs.Dependence.{rewound_list, NoneLooks}
 use Rattle.ga_causal.proofs.Runs.{causes}
-use Rattle.ga_lab.specs.Machine.{State, first, chip_of, causes_of, history_of, told_by, rewound, stands}
+use Rattle.ga_lab.specs.Machine.{State, first, chip_of, causes_of, history_of, told_by, rewound}
 use Rattle.ga_lab.specs.Calls.{MachineCall, called_all}
-use Rattle.ga_lab.proofs.Called.{Runs, chip_is, told_is, runs_some, first_runs, calls_load}
-use Rattle.ga_lab.proofs.Explaining.{stands_place}
-use Rattle.ga_lab.proofs.Reasoned.{replayed}
+use Rattle.ga_lab.proofs.Called.{Runs, chip_is, runs_some, first_runs, calls_load}
 use Rattle.ga_races.specs.Orders.{CanBe, AreOrders, IsAtEnd, HasNoRace, can_go}
 use Rattle.ga_races.proofs.Orders.{beginning_within}
 use Rattle.ga_races.proofs.Rivals.{Open, open_of, one_side, one_way}
 use Rattle.ga_races.proofs.Blind.{IsBlind, NoneShowsWithin, none_races_within}
-use Rattle.ga_race_detector.specs.Races.{given, offered_by, offered, race_from, races_over, races_around, races_told, races_at, races_before, races_of, races_below, races_asked, has_look, looks_next, has_next_look, has_looks, first_ready, IsOther}
+use Rattle.ga_race_detector.specs.Races.{offered_by, offered, race_from, races_over, races_around, races_told, races_at, races_before, races_of, races_below, races_asked, has_look, looks_next, has_next_look, has_looks, first_ready, IsOther}
 use Rattle.ga_races.proofs.Ready.{none_of}
 use Rattle.ga_race_detector.proofs.Offering.{on_the_way, same_end, no_next, is_offered}
 use Rattle.std.proofs.lemmas.List.Elements.{All-nil, All-append}

@@ -180,7 +180,7 @@ impl LeftOf {
     /// # Errors
     /// `Memory` alone.
     #[inline(always)]
-    #[tactic(auto, using(crate::proofs::Depths::passed_by, crate::proofs::Depths::taken_by))]
+    #[tactic(auto, using(crate::proofs::Lefts::passed_by, crate::proofs::Lefts::taken_by))]
     pub(crate) fn take(&mut self, cause: &Cause, depth: u32) -> Result<(), LabFault>
         requires { self.old.count + 1 < 2 ^ 32 }
         ensures ok { OnOk result (IsTaken self.old self.new cause.now depth) }

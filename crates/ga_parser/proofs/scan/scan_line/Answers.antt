@@ -1,4 +1,4 @@
-use Rattle.std.proofs.Common.{ℕ, ◌∙◌, ◌+◌, ◌-◌, ◌++◌, ◌∷◌, sym, ap, arith, refl, Bool, false, true, not, [], length, append-nil}
+use Rattle.std.proofs.Common.{ℕ, ◌∙◌, ◌+◌, ◌-◌, ◌++◌, ◌∷◌, sym, ap, arith, refl, Bool, false, not, [], length, append-nil}
 use Rattle.std.proofs.lemmas.Bool.{eqb-true, eqb-false}
 use Rattle.ga_parser.specs.Saying.{parted, is_blank, source_words, spoken, all_said, columns_spoken, columns_of}
 use Rattle.ga_parser.proofs.Scanning.{hear_open, hear_remark, hear_opening, hear_nothing, hear_word, told_same, told_word, none_left, open_left, line_told, line_whole, columns_same, columns_more, columns_open, columns_remark, columns_opening, columns_nothing, columns_word, columns_none, columns_left_open, columns_line}

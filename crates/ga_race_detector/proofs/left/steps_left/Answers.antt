@@ -2,7 +2,8 @@ use Rattle.std.proofs.Common.{◌+◌, ◌∙◌, ◌<◌, ℕ, cond, length, re
 use Rattle.ga_causal.specs.Dependence.{cause_touches}
 use Rattle.ga_grid.specs.declared.node_id.NodeId.{NodeId}
 use Rattle.ga_race_detector.specs.kept.Writers.{IsTaken}
-use Rattle.ga_race_detector.proofs.Depths.{going_none, going_taken, going_end, touching_next, behind_here, one_most, if_ok, IsGoing}
+use Rattle.ga_race_detector.proofs.Depths.{going_taken, IsGoing}
+use Rattle.ga_race_detector.proofs.Lefts.{going_none, going_end, touching_next, behind_here, one_most, if_ok}
 use Rattle.ga_race_detector.proofs.left.steps_left.Goals as goal
 
 pub causes-init : goal.causes-init

@@ -1,5 +1,4 @@
-use Rattle.std.proofs.Common.{rules, arith, sym, subst, ◌≡◌, ◌∙◌, ◌++◌, ◌∷◌, [], List, length}
-use Rattle.std.proofs.lemmas.List.{length-append}
+use Rattle.std.proofs.Common.{rules, subst, ◌≡◌, ◌∙◌, ◌++◌, ◌∷◌, [], List}
 use Rattle.ga_parser.specs.declared.scan.Token.{Token}
 use Rattle.ga_source.specs.Mending.{IsAssembledOf}
 use Rattle.ga_source.proofs.Bodies.{next_mended, none_mended}

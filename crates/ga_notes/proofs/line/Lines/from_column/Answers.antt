@@ -1,4 +1,4 @@
-use Rattle.std.proofs.Common.{◌∙◌, ◌-◌, ℕ, List, ap, drop}
+use Rattle.std.proofs.Common.{◌∙◌, ℕ, List, ap, drop}
 use Rattle.ga_notes.specs.Source.{bare_line}
 use Rattle.ga_notes.proofs.LineLemmas.{trimmed_line}
 use Rattle.ga_notes.proofs.line.Lines.from_column.Goals as goal
