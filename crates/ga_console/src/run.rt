@@ -97,7 +97,7 @@ fn after_image<S: Responder, R: Read, W: Write>(
         Ok(lab) => {
             let mut session = S::open(lab);
             let mut said = Writer::ready(writer);
-            status_of(serve(alloc, input, reader, &mut said, &mut session))
+            status_of(serve(alloc, &mut session, input, reader, &mut said))
         }
         Err(fault) => refuse(writer, fault),
     }
