@@ -54,7 +54,15 @@ pub fn say_node<W: Write>(writer: &mut Writer<'_, W>, node: NodeId, at: &Node) -
     ensures { SaysExactly result (node_text node (record_of at.now)) W.contents writer.old writer.new }
 {
     writer.make_room(LINE_ROOM)?;
-    let out = &mut writer.pending;
+    push_node_line(&mut writer.pending, node, at);
+    Ok(())
+}
+
+/// Adds the text of a node.
+fn push_node_line<const ROOM: usize>(out: &mut ArrayVec<u8, ROOM>, node: NodeId, at: &Node)
+    requires { array_vec_len out.old + LINE_ROOM ≤ ROOM }
+    ensures { out.new.items ≡ out.old.items ++ node_text node (record_of at.now) }
+{
     push_text(out, b"node ");
     push_node_spaced(out, node);
     push_state(out, at);
@@ -62,7 +70,6 @@ pub fn say_node<W: Write>(writer: &mut Writer<'_, W>, node: NodeId, at: &Node) -
     push_flags(out, at);
     push_stacks(out, at);
     push_text(out, b"\n");
-    Ok(())
 }
 
 /// Says the word at an address of a node's memory, as `say` does.
