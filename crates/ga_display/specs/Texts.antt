@@ -13,7 +13,7 @@ use Rattle.ga_node.specs.declared.kind.Kind.{Kind}
 use Rattle.ga_node.specs.declared.kind.Kind.TheVariants as kind
 use Rattle.ga_grid.specs.declared.node_id.NodeId.{NodeId}
 use Rattle.ga_image.specs.FirstFault.{cause_number, cause_word}
-use Rattle.ga_text.specs.Digits.{decimal3_of, hex2_of, words_text, name_of_node, step_text}
+use Rattle.ga_text.specs.Digits.{hex2_of, words_text, name_of_node, step_text}
 use Rattle.ga_image.specs.declared.fault.ImageFault.{ImageFault}
 use Rattle.ga_event.specs.declared.made.Made.{Made}
 use Rattle.ga_event.specs.declared.made.Made.TheVariants.{Own, Pass}

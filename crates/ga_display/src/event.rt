@@ -2,15 +2,15 @@
 ghost use Rattle.std.specs.Prelude.{◌≡◌, ◌+◌, ◌≤◌, ◌<◌, ◌++◌, length, codes};
 ghost use Rattle.arrayvec.specs.ArrayVec.{array_vec_len};
 ghost use Rattle.ga_event.specs.declared.made.Made.TheVariants.{Own, Pass};
-ghost use Rattle.ga_display.specs.Texts.{made_text, kind_text, removed_text, counts_text, trace_text, chain_text, refusal_text};
+ghost use Rattle.ga_display.specs.Texts.{made_text, kind_text, refusal_text};
 
 use arrayvec::ArrayVec;
 use ga_grid::NodeId;
-use ga_lab::{Counts, LabFault, Made};
+use ga_lab::{LabFault, Made};
 use ga_node::Kind;
 use ga_text::{
-    LINE_ROOM, NUMBER_ROOM, hex2, push_eight, push_node, push_node_spaced, push_number,
-    push_spaced, push_step, push_text,
+    LINE_ROOM, NUMBER_ROOM, hex2, push_eight, push_node_spaced, push_number, push_spaced,
+    push_step, push_text,
 };
 use ga_word::Word18;
 
@@ -129,54 +129,6 @@ fn push_end<const ROOM: usize>(out: &mut ArrayVec<u8, ROOM>, kind: Kind)
             push_text(out, b"\n");
         }
     }
-}
-
-/// Adds how many events were removed, and how many are kept.
-pub fn push_removed<const ROOM: usize>(out: &mut ArrayVec<u8, ROOM>, removed: u32, kept: u32)
-    requires { array_vec_len out.old + LINE_ROOM ≤ ROOM }
-    ensures { out.new.items ≡ out.old.items ++ removed_text removed kept }
-{
-    push_text(out, b"removed ");
-    push_number(out, u64::from(removed));
-    push_text(out, b" kept ");
-    push_number(out, u64::from(kept));
-    push_text(out, b"\n");
-}
-
-/// Adds how many events are kept, how many were ever made, and how many may be kept.
-pub fn push_counts<const ROOM: usize>(out: &mut ArrayVec<u8, ROOM>, counts: Counts)
-    requires { array_vec_len out.old + LINE_ROOM ≤ ROOM }
-    ensures { out.new.items ≡ out.old.items ++ counts_text counts.kept counts.made counts.limit }
-{
-    push_text(out, b"kept ");
-    push_number(out, u64::from(counts.kept));
-    push_text(out, b" made ");
-    push_number(out, counts.made);
-    push_text(out, b" limit ");
-    push_number(out, u64::from(counts.limit));
-    push_text(out, b"\n");
-}
-
-/// Adds the line before so many steps of a node.
-pub fn push_trace<const ROOM: usize>(out: &mut ArrayVec<u8, ROOM>, node: NodeId, count: usize)
-    requires { array_vec_len out.old + LINE_ROOM ≤ ROOM }
-    ensures { out.new.items ≡ out.old.items ++ trace_text node count }
-{
-    push_text(out, b"trace ");
-    push_node(out, node);
-    push_text(out, b" ");
-    push_number(out, count as u64);
-    push_text(out, b"\n");
-}
-
-/// Adds the line before a chain of so many events.
-pub fn push_chain<const ROOM: usize>(out: &mut ArrayVec<u8, ROOM>, count: usize)
-    requires { array_vec_len out.old + LINE_ROOM ≤ ROOM }
-    ensures { out.new.items ≡ out.old.items ++ chain_text count }
-{
-    push_text(out, b"chain ");
-    push_number(out, count as u64);
-    push_text(out, b"\n");
 }
 
 /// The text of a refused call.

@@ -8,6 +8,5 @@ mod saying;
 
 pub use event::{push_made, refusal_text};
 pub use fault_text::put_fault;
-pub use saying::{
-    say_chain_count, say_counts, say_made, say_memory, say_node, say_removed, say_trace,
-};
+pub use node_text::{say_memory, say_node};
+pub use saying::{say_chain_count, say_counts, say_made, say_removed, say_trace};

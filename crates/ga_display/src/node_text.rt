@@ -4,16 +4,18 @@ ghost use Rattle.arrayvec.specs.ArrayVec.{array_vec_len};
 ghost use Rattle.ga_word.specs.Word.{hex6_of};
 ghost use Rattle.ga_node.specs.Record.{record_of};
 ghost use Rattle.ga_text.specs.Digits.{words_text};
+ghost use Rattle.ga_text.specs.Output.{SaysExactly};
 ghost use Rattle.ga_display.specs.Texts.{node_text, memory_text, state_text, sides_text, register_text, registers_text, flags_text, stacks_text};
 
 use arrayvec::ArrayVec;
 use ga_grid::NodeId;
 use ga_node::{Node, Place, Wait};
 use ga_text::{
-    LINE_ROOM, NUMBER_ROOM, WORD_ROOM, push_byte, push_digit, push_node, push_number, push_spaced,
-    push_text, push_word,
+    LINE_ROOM, NUMBER_ROOM, Spoken, WORD_ROOM, Writer, hex2, push_digit, push_node_spaced,
+    push_number, push_spaced, push_text, push_word,
 };
 use ga_word::Word18;
+use std::io::Write;
 
 /// How many words the data stack has.
 const DATA_WORDS: u8 = 10;
@@ -44,14 +46,25 @@ const RETURNS_ROOM: usize = 9 * (1 + WORD_ROOM);
 /// The bytes of both stacks, each behind its name.
 const STACKS_ROOM: usize = b" d".len() + DATA_ROOM + b" r".len() + RETURNS_ROOM;
 
+/// Says the text of a node, as `say` does.
+///
+/// # Errors
+/// A write failed.
+pub fn say_node<W: Write>(writer: &mut Writer<'_, W>, node: NodeId, at: &Node) -> Spoken
+    ensures { SaysExactly result (node_text node (record_of at.now)) W.contents writer.old writer.new }
+{
+    writer.make_room(LINE_ROOM)?;
+    push_node_line(&mut writer.pending, node, at);
+    Ok(())
+}
+
 /// Adds the text of a node.
-pub fn push_node_line<const ROOM: usize>(out: &mut ArrayVec<u8, ROOM>, node: NodeId, at: &Node)
+fn push_node_line<const ROOM: usize>(out: &mut ArrayVec<u8, ROOM>, node: NodeId, at: &Node)
     requires { array_vec_len out.old + LINE_ROOM ≤ ROOM }
     ensures { out.new.items ≡ out.old.items ++ node_text node (record_of at.now) }
 {
     push_text(out, b"node ");
-    push_node(out, node);
-    push_text(out, b" ");
+    push_node_spaced(out, node);
     push_state(out, at);
     push_registers(out, at);
     push_flags(out, at);
@@ -59,23 +72,26 @@ pub fn push_node_line<const ROOM: usize>(out: &mut ArrayVec<u8, ROOM>, node: Nod
     push_text(out, b"\n");
 }
 
-/// Adds the word at an address of a node's memory.
-pub fn push_memory_line<const ROOM: usize>(
-    out: &mut ArrayVec<u8, ROOM>,
+/// Says the word at an address of a node's memory, as `say` does.
+///
+/// # Errors
+/// A write failed.
+pub fn say_memory<W: Write>(
+    writer: &mut Writer<'_, W>,
     node: NodeId,
     address: u8,
     word: Word18,
-)
-    requires { array_vec_len out.old + LINE_ROOM ≤ ROOM }
-    ensures { out.new.items ≡ out.old.items ++ memory_text node address word }
+) -> Spoken
+    ensures { SaysExactly result (memory_text node address word) W.contents writer.old writer.new }
 {
+    writer.make_room(LINE_ROOM)?;
+    let out = &mut writer.pending;
     push_text(out, b"mem ");
-    push_node(out, node);
-    push_text(out, b" ");
-    push_byte(out, address);
-    push_text(out, b" ");
-    push_word(out, word);
+    push_node_spaced(out, node);
+    push_text(out, &hex2(address));
+    push_spaced(out, word);
     push_text(out, b"\n");
+    Ok(())
 }
 
 /// Adds whether the node runs, what it waits for, or how it is stopped.
@@ -175,27 +191,11 @@ fn push_stacks<const ROOM: usize>(out: &mut ArrayVec<u8, ROOM>, node: &Node)
     ensures len { array_vec_len out.new ≡ array_vec_len out.old + STACKS_ROOM }
 {
     push_text(out, b" d");
-    push_data(out, node);
-    push_text(out, b" r");
-    push_returns(out, node);
-}
-
-fn push_data<const ROOM: usize>(out: &mut ArrayVec<u8, ROOM>, node: &Node)
-    requires { array_vec_len out.old + DATA_ROOM ≤ ROOM }
-    ensures text { out.new.items ≡ out.old.items ++ words_text (record_of node.now).d }
-    ensures len { array_vec_len out.new ≡ array_vec_len out.old + DATA_ROOM }
-{
-    'words: for place in 0..DATA_WORDS {
+    'data: for place in 0..DATA_WORDS {
         push_value(out, node.d(place));
     }
-}
-
-fn push_returns<const ROOM: usize>(out: &mut ArrayVec<u8, ROOM>, node: &Node)
-    requires { array_vec_len out.old + RETURNS_ROOM ≤ ROOM }
-    ensures text { out.new.items ≡ out.old.items ++ words_text (record_of node.now).r }
-    ensures len { array_vec_len out.new ≡ array_vec_len out.old + RETURNS_ROOM }
-{
-    'words: for place in 0..RETURN_WORDS {
+    push_text(out, b" r");
+    'returns: for place in 0..RETURN_WORDS {
         push_value(out, node.r(place));
     }
 }

@@ -2,17 +2,30 @@
 ghost use Rattle.std.specs.Prelude.{◌≡◌, ◌++◌};
 ghost use Rattle.ga_text.specs.Lines.{Bytes};
 ghost use Rattle.ga_text.specs.Output.{SaysExactly};
-ghost use Rattle.ga_display.specs.Texts.{made_text, removed_text, node_text, memory_text, counts_text, trace_text, chain_text};
-ghost use Rattle.ga_node.specs.Record.{record_of};
+ghost use Rattle.ga_display.specs.Texts.{made_text, removed_text, counts_text, trace_text, chain_text};
 
-use super::event::{push_chain, push_counts, push_made, push_removed, push_trace};
-use super::node_text::{push_memory_line, push_node_line};
+use super::event::push_made;
 use ga_grid::NodeId;
 use ga_lab::{Counts, Made};
-use ga_node::Node;
-use ga_text::{LINE_ROOM, Spoken, Writer};
-use ga_word::Word18;
+use ga_text::{LINE_ROOM, Spoken, Writer, push_node_spaced, push_number, push_text};
 use std::io::Write;
+
+/// Says how many events were removed and how many are kept, as `say` does.
+///
+/// # Errors
+/// A write failed.
+pub fn say_removed<W: Write>(writer: &mut Writer<'_, W>, removed: u32, kept: u32) -> Spoken
+    ensures { SaysExactly result (removed_text removed kept) W.contents writer.old writer.new }
+{
+    writer.make_room(LINE_ROOM)?;
+    let out = &mut writer.pending;
+    push_text(out, b"removed ");
+    push_number(out, u64::from(removed));
+    push_text(out, b" kept ");
+    push_number(out, u64::from(kept));
+    push_text(out, b"\n");
+    Ok(())
+}
 
 /// Says the text of an event, as `say` does.
 ///
@@ -27,47 +40,6 @@ pub fn say_made<W: Write>(writer: &mut Writer<'_, W>, made: Made) -> Spoken
     Ok(())
 }
 
-/// Says how many events were removed and how many are kept, as `say` does.
-///
-/// # Errors
-/// A write failed.
-pub fn say_removed<W: Write>(writer: &mut Writer<'_, W>, removed: u32, kept: u32) -> Spoken
-    ensures { SaysExactly result (removed_text removed kept) W.contents writer.old writer.new }
-{
-    writer.make_room(LINE_ROOM)?;
-    push_removed(&mut writer.pending, removed, kept);
-    Ok(())
-}
-
-/// Says the text of a node, as `say` does.
-///
-/// # Errors
-/// A write failed.
-pub fn say_node<W: Write>(writer: &mut Writer<'_, W>, node: NodeId, at: &Node) -> Spoken
-    ensures { SaysExactly result (node_text node (record_of at.now)) W.contents writer.old writer.new }
-{
-    writer.make_room(LINE_ROOM)?;
-    push_node_line(&mut writer.pending, node, at);
-    Ok(())
-}
-
-/// Says the word at an address of a node's memory, as `say` does.
-///
-/// # Errors
-/// A write failed.
-pub fn say_memory<W: Write>(
-    writer: &mut Writer<'_, W>,
-    node: NodeId,
-    address: u8,
-    word: Word18,
-) -> Spoken
-    ensures { SaysExactly result (memory_text node address word) W.contents writer.old writer.new }
-{
-    writer.make_room(LINE_ROOM)?;
-    push_memory_line(&mut writer.pending, node, address, word);
-    Ok(())
-}
-
 /// Says how many events are kept, were ever made and may be kept, as `say` does.
 ///
 /// # Errors
@@ -76,7 +48,14 @@ pub fn say_counts<W: Write>(writer: &mut Writer<'_, W>, counts: Counts) -> Spoke
     ensures { SaysExactly result (counts_text counts.kept counts.made counts.limit) W.contents writer.old writer.new }
 {
     writer.make_room(LINE_ROOM)?;
-    push_counts(&mut writer.pending, counts);
+    let out = &mut writer.pending;
+    push_text(out, b"kept ");
+    push_number(out, u64::from(counts.kept));
+    push_text(out, b" made ");
+    push_number(out, counts.made);
+    push_text(out, b" limit ");
+    push_number(out, u64::from(counts.limit));
+    push_text(out, b"\n");
     Ok(())
 }
 
@@ -88,7 +67,11 @@ pub fn say_trace<W: Write>(writer: &mut Writer<'_, W>, node: NodeId, count: usiz
     ensures { SaysExactly result (trace_text node count) W.contents writer.old writer.new }
 {
     writer.make_room(LINE_ROOM)?;
-    push_trace(&mut writer.pending, node, count);
+    let out = &mut writer.pending;
+    push_text(out, b"trace ");
+    push_node_spaced(out, node);
+    push_number(out, count as u64);
+    push_text(out, b"\n");
     Ok(())
 }
 
@@ -100,6 +83,9 @@ pub fn say_chain_count<W: Write>(writer: &mut Writer<'_, W>, count: usize) -> Sp
     ensures { SaysExactly result (chain_text count) W.contents writer.old writer.new }
 {
     writer.make_room(LINE_ROOM)?;
-    push_chain(&mut writer.pending, count);
+    let out = &mut writer.pending;
+    push_text(out, b"chain ");
+    push_number(out, count as u64);
+    push_text(out, b"\n");
     Ok(())
 }

@@ -1,10 +1,9 @@
 //! Source in, the image of its chip out.
-ghost use Rattle.ga_text.specs.Output.{WritesText, ReadsAndWrites};
+ghost use Rattle.ga_text.specs.Output.{ReadsAndWrites};
 ghost use Rattle.std.specs.Prelude.{◌≡◌, ◌++◌, Some, IfSome};
 ghost use Rattle.ga_text.specs.Lines.{Bytes};
 ghost use Rattle.ga_console.specs.kept.Run.{Writes};
 ghost use Rattle.ga_listing.specs.Source.{IsAssembly, Assembles};
-ghost use Rattle.ga_listing.specs.kept.{Assembly};
 
 use super::reading::read_source;
 use ga_console::Status;
@@ -29,23 +28,11 @@ pub fn assemble_source<R: Read, W: Write, E: Write>(
         (R.remaining reader.old) (R.remaining reader.new) (W.contents writer.old) (W.contents writer.new) }
 {
     match read_source(alloc, reader, errors) {
-        Ok(source) => assemble_text(alloc, writer, errors, source),
+        Ok(source) => match image_of(alloc, errors, source) {
+            Some(image) => write_text(writer, image),
+            None => Status::ImageRefused,
+        },
         Err(status) => status,
-    }
-}
-
-/// Writes the image of a source, or tells the source's fault.
-fn assemble_text<W: Write, E: Write>(
-    alloc: Global,
-    writer: &mut W,
-    errors: &mut E,
-    source: Vec<u8>,
-) -> Status
-    ensures { WritesText (λ text. Assembly source.items text result) (W.contents writer.old) (W.contents writer.new) }
-{
-    match image_of(alloc, errors, source) {
-        Some(image) => write_text(writer, image),
-        None => Status::ImageRefused,
     }
 }
 

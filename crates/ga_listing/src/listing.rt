@@ -1,5 +1,5 @@
 //! Source in, a listing of its cells out.
-ghost use Rattle.ga_text.specs.Output.{WritesText, ReadsAndWrites};
+ghost use Rattle.ga_text.specs.Output.{ReadsAndWrites};
 ghost use Rattle.std.specs.Prelude.{◌≡◌, ◌≤◌, ◌<◌, ◌++◌, [], ◌∷◌, codes, length, Some, None, IfOk, IfSome, OnOk, slice_index};
 ghost use Rattle.ga_text.specs.Lines.{Bytes};
 ghost use Rattle.hex.specs.Hex.{lower_digits};
@@ -38,26 +38,14 @@ pub fn list_source<R: Read, W: Write, E: Write>(
         (R.remaining reader.old) (R.remaining reader.new) (W.contents writer.old) (W.contents writer.new) }
 {
     match read_source(alloc, reader, errors) {
-        Ok(source) => list_text(alloc, writer, errors, source.as_slice()),
+        Ok(source) => match listing_of(alloc, source.as_slice()) {
+            Ok(listed) => write_listed(writer, errors, listed),
+            Err(_) => {
+                tell_memory(errors);
+                Status::ImageRefused
+            }
+        },
         Err(status) => status,
-    }
-}
-
-/// Writes the listing of a source, and tells its first fault.
-fn list_text<W: Write, E: Write>(
-    alloc: Global,
-    writer: &mut W,
-    errors: &mut E,
-    source: &[u8],
-) -> Status
-    ensures { WritesText (λ text. Listing source.now text result) (W.contents writer.old) (W.contents writer.new) }
-{
-    match listing_of(alloc, source) {
-        Ok(listed) => write_listed(writer, errors, listed),
-        Err(_) => {
-            tell_memory(errors);
-            Status::ImageRefused
-        }
     }
 }
 

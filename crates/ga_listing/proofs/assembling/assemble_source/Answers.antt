@@ -1,20 +1,26 @@
-use Rattle.std.proofs.Common.{[], Some, sym, ap, ◌∙◌}
+use Rattle.std.proofs.Common.{[], Some, refl, sym, ap, ◌∙◌}
 use Rattle.std.proofs.lemmas.List.{append-nil}
-use Rattle.ga_listing.proofs.Sources.{assembles, assembles_nothing}
+use Rattle.ga_listing.proofs.Sources.{assembles, assembles_nothing, assembly_written}
 use Rattle.ga_listing.proofs.assembling.assemble_source.Goals as goal
 
-pub returns-in-Ok : goal.returns-in-Ok
-returns-in-Ok g c = λ left before known held.
+pub returns-in-Some : goal.returns-in-Some
+returns-in-Some g c = λ left before known held.
     let got = c.in-Ok.ensures left known in
-    let done = c.assemble_text.ensures before held in (
+    let done = c.write_text.ensures before held in (
       got.0,
       got.1,
       done.0,
       got.2,
       got.3,
       done.1,
-      assembles c.in-Ok.source.items got.4.0 got.0 got.1 done.0 c.assemble_text.result got.4.1 got.4.2 done.2,
+      assembles c.in-Ok.source.items got.4.0 got.0 got.1 done.0 c.write_text.result got.4.1 got.4.2
+          (assembly_written c.in-Ok.source.items c.in-Some.image.items done.0 c.write_text.result c.in-Some.ensures done.2),
     )
+
+pub returns-in-None : goal.returns-in-None
+returns-in-None g c = λ left before known held.
+    let got = c.in-Ok.ensures left known in
+    (got.0, got.1, [], got.2, got.3, held ∙ ap Some (sym (append-nil before)), refl)
 
 pub returns-in-Err : goal.returns-in-Err
 returns-in-Err g c = λ left before known held.

@@ -12,7 +12,7 @@ use Rattle.ga_console.specs.declared.responder.Turn.{Turn}
 use Rattle.ga_console.specs.declared.command.Command.{Command}
 use Rattle.ga_console.specs.declared.command.Command.TheVariants.{Quit}
 use Rattle.ga_text.proofs.SaidLemmas.{cut_here, said_pending}
-use Rattle.ga_console.proofs.reply.answer.Goals as goal
+use Rattle.ga_console.proofs.responder.answer.Goals as goal
 
 too_long : (line part : List ℕ) → line ≡ take 201 part → 200 < length line → 200 < length part
 too_long line part e h = omega (arith, ap length e, length-take 201 part)

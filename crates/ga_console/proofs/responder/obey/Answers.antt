@@ -1,4 +1,4 @@
-use Rattle.ga_console.proofs.reply.obey.Goals as goal
+use Rattle.ga_console.proofs.responder.obey.Goals as goal
 
 pub returns-in-Step : goal.returns-in-Step
 returns-in-Step g c = rw c.in-Step.is c.step.ensures

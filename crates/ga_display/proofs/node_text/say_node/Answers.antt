@@ -2,7 +2,7 @@ use Rattle.std.proofs.Common.{rules, ◌++◌}
 use Rattle.ga_node.specs.Record.{record_of}
 use Rattle.ga_display.specs.Texts.{node_text}
 use Rattle.ga_text.proofs.SaidLemmas.{cut_more, cut_here}
-use Rattle.ga_display.proofs.saying.say_node.Goals as goal
+use Rattle.ga_display.proofs.node_text.say_node.Goals as goal
 
 pub returns-in_err-make_room : goal.returns-in_err-make_room
 returns-in_err-make_room g c = (

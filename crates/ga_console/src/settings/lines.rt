@@ -1,0 +1,283 @@
+//! The lines of the command line, as clap has them.
+use clap::builder::ValueParser;
+use clap::{Arg, ArgAction, Command, value_parser};
+use std::alloc::{AllocError, Global};
+
+/// What `ga144 --version` says behind the name: the version, and the kit that proves it.
+const VERSION: &str = "1.0 (rattle-kit-13f logic dac8208d650f15bf)";
+
+/// What `ga144 debug --help` says behind the options.
+const COMMANDS: &str = "\
+Reads from standard input: an image (lines `ga144 1` to `end`), then commands, one a line, each answered on
+standard output. So a person at a terminal types: cat IMAGE - | ga144 debug
+
+Commands (NNN is a node, three decimal digits; K a step, counted from 1; HH two hexadecimal digits):
+  step NNN           make the node's next event
+  back               take the newest event back
+  rewind NNN K       take step K of the node back, with all that depends on it
+  node NNN           show the node
+  mem NNN HH         show a word of its memory
+  trace NNN          show its steps
+  why NNN K MMM J    show by which events step K of NNN led to step J of MMM
+  count              show how many events are kept and were made
+  dump               show the chip as an image
+  quit               end
+
+Exit status: 0 done, 1 image refused, 2 a stream failed, 3 command line refused.";
+
+/// What `ga144 explore --help` says behind the options. The lines of the commands that only tell go where `{commands}` stands.
+const EXPLORING: &str = "\
+Reads an image or source (up to its line `end`) from FILE, or from standard input where none is given, and then commands from
+standard input, and knows each command of debug. So a person at a terminal types: ga144 explore fault.f18
+
+A FILE of source needs no line `end`. What stands in FILE behind its line `end` is read as the first commands.
+
+Further commands (N is a number of events; NNN and MMM are nodes, K a step, HH two and W and X six hexadecimal digits):
+  run [N] [until COND]   make events in rounds: each node that has an event makes one, in the order of their names
+  run greedy ..          each node as far as it goes
+  run random SEED ..     nodes drawn by a generator with this seed
+  back until COND        take the newest event back behind which COND held, and all since
+  back NNN until COND    take the newest such step of NNN back, with all that depends on it
+{commands}
+
+COND is one of:
+  pass NNN MMM = W       the word W went from NNN to MMM
+  pass NNN MMM J         the word with the number J went from NNN to MMM
+  step NNN K             step K of NNN was made
+  stop, stop NNN         a node, or NNN, stopped
+  wait NNN               NNN came to wait
+  mem NNN HH = W         the word of its memory is W
+  p NNN X                its P is X
+  reach NNN X            NNN came to fetch at X
+  change NNN HH [= W]    NNN wrote to its cell HH, or W
+COND or COND ..          ends at the first that holds
+
+Exit status: 0 done, 1 image refused, 2 a stream failed, 3 command line refused.";
+
+/// What `ga144 race --help` says behind the options.
+const RACES: &str = "\
+Reads an image (lines `ga144 1` to `end`) from standard input. Worker w, from 0 on, steps the node with the number w.
+
+Exit status: 0 done, 1 image refused, 2 a stream failed, 3 command line refused, 4 race not finished.";
+
+/// What `ga144 check --help` says behind the options.
+const ORDERS: &str = "\
+Reads an image or source as explore does, and nothing behind its line `end`. Runs it in every order of its nodes: two orders are one
+where they differ by swaps of steps that are free of one another.
+
+Tells how many orders there are and, of each kind of end, how many end so, which nodes stop, wait for words or poll, and which order is the first.
+`at least N orders`: there may be others, as a run was cut by a bound.
+With --session K it writes instead the lines `step NNN` that lead to the end of the Kth order.
+The answer is the same for every number of workers.
+With --settled the idle nodes have come to rest before: a look sees that they wait. A session has these steps first.
+
+Exit status: 0 all end on one chip where none stops, or a session is told, 1 image or source refused, 2 a stream failed,
+3 command line refused, 5 they end on several chips or a node stops, 6 there may be other orders.";
+
+/// What `ga144 dap --help` says.
+const EDITOR: &str = "\
+An editor starts it (docs/EDITORS.md). It is a server of the Debug Adapter Protocol over standard input and output.
+
+Exit status: 0 done, 1 out of memory, 2 a stream failed or a frame was broken, 3 command line refused.";
+
+/// What `ga144 draw --help` says behind the options.
+const PICTURES: &str = "\
+Reads what explore reads: an image or source, from FILE where one is given, then commands, one a line. Carries them out without an answer,
+and at their end writes one SVG: a line down for each node that isn't idle and doesn't work by itself, its own events as marks, passes
+as arrows with their word, waits dotted, looks dashed. An event's title says what debug says of it, and the name of its opcode.
+
+Exit status: 0 done, 1 image or step refused, 2 a stream failed, 3 command line refused.";
+
+/// The notation of source, as help shows it.
+const NOTATION: &str = "Source, words apart by blanks, tabs and line ends:
+  node YXX                    the program of a node begins
+  : NAME                      a label; NAME calls it, NAME ; jumps to it
+  12 -3 0x1f right r--- 'NAME literals: numbers, ports, addresses of labels
+  X ,                         a cell with a value
+  ..                          fill the cell
+  org N                       go on at the address N
+  /p X  /a X  /b X            registers at load
+  begin again until -until next unext while -while repeat for *next
+  if -if ahead else then      control words
+  +cy -cy                     bit 9 of the addresses of labels
+  \\ comment to the line's end   ( comment )
+  and the opcodes by their names";
+
+pub(super) const GREATEST_LIMIT: u32 = 4_000_000;
+
+pub(super) const MOST_WORKERS: u32 = 16;
+
+pub(super) const MOST_CALLS: u32 = 100_000;
+
+// What help says of each option.
+const WORKERS: &str = "How many workers there are, 1 to 16";
+
+const CALLS: &str = "How many calls each worker makes, 1 to 100000";
+
+const RUNS: &str = "How many runs are made at most, 1 to 4294967295 [default: 1000000]";
+
+const SETTLED: &str = "Let each node whose first event is to wait for code make it before all else";
+
+const SESSION: &str = "Tell the session of the Kth order, counted from 1";
+
+const SHARED_BY: &str = "How many workers share the runs, 1 to 16 [default: 1]";
+
+const PROGRESS: &str = "Tell on standard error, each second, how many runs were made";
+
+const CAUSE: &str = "Grey all but the events on which step K of the node NNN depends";
+
+const REWIND: &str = "Red what a rollback of step K of the node NNN would take";
+
+const FROM: &str = "Draw from the Pth kept event on, counted from 1";
+
+const TO: &str = "Draw up to the Pth kept event, counted from 1";
+
+const ALL: &str = "Draw what is idle or works by itself too";
+
+const ONLY: &str = "Leave out what is neither such a cause nor would be taken";
+
+const MARKED: &str = "Mark the steps that could have come out otherwise";
+
+const FOLD: &str =
+    "Draw N and more fetches and opcodes of a node in a row as one mark, 0 for none [default: 3]";
+
+const LIMIT: &str = "How many events are kept at most, 1 to 4000000 [default: 1000000]";
+
+/// The command lines of the program, as clap has them.
+pub(super) fn program<'a>(alloc: Global) -> Result<Command<'a>, AllocError> {
+    Command::new(alloc, "ga144")
+        .bin_name("ga144")?
+        .version(VERSION)
+        .subcommand_required(true)
+        .about("Simulates the GreenArrays GA144, with a debugger that takes steps back")
+        .subcommand(debug_line(alloc)?)?
+        .subcommand(explore_line(alloc)?)?
+        .subcommand(race_line(alloc)?)?
+        .subcommand(check_line(alloc)?)?
+        .subcommand(editor_line(alloc)?)?
+        .subcommand(source_line(alloc)?)?
+        .subcommand(list_line(alloc)?)?
+        .subcommand(image_line(alloc)?)?
+        .subcommand(draw_line(alloc)?)
+}
+
+fn debug_line<'a>(alloc: Global) -> Result<Command<'a>, AllocError> {
+    Command::new(alloc, "debug")
+        .about("Load an image, step its nodes, and take any step back with all that depends on it")
+        .after_help(COMMANDS)
+        .arg(limit_option(alloc))
+}
+
+fn explore_line<'a>(alloc: Global) -> Result<Command<'a>, AllocError> {
+    Command::new(alloc, "explore")
+        .about("Debug, and make events up to a condition")
+        .after_help(EXPLORING)
+        .arg(file_argument(alloc, "An image or source"))?
+        .arg(limit_option(alloc))
+}
+
+fn race_line<'a>(alloc: Global) -> Result<Command<'a>, AllocError> {
+    Command::new(alloc, "race")
+        .about("Let workers step the nodes at the same time")
+        .after_help(RACES)
+        .arg(number_option(alloc, "workers", WORKERS, MOST_WORKERS).required(true))?
+        .arg(number_option(alloc, "calls", CALLS, MOST_CALLS).required(true))?
+        .arg(limit_option(alloc))
+}
+
+fn check_line<'a>(alloc: Global) -> Result<Command<'a>, AllocError> {
+    Command::new(alloc, "check")
+        .about("Run every order of the nodes of a program, and tell how they end")
+        .after_help(ORDERS)
+        .arg(number_option(alloc, "most", RUNS, u32::MAX).value_name("N"))?
+        .arg(flag(alloc, "settled", SETTLED))?
+        .arg(number_option(alloc, "session", SESSION, u32::MAX).value_name("K"))?
+        .arg(number_option(alloc, "workers", SHARED_BY, MOST_WORKERS).value_name("W"))?
+        .arg(flag(alloc, "progress", PROGRESS))?
+        .arg(file_argument(alloc, "An image or source"))
+}
+
+fn editor_line<'a>(alloc: Global) -> Result<Command<'a>, AllocError> {
+    let line = Command::new(alloc, "dap")
+        .about("Serve an editor, which debugs source in its own windows")
+        .after_help(EDITOR);
+    Ok(line)
+}
+
+fn source_line<'a>(alloc: Global) -> Result<Command<'a>, AllocError> {
+    Command::new(alloc, "asm")
+        .about("Read source up to its end or to a line 'end', and write the image of its chip")
+        .after_help(NOTATION)
+        .arg(file_argument(alloc, "The source"))
+}
+
+fn list_line<'a>(alloc: Global) -> Result<Command<'a>, AllocError> {
+    Command::new(alloc, "list")
+        .about("Read source, and write each cell's address, word, opcodes and source line")
+        .after_help(NOTATION)
+        .arg(file_argument(alloc, "The source"))
+}
+
+fn image_line<'a>(alloc: Global) -> Result<Command<'a>, AllocError> {
+    Command::new(alloc, "dis")
+        .about("Read an image, and write source of the same memories, A, B and P")
+        .arg(file_argument(alloc, "The image"))
+}
+
+fn draw_line<'a>(alloc: Global) -> Result<Command<'a>, AllocError> {
+    Command::new(alloc, "draw")
+        .about("Carry out a session's commands, and draw the events that are kept then")
+        .after_help(PICTURES)
+        .arg(step_option(alloc, "cause", CAUSE))?
+        .arg(step_option(alloc, "rewind", REWIND))?
+        .arg(number_option(alloc, "from", FROM, u32::MAX).value_name("P"))?
+        .arg(number_option(alloc, "to", TO, u32::MAX).value_name("P"))?
+        .arg(flag(alloc, "all", ALL))?
+        .arg(flag(alloc, "only", ONLY))?
+        .arg(fold_option(alloc))?
+        .arg(flag(alloc, "races", MARKED))?
+        .arg(file_argument(alloc, "An image or source"))
+}
+
+/// From how many own steps on a run of them is drawn as one mark.
+fn fold_option<'a>(alloc: Global) -> Arg<'a> {
+    named_option(alloc, "fold", FOLD)
+        .value_parser(value_parser!(u32))
+        .value_name("N")
+}
+
+fn flag<'a>(alloc: Global, name: &'a str, help: &'a str) -> Arg<'a> {
+    named_option(alloc, name, help).action(ArgAction::SetTrue)
+}
+
+fn limit_option<'a>(alloc: Global) -> Arg<'a> {
+    number_option(alloc, "limit", LIMIT, GREATEST_LIMIT)
+}
+
+/// A step: its node, and its number.
+const STEP: [&str; 2] = ["NNN", "K"];
+
+fn step_option<'a>(alloc: Global, name: &'a str, help: &'a str) -> Arg<'a> {
+    named_option(alloc, name, help)
+        .num_args(2)
+        .value_names(&STEP)
+}
+
+/// An option of this name.
+fn named_option<'a>(alloc: Global, name: &'a str, help: &'a str) -> Arg<'a> {
+    Arg::new(alloc, name).long(name).help(help)
+}
+
+/// A number from 1 to the greatest.
+fn number_option<'a>(alloc: Global, name: &'a str, help: &'a str, greatest: u32) -> Arg<'a> {
+    named_option(alloc, name, help).value_parser(numbers_to(greatest))
+}
+
+fn numbers_to<'a>(greatest: u32) -> ValueParser<'a> {
+    value_parser!(u32).range(1..=i64::from(greatest))
+}
+
+/// A file that is read before standard input.
+fn file_argument<'a>(alloc: Global, help: &'a str) -> Arg<'a> {
+    Arg::new(alloc, "FILE").help(help)
+}
