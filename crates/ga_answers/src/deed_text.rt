@@ -36,14 +36,18 @@ pub(crate) fn push_deed(out: &mut TextBuffer, made: Made, node: NodeId)
             writer,
             writer_step,
             reader,
+            word,
+            ..
+        } if node.number == reader.number => {
+            push_pass(out, b"takes ", word, b" from ", writer, writer_step);
+        }
+        Made::Pass {
+            reader,
             reader_step,
             word,
+            ..
         } => {
-            if node.number == reader.number {
-                push_pass(out, b"takes ", word, b" from ", writer, writer_step);
-            } else {
-                push_pass(out, b"sends ", word, b" to ", reader, reader_step);
-            }
+            push_pass(out, b"sends ", word, b" to ", reader, reader_step);
         }
     }
 }
