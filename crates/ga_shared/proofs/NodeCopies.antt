@@ -1,5 +1,5 @@
 -- A node copied part by part, and chips alike node by node.
-use Rattle.std.proofs.Common.{◌≡◌, ◌<◌, ℕ, List, [], ◌∷◌, length, slice_index, Bool, true, false, refl, sym, ap, ◌∙◌, arith}
+use Rattle.std.proofs.Common.{◌≡◌, ◌<◌, ℕ, List, length, Bool, true, false, refl, sym, ap, ◌∙◌, arith}
 use Rattle.std.specs.Prelude.{◌==◌}
 use Rattle.std.specs.Int.{from_bool}
 use Rattle.std.proofs.lemmas.List.{ext_get_or, length-map}
@@ -8,24 +8,6 @@ use Rattle.ga_node.specs.Record.{NodeState, record_of}
 use Rattle.ga_grid.specs.Chip.{nowhere, node_at, records_of, record_at}
 use Rattle.ga_grid.proofs.Chips.{record_at-records_of}
 use Rattle.ga_shared.specs.kept.{with_registers}
-
--- a list of ten by its elements
-pub ten : (xs : List ℕ) (a b c d e f g h i j : ℕ) → length xs ≡ 10
-    → a ≡ slice_index xs 0 → b ≡ slice_index xs 1 → c ≡ slice_index xs 2 → d ≡ slice_index xs 3 → e ≡ slice_index xs 4
-    → f ≡ slice_index xs 5 → g ≡ slice_index xs 6 → h ≡ slice_index xs 7 → i ≡ slice_index xs 8 → j ≡ slice_index xs 9
-    → a ∷ b ∷ c ∷ d ∷ e ∷ f ∷ g ∷ h ∷ i ∷ j ∷ [] ≡ xs
-ten (_ ∷ _ ∷ _ ∷ _ ∷ _ ∷ _ ∷ _ ∷ _ ∷ _ ∷ _ ∷ []) a b c d e f g h i j size pa pb pc pd pe pf pg ph pi pj =
-    λ k. pa k ∷ pb k ∷ pc k ∷ pd k ∷ pe k ∷ pf k ∷ pg k ∷ ph k ∷ pi k ∷ pj k ∷ []
-ten xs a b c d e f g h i j size pa pb pc pd pe pf pg ph pi pj = absurd (omega arith)
-
--- a list of nine by its elements
-pub nine : (xs : List ℕ) (a b c d e f g h i : ℕ) → length xs ≡ 9
-    → a ≡ slice_index xs 0 → b ≡ slice_index xs 1 → c ≡ slice_index xs 2 → d ≡ slice_index xs 3 → e ≡ slice_index xs 4
-    → f ≡ slice_index xs 5 → g ≡ slice_index xs 6 → h ≡ slice_index xs 7 → i ≡ slice_index xs 8
-    → a ∷ b ∷ c ∷ d ∷ e ∷ f ∷ g ∷ h ∷ i ∷ [] ≡ xs
-nine (_ ∷ _ ∷ _ ∷ _ ∷ _ ∷ _ ∷ _ ∷ _ ∷ _ ∷ []) a b c d e f g h i size pa pb pc pd pe pf pg ph pi =
-    λ k. pa k ∷ pb k ∷ pc k ∷ pd k ∷ pe k ∷ pf k ∷ pg k ∷ ph k ∷ pi k ∷ []
-nine xs a b c d e f g h i size pa pb pc pd pe pf pg ph pi = absurd (omega arith)
 
 -- a carry by its number
 pub carry_back : (b : Bool) → (from_bool b == 1) ≡ b

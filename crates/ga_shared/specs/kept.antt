@@ -1,5 +1,6 @@
 -- What only private contracts and proofs name.
-use Rattle.std.specs.Prelude.{◌≡◌, ℕ, List, slice_get, Some}
+use Rattle.std.specs.Prelude.{◌≡◌, ◌<◌, ◌≤◌, ◌^◌, ℕ, List, All, map, slice_get, Some, Vec, vec_len}
+use Rattle.std.specs.Global.{Global}
 use Rattle.ga_node.specs.Record.{NodeState, fresh_node}
 use Rattle.ga_shared.specs.declared.call.Call.{Call}
 use Rattle.ga_shared.specs.Log.{Worker, fresh_worker, Works}
@@ -33,3 +34,25 @@ IsDone lists now = (calls : List Call) → slice_get lists now.number ≡ Some c
 -- each worker did, and they stand in the order of their numbers
 abbrev pub AreDone : List (List Call) → List Worker → Type 0
 AreDone lists workers = (w : ℕ) (s : Worker) → slice_get workers w ≡ Some s → (s.number ≡ w) × IsDone lists s
+
+-- ---- a race: what it begins with and what it gives back
+
+-- no list has more calls than can be counted
+abbrev pub AreShort : Vec (Vec Call Global) Global → Type 0
+AreShort lists = All (λ l. vec_len l < 2 ^ 32) lists.items
+
+-- a worker that made no call yet, and has one of the lists
+abbrev pub IsReady : Vec (Vec Call Global) Global → Worker → Type 0
+IsReady lists seat = (seat ≡ fresh_worker seat.number) × (seat.number < vec_len lists) × AreShort lists
+
+-- a worker for each of at most 16 lists, in the order of their numbers, and none made a call yet
+pub record AreReady (lists : Vec (Vec Call Global) Global) (seats : Vec Worker Global) : Type 0 where
+  pub each : vec_len seats ≡ vec_len lists
+  pub few : vec_len seats ≤ 16
+  pub fresh : (w : ℕ) → w < vec_len seats → slice_get seats.items w ≡ Some (fresh_worker w)
+  pub short : AreShort lists
+
+-- a worker for each list, in the order of their numbers, and each made all calls of its list
+pub record AreBack (lists : Vec (Vec Call Global) Global) (seats : Vec Worker Global) : Type 0 where
+  pub size : vec_len seats ≡ vec_len lists
+  pub done : AreDone (map (λ l. l.items) lists.items) seats.items

@@ -1,11 +1,7 @@
 //! Calls, their answers, and what is kept of them.
 
-ghost use Rattle.std.specs.Prelude.{◌≡◌, ◌↔◌, IsTrue};
-
 use ga_grid::NodeId;
 use ga_lab::Made;
-use ga_node::Kind;
-use ga_word::Word18;
 use thiserror::Error;
 
 /// A call of a worker.
@@ -64,96 +60,12 @@ impl Receipt {
         }
     }
 
-    /// Whether two receipts are the same. A derived comparison says less where an enum holds a node.
+    /// Whether two receipts are the same. The derived comparison says so of their parts alone.
     pub(crate) fn is_same(&self, other: &Receipt) -> bool
         ensures { IsTrue result ↔ (self.now ≡ other.now) }
     {
-        self.place == other.place
-            && is_same_call(&self.call, &other.call)
-            && is_same_answer(&self.answer, &other.answer)
+        *self == *other
     }
-}
-
-fn is_same_call(one: &Call, other: &Call) -> bool
-    ensures { IsTrue result ↔ (one.now ≡ other.now) }
-{
-    match (one, other) {
-        (Call::Step(node), Call::Step(other_node)) => is_same_node(node, other_node),
-        (Call::Rewind(node, step), Call::Rewind(other_node, other_step)) => {
-            is_same_node(node, other_node) && *step == *other_step
-        }
-        _ => false,
-    }
-}
-
-fn is_same_answer(one: &Answer, other: &Answer) -> bool
-    ensures { IsTrue result ↔ (one.now ≡ other.now) }
-{
-    match (one, other) {
-        (Answer::Made(made), Answer::Made(other_made)) => is_same_made(made, other_made),
-        (Answer::Removed(removed), Answer::Removed(other_removed)) => *removed == *other_removed,
-        (Answer::Refused(number), Answer::Refused(other_number)) => *number == *other_number,
-        _ => false,
-    }
-}
-
-fn is_same_made(one: &Made, other: &Made) -> bool
-    ensures { IsTrue result ↔ (one.now ≡ other.now) }
-{
-    match one {
-        Made::Own { node, step, kind } => match other {
-            Made::Own {
-                node: other_node,
-                step: other_step,
-                kind: other_kind,
-            } => {
-                is_same_node(node, other_node)
-                    && *step == *other_step
-                    && is_same_kind(kind, other_kind)
-            }
-            _ => false,
-        },
-        Made::Pass {
-            writer,
-            writer_step,
-            reader,
-            reader_step,
-            word,
-        } => match other {
-            Made::Pass {
-                writer: other_writer,
-                writer_step: other_writer_step,
-                reader: other_reader,
-                reader_step: other_reader_step,
-                word: other_word,
-            } => {
-                is_same_node(writer, other_writer)
-                    && *writer_step == *other_writer_step
-                    && is_same_node(reader, other_reader)
-                    && *reader_step == *other_reader_step
-                    && is_same_word(word, other_word)
-            }
-            _ => false,
-        },
-    }
-}
-
-fn is_same_node(one: &NodeId, other: &NodeId) -> bool
-    ensures { IsTrue result ↔ (one.now ≡ other.now) }
-{
-    *one == *other
-}
-
-fn is_same_kind(one: &Kind, other: &Kind) -> bool
-    ensures { IsTrue result ↔ (one.now ≡ other.now) }
-{
-    *one == *other
-}
-
-fn is_same_word(one: &Word18, other: &Word18) -> bool
-    ensures { IsTrue result ↔ (one.now ≡ other.now) }
-{
-    *one == *other
 }
 
 /// Why a shared chip was not opened, or a call of a worker not made.

@@ -1,9 +1,9 @@
 //! Workers that race for the chip, each on a thread of its own.
 
-ghost use Rattle.std.specs.Prelude.{◌≡◌, ◌<◌, ◌≤◌, ◌^◌, ℕ, All, map, IfOk, OnOk, vec_len, slice_get, Some};
+ghost use Rattle.std.specs.Prelude.{◌≡◌, ◌<◌, ◌≤◌, ◌^◌, All, map, IfOk, OnOk, vec_len};
 ghost use Rattle.ga_grid.specs.Chip.{records_of};
-ghost use Rattle.ga_shared.specs.kept.{IsDone, AreDone};
-ghost use Rattle.ga_shared.specs.Log.{Raced, fresh_worker};
+ghost use Rattle.ga_shared.specs.kept.{IsDone, IsReady, AreReady, AreBack};
+ghost use Rattle.ga_shared.specs.Log.{Raced};
 
 use crate::call::{Call, SharedFault};
 use crate::closing::Closed;
@@ -59,9 +59,7 @@ fn run<L: Ledger, G: Gate, R: Wait>(
     gate: &G,
     lists: &Vec<Vec<Call>>,
 ) -> Worked<L>
-    requires fresh { seat ≡ fresh_worker seat.number }
-    requires listed { seat.number < vec_len lists.now }
-    requires short { All (λ l. vec_len l < 2 ^ 32) lists.now.items }
+    requires { IsReady lists.now seat }
     ensures number { result.0.number ≡ seat.number }
     ensures done { OnOk result.1 (IsDone (map (λ l. l.items) lists.now.items) result.0) }
 {
@@ -81,12 +79,8 @@ fn run_all<'s, E, L: Ledger + Send + Sync + 's, G: Gate + Sync, R: Threads + Wai
     gate: &'s G,
     lists: &'s Vec<Vec<Call>>,
 ) -> Result<Vec<Seat<L>>, RaceFault>
-    requires each { vec_len seats ≡ vec_len lists.now }
-    requires few { vec_len seats ≤ 16 }
-    requires fresh { (w : ℕ) → w < vec_len seats → slice_get seats.items w ≡ Some (fresh_worker w) }
-    requires short { All (λ l. vec_len l < 2 ^ 32) lists.now.items }
-    ensures size { IfOk result (λ back. vec_len back ≡ vec_len lists.now) }
-    ensures done { IfOk result (λ back. AreDone (map (λ l. l.items) lists.now.items) back.items) }
+    requires { AreReady lists.now seats }
+    ensures { IfOk result (AreBack lists.now) }
 {
     let mut seats = seats;
     let count = seats.len();
@@ -131,15 +125,12 @@ fn start<'s, E, L: Ledger + Send + Sync + 's, G: Gate + Sync, R: Threads + Wait 
     gate: &'s G,
     lists: &'s Vec<Vec<Call>>,
 ) -> Result<PromisedHandle<Worked<L>, WorksThrough>, RaceFault>
-    requires fresh { seat ≡ fresh_worker seat.number }
-    requires listed { seat.number < vec_len lists.now }
-    requires short { All (λ l. vec_len l < 2 ^ 32) lists.now.items }
+    requires ready { IsReady lists.now seat }
     requires promise { (promise.worker ≡ seat.number) × (promise.lists.value ≡ lists.now) }
     ensures { IfOk result (λ thread. thread.promise ≡ promise) }
 {
     let job = move || -> Worked<L>
-        requires { (seat ≡ fresh_worker seat.number) × (seat.number < vec_len lists.now)
-            × All (λ l. vec_len l < 2 ^ 32) lists.now.items }
+        requires { IsReady lists.now seat }
         ensures { (result.0.number ≡ seat.number)
             × OnOk result.1 (IsDone (map (λ l. l.items) lists.entry.now.items) result.0) }
     { run(rt, shared, seat, gate, lists) };
@@ -158,22 +149,15 @@ fn in_threads<L: Ledger + Send + Sync, G: Gate + Sync, R: Threads + Wait + Sync>
     gate: &G,
     lists: &Vec<Vec<Call>>,
 ) -> Result<Vec<Seat<L>>, RaceFault>
-    requires each { vec_len seats ≡ vec_len lists.now }
-    requires few { vec_len seats ≤ 16 }
-    requires fresh { (w : ℕ) → w < vec_len seats → slice_get seats.items w ≡ Some (fresh_worker w) }
-    requires short { All (λ l. vec_len l < 2 ^ 32) lists.now.items }
-    ensures size { IfOk result (λ back. vec_len back ≡ vec_len lists.now) }
-    ensures done { IfOk result (λ back. AreDone (map (λ l. l.items) lists.now.items) back.items) }
+    requires { AreReady lists.now seats }
+    ensures { IfOk result (AreBack lists.now) }
 {
     thread::scope(
         thread::scope_env(),
         rt,
         move |scope| -> Result<Vec<Seat<L>>, RaceFault>
-            requires { (vec_len seats ≡ vec_len lists.now) × (vec_len seats ≤ 16)
-                × ((w : ℕ) → w < vec_len seats → slice_get seats.items w ≡ Some (fresh_worker w))
-                × All (λ l. vec_len l < 2 ^ 32) lists.now.items }
-            ensures { IfOk result (λ back. (vec_len back ≡ vec_len lists.entry.now)
-                × AreDone (map (λ l. l.items) lists.entry.now.items) back.items) }
+            requires { AreReady lists.now seats }
+            ensures { IfOk result (AreBack lists.entry.now) }
         { run_all(rt, alloc, scope, shared, seats, gate, lists) },
     )
 }

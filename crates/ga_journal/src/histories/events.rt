@@ -4,6 +4,7 @@ ghost use Rattle.std.specs.Prelude.{◌≡◌};
 ghost use Rattle.ga_event.specs.Undo.{own_effect};
 
 use super::Histories;
+use super::recall::passed;
 use crate::entry::{Act, Pass, Role, Taken};
 use ga_event::{Deed, Effect, Event, Made, apply_pass};
 use ga_grid::{Chip, NodeId};
@@ -274,19 +275,13 @@ impl Histories {
         ensures size { length self.new ≡ 144 }
     {
         let (writer, reader) = ends;
-        let writer_step = self.count(writer) + 1;
-        let reader_step = self.count(reader) + 1;
+        let steps = (self.count(writer) + 1, self.count(reader) + 1);
         let mut sent = Saved::new();
         let mut taken = Saved::new();
         let word = apply_pass(chip, writer, reader, side, &mut sent, &mut taken);
         self.push_pass(stamp, ends, side, word, (sent, taken), before);
-        Made::Pass {
-            writer,
-            writer_step,
-            reader,
-            reader_step,
-            word,
-        }
+        let (_, made) = passed(ends, steps, side, word);
+        made
     }
 
     /// Makes an event on the chip, with its entries.

@@ -28,7 +28,12 @@ fn own(node: NodeId, step: u32, deed: Deed) -> (Cause, Made)
 
 /// A pass, which looks at nothing, with what is told of it.
 #[inline(always)]
-fn passed(ends: (NodeId, NodeId), steps: (u32, u32), side: Side, word: Word18) -> (Cause, Made)
+pub(super) fn passed(
+    ends: (NodeId, NodeId),
+    steps: (u32, u32),
+    side: Side,
+    word: Word18,
+) -> (Cause, Made)
     ensures { result ≡ (
       record { event = Event.Pass ends.0 ends.1 side; look = false },
       Made.Pass ends.0 steps.0 ends.1 steps.1 word,

@@ -1,5 +1,6 @@
 use Rattle.std.proofs.Common.{◌+◌, ◌∙◌, ap, sym, Some}
 use Rattle.std.specs.Prelude.{Option, length}
+use Rattle.ga_event.specs.declared.event.Cause.{Cause}
 use Rattle.ga_event.specs.declared.event.Effect.TheVariants as effect
 use Rattle.ga_event.specs.declared.made.Made.{Made}
 use Rattle.ga_event.specs.declared.made.Made.TheVariants as made
@@ -12,6 +13,7 @@ returns-clause-added c = record {
   effect = effect.Pass c.apply_pass-word.result c.apply_pass-word.new.sent c.apply_pass-word.new.taken;
   applied = c.apply_pass-word.ensures;
   histories = c.push_pass.ensures.after;
-  told_is = ap (λ n. let o : Option Made = Some (made.Pass c.args.ends.0 (n + 1) c.args.ends.1 (length (history (lists_of c.args.self.now) c.args.ends.1.number) + 1) c.apply_pass-word.result) in o) (sym c.count-writer_step.ensures)
-      ∙ ap (λ n. let o : Option Made = Some (made.Pass c.args.ends.0 (c.count-writer_step.result + 1) c.args.ends.1 (n + 1) c.apply_pass-word.result) in o) (sym c.count-reader_step.ensures);
+  told_is = ap (λ n. let o : Option Made = Some (made.Pass c.args.ends.0 (n + 1) c.args.ends.1 (length (history (lists_of c.args.self.now) c.args.ends.1.number) + 1) c.apply_pass-word.result) in o) (sym c.count.ensures)
+      ∙ ap (λ n. let o : Option Made = Some (made.Pass c.args.ends.0 (c.count.result + 1) c.args.ends.1 (n + 1) c.apply_pass-word.result) in o) (sym c.count-2.ensures)
+      ∙ ap (λ (told : Cause × Made). let o : Option Made = Some told.1 in o) (sym c.passed-made.ensures);
 }

@@ -3,7 +3,7 @@ use Rattle.std.proofs.lemmas.Bool.{both_ways}
 use Rattle.ga_causal.specs.Dependence.{is_marked}
 use Rattle.ga_races.specs.Acts.{actions_in}
 use Rattle.ga_races.proofs.Reaching.{first_reached, found, next_reached, none_between}
-use Rattle.ga_races.proofs.near.is_between.Goals as goal
+use Rattle.ga_races.proofs.near.reached.is_between.Goals as goal
 
 pub between-init : goal.between-init
 between-init c =

@@ -1,7 +1,7 @@
 use Rattle.ga_causal.specs.Dependence.{is_marked}
 use Rattle.ga_races.specs.Acts.{actions_in}
 use Rattle.ga_races.specs.kept.{AreReached}
-use Rattle.ga_races.proofs.near.is_between.Given as goal
+use Rattle.ga_races.proofs.near.reached.is_between.Given as goal
 
 abbrev pub invariant-between : goal.invariant-between
 invariant-between l =
