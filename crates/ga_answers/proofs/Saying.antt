@@ -256,7 +256,7 @@ pub placed : (notes : Option Notes) (s : State) (node : NodeId) (k step : ℕ) �
 placed notes s node k step is some =
     ap (λ (n : ℕ). passed_text node n (slice_get (history_of s node.number) (n - 1)) (node_after s node.number n) ++ step_tail notes s node n) is
     ∙ ap (λ (n : ℕ). passed_text node n (slice_get (history_of s node.number) (step - 1)) (node_after s node.number n) ++ step_tail notes s node n)
-        (let e : step ≡ step - 1 + 1 = omega (arith, some) in e)
+    (let e : step ≡ step - 1 + 1 = omega (arith, some) in e)
 
 -- where the step stands, and where not
 pub around_here : (notes : Option Notes) (s : State) (node : NodeId) (step around first last : ℕ) → stands s node.number step ≡ true → first ≡ step - 1 - around

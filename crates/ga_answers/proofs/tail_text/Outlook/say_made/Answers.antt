@@ -10,8 +10,8 @@ use Rattle.ga_answers.proofs.tail_text.Outlook.say_made.Goals as goal
 pub invariant_of-there : goal.invariant_of-there
 invariant_of-there g c =
     let here = c.args.self.now in
-    stands_so here.lab.now here.node c.args.step c.back_to.new.self
-    (c.back_to.ensures ∙ ap (λ (z : Standing). record z { step = c.args.step }) (c.copy-near.ensures ∙ here.stands))
+    let there = c.back_to.ensures ∙ ap (λ (z : Standing). record z { step = c.args.step }) (c.copy-near.ensures ∙ here.stands) in
+    record { stands = stands_so here.lab.now here.node c.args.step c.back_to.new.self there }
 
 pub returns-in_err-say_blocks : goal.returns-in_err-say_blocks
 returns-in_err-say_blocks g c = (
