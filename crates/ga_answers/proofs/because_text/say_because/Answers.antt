@@ -1,4 +1,4 @@
-use Rattle.std.proofs.Common.{rules, ◌≡◌, ℕ, ◌-◌, sym, ap, ◌∙◌}
+use Rattle.std.proofs.Common.{rules, ◌≡◌, ◌-◌, sym, ap, ◌∙◌}
 use Rattle.ga_lab.specs.Machine.{Standing}
 use Rattle.ga_answers.specs.Because.{decisions_text}
 use Rattle.ga_answers.proofs.Because.{because_here, because_nowhere}

@@ -1,4 +1,4 @@
-use Rattle.std.proofs.Common.{rules, ◌≡◌, ℕ, Some, sym, ap, ◌∙◌, inl, inr, subst}
+use Rattle.std.proofs.Common.{rules, ◌≡◌, Some, sym, ap, ◌∙◌, inl, inr, subst}
 use Rattle.ga_lab.specs.Machine.{Standing}
 use Rattle.ga_origin.specs.Asked.{asked_of}
 use Rattle.ga_origin.proofs.Made.{stands_so}

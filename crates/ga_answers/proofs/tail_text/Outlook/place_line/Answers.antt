@@ -1,4 +1,4 @@
-use Rattle.std.proofs.Common.{◌≡◌, ◌≤◌, ℕ, ◌-◌, ap, ◌∙◌, arith}
+use Rattle.std.proofs.Common.{◌≤◌, ℕ, ◌-◌, ap, ◌∙◌, arith}
 use Rattle.std.specs.List.{slice_get}
 use Rattle.ga_node.specs.Record.{NodeRecord, record_of}
 use Rattle.ga_event.specs.Told.{steps_of}

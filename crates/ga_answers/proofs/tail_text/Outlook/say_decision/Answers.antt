@@ -1,4 +1,4 @@
-use Rattle.std.proofs.Common.{rules, ◌≡◌, ℕ, List, ◌++◌, ap, ◌∙◌, append_assoc}
+use Rattle.std.proofs.Common.{rules, ℕ, List, ◌++◌, ap, ◌∙◌, append_assoc}
 use Rattle.ga_text.proofs.SaidLemmas.{cut_here, cut_within, said_assoc, cut_assoc}
 use Rattle.ga_origin.specs.Rows.{row_at}
 use Rattle.ga_answers.specs.Tails.{step_tail}

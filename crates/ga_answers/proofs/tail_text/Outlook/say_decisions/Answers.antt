@@ -1,4 +1,4 @@
-use Rattle.std.proofs.Common.{rules, ◌≡◌, ◌-◌, ℕ, List, ◌++◌, [], refl, sym, ap, ◌∙◌, arith}
+use Rattle.std.proofs.Common.{rules, ◌-◌, ℕ, List, ◌++◌, [], refl, sym, ap, ◌∙◌, arith}
 use Rattle.ga_lab.specs.Machine.{Standing, standing}
 use Rattle.ga_origin.specs.Deciding.{newest_decided}
 use Rattle.ga_text.proofs.SaidLemmas.{cut_here, said_pending}
