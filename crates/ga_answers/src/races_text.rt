@@ -132,9 +132,8 @@ fn reading_line(reading: Reading) -> TextBuffer
 }
 
 /// On which side of the change a look would have read the other word.
-fn side_of(early: bool) -> &'static [u8]
-    ensures text { result.now ≡ before_or_behind early }
-    ensures len { length result.now ≤ 8 }
+fn side_of(early: bool) -> &'static [u8; 8]
+    ensures { result.now ≡ before_or_behind early }
 {
     if early { b" behind " } else { b" before " }
 }
