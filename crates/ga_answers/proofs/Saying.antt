@@ -6,7 +6,7 @@ use Rattle.std.specs.Prelude.{flat_map, if◌then◌else◌, IsOk, is_none}
 use Rattle.std.proofs.lemmas.List.{append-nil, drop_more, drop_all}
 use Rattle.ga_text.proofs.SaidLemmas.{said_as, said_assoc, cut_assoc, cut_within}
 use Rattle.ga_grid.specs.declared.node_id.NodeId.{NodeId}
-use Rattle.ga_lab.specs.Machine.{State, Standing, standing, stands, chip_of, causes_of, rewind_answer}
+use Rattle.ga_lab.specs.Machine.{State, stands, history_of, chip_of, causes_of, rewind_answer}
 use Rattle.ga_origin.specs.Writes.{written_at, either, newest_written}
 use Rattle.ga_origin.specs.declared.writes.CellWrite.{CellWrite}
 use Rattle.ga_origin.proofs.Keeping.{written_step, first_told}
@@ -16,7 +16,7 @@ use Rattle.std.proofs.lemmas.Option.{same_Some}
 use Rattle.ga_notes.specs.declared.notes.Notes.{Notes}
 use Rattle.ga_origin.specs.declared.value.Value.{Value}
 use Rattle.ga_origin.specs.declared.listing.Row.{Row}
-use Rattle.ga_origin.specs.Origins.{origin_of}
+use Rattle.ga_origin.specs.Origins.{node_after, origin_of}
 use Rattle.ga_origin.specs.Rows.{row_at, made_row, AreRows}
 use Rattle.ga_answers.specs.kept.{is_first}
 use Rattle.ga_answers.specs.Trees.{blanks, rows_by, tree_rows_text, more_text, most_rows, TellsTree}
@@ -25,7 +25,8 @@ use Rattle.std.proofs.lemmas.Bool.Decides.{nat_tests}
 use Rattle.ga_event.specs.Told.{steps_of}
 use Rattle.ga_lab.specs.declared.fault.LabFault.TheVariants.{NoStep, Memory}
 use Rattle.ga_display.specs.Texts.{refusal_text}
-use Rattle.ga_answers.specs.Around.{place_text, places_text, lesser, around_text}
+use Rattle.ga_answers.specs.Tails.{step_tail}
+use Rattle.ga_answers.specs.Around.{passed_text, place_text, places_text, lesser, around_text}
 use Rattle.ga_node.specs.Record.{NodeRecord}
 use Rattle.ga_lab.specs.declared.fault.LabFault.{LabFault}
 use Rattle.ga_search.specs.Effects.{effects_of}
@@ -243,9 +244,19 @@ unfolding places_text
 no_place notes s node k zero e = refl
 no_place notes s node k (suc more) e = absurd (omega (arith, e))
 
-pub next_place : (notes : Option Notes) (s : State) (node : NodeId) (k last : ℕ) → k < last → places_text notes s node k (last - k) ≡ place_text notes s node k ++ places_text notes s node (k + 1) (last - (k + 1))
-next_place notes s node k last l =
+pub next_place : (notes : Option Notes) (s : State) (node : NodeId) (k last m : ℕ) → k < last → m ≡ k
+    → places_text notes s node k (last - k) ≡ place_text notes s node m ++ places_text notes s node (k + 1) (last - (k + 1))
+next_place notes s node k last m l is =
     ap (places_text notes s node k) (let e : last - k ≡ suc (last - (k + 1)) = omega (arith, l) in e) ∙ one_place notes s node k (last - (k + 1))
+    ∙ ap (λ (n : ℕ). place_text notes s node n ++ places_text notes s node (k + 1) (last - (k + 1))) (sym is)
+
+-- a step by its number, which is one more than its place
+pub placed : (notes : Option Notes) (s : State) (node : NodeId) (k step : ℕ) → k ≡ step → 0 < step
+    → passed_text node k (slice_get (history_of s node.number) (k - 1)) (node_after s node.number k) ++ step_tail notes s node k ≡ place_text notes s node (step - 1)
+placed notes s node k step is some =
+    ap (λ (n : ℕ). passed_text node n (slice_get (history_of s node.number) (n - 1)) (node_after s node.number n) ++ step_tail notes s node n) is
+    ∙ ap (λ (n : ℕ). passed_text node n (slice_get (history_of s node.number) (step - 1)) (node_after s node.number n) ++ step_tail notes s node n)
+    (let e : step ≡ step - 1 + 1 = omega (arith, some) in e)
 
 -- where the step stands, and where not
 pub around_here : (notes : Option Notes) (s : State) (node : NodeId) (step around first last : ℕ) → stands s node.number step ≡ true → first ≡ step - 1 - around
@@ -258,15 +269,6 @@ around_here notes s node step around first last is e f =
 pub around_nowhere : (notes : Option Notes) (s : State) (node : NodeId) (step around : ℕ) → stands s node.number step ≡ false → refusal_text NoStep ≡ around_text notes s node step around
 around_nowhere notes s node step around is =
     sym (ap (λ (b : Bool). if b then places_text notes s node (step - 1 - around) (lesser (step + around) (steps_of node.number s.kept) - (step - 1 - around)) else refusal_text NoStep) is)
-
--- a walk stands at a step that its node has
-pub at_most : (s : State) (node : NodeId) (step : ℕ) (walk : Standing) → walk ≡ standing s node step → step ≤ steps_of node.number s.kept
-    → walk.step ≤ steps_of walk.node.number walk.machine.kept
-at_most s node step walk e l = subst (λ (z : Standing). z.step ≤ steps_of z.node.number z.machine.kept) (sym e) l
-
--- it stands behind what its step is behind
-pub beyond_base : (s : State) (node : NodeId) (step : ℕ) (walk : Standing) (place : ℕ) → walk ≡ standing s node step → place < step → place < walk.step
-beyond_base s node step walk place e l = subst (λ (z : Standing). place < z.step) (sym e) l
 
 -- the lesser of two numbers
 lesser_is : (m n k : ℕ) → (m ≤ n → k ≡ m) → (n < m → k ≡ n) → k ≡ lesser m n

@@ -1,19 +1,15 @@
 //! The steps around one, each with registers behind it, told line by line.
 
 ghost use Rattle.std.specs.Prelude.{◌≡◌, ◌<◌, ◌≤◌, ◌+◌, ◌-◌};
-ghost use Rattle.std.specs.List.{slice_get};
-ghost use Rattle.ga_event.specs.Told.{steps_of};
-ghost use Rattle.ga_lab.specs.Machine.{history_of, standing};
-ghost use Rattle.ga_origin.specs.Origins.{node_after};
-ghost use Rattle.ga_text.specs.Output.{Says, SaysExactly};
-ghost use Rattle.ga_answers.specs.Around.{passed_text, place_text, places_text, around_text};
+ghost use Rattle.ga_text.specs.Output.{Says};
+ghost use Rattle.ga_answers.specs.Around.{around_text};
 
 use crate::passed_text::step_line;
-use crate::tail_text::say_walk_tail;
+use crate::tail_text::Outlook;
 use arrayvec::ArrayVec;
 use ga_display::refusal_text;
 use ga_grid::NodeId;
-use ga_lab::{Lab, LabFault, Walk};
+use ga_lab::{Lab, LabFault};
 use ga_notes::Notes;
 use ga_text::{Spoken, TextBuffer, Writer};
 use std::io::Write;
@@ -35,64 +31,60 @@ pub fn say_around<W: Write>(
     if lab.stands((node, step)) {
         let first = (step - 1).saturating_sub(around);
         let last = step.saturating_add(around).min(lab.steps(node));
-        say_places(lab, notes, node, first, last, writer)
+        Outlook::new(lab, notes, node, last).say_places(first, writer)
     } else {
         writer.say(refusal_text(LabFault::NoStep))
     }
 }
 
-/// Says the steps from one place on and before another, the first of which is at place 0, each from a copy of one walk.
-fn say_places<W: Write>(
-    lab: &Lab,
-    notes: &Option<Notes>,
-    node: NodeId,
-    first: u32,
-    last: u32,
-    writer: &mut Writer<'_, W>,
-) -> Spoken
-    requires { last ≤ steps_of node.number lab.now.kept }
-    ensures { Says result (λ text. text ≡ places_text notes.now lab.now node first (last - first))
-        W.contents writer.old writer.new }
-{
-    let base = lab.walk(node, last);
-    'places: for place in first..last {
-        say_place(lab, notes, node, &base, place, writer)?;
+impl<'l> Outlook<'l> {
+    ghost use Rattle.std.specs.Prelude.{◌≡◌, ◌<◌, ◌≤◌, ◌-◌};
+    ghost use Rattle.std.specs.List.{slice_get};
+    ghost use Rattle.ga_lab.specs.Machine.{history_of};
+    ghost use Rattle.ga_origin.specs.Origins.{node_after};
+    ghost use Rattle.ga_text.specs.Output.{Says, SaysExactly};
+    ghost use Rattle.ga_answers.specs.Around.{passed_text, place_text, places_text};
+
+    /// Says the steps from one place on, the first of which is at place 0, up to the step to which the node is walked back.
+    fn say_places<W: Write>(&self, first: u32, writer: &mut Writer<'_, W>) -> Spoken
+        ensures { Says result (λ text. text ≡ places_text self.now.notes.now self.now.lab.now self.now.node first (self.now.near.step - first))
+            W.contents writer.old writer.new }
+    {
+        let last = self.near.step();
+        'places: for place in first..last {
+            self.say_made(place + 1, writer)?;
+        }
+        Ok(())
     }
-    Ok(())
-}
 
-/// Says the step at a place, by a walk that stands behind it.
-fn say_place<W: Write>(
-    lab: &Lab,
-    notes: &Option<Notes>,
-    node: NodeId,
-    base: &Walk<'_>,
-    place: u32,
-    writer: &mut Writer<'_, W>,
-) -> Spoken
-    requires place { place < steps_of node.number lab.now.kept }
-    requires walk { base.now ≡ standing lab.now node base.now.step }
-    requires behind { place < base.now.step }
-    ensures { SaysExactly result (place_text notes.now lab.now node place) W.contents writer.old writer.new }
-{
-    // So the number of the step fits, as that of them all does.
-    let _steps = lab.steps(node);
-    let mut walk = base.copy();
-    walk.back_to(place + 1);
-    writer.say_blocks(place_line(lab, node, place, &walk).as_slice())?;
-    say_walk_tail(lab, notes, node, &walk, writer)
-}
+    /// Says a step that the node had made, from a copy of the walk.
+    fn say_made<W: Write>(&self, step: u32, writer: &mut Writer<'_, W>) -> Spoken
+        requires some { 0 < step }
+        requires made { step ≤ self.now.near.step }
+        ensures { SaysExactly result (place_text self.now.notes.now self.now.lab.now self.now.node (step - 1)) W.contents writer.old writer.new }
+    {
+        let mut near = self.near.copy();
+        near.back_to(step);
+        let there = Outlook {
+            lab: self.lab,
+            notes: self.notes,
+            node: self.node,
+            near,
+        };
+        writer.say_blocks(there.place_line().as_slice())?;
+        there.say_own_tail(writer)
+    }
 
-/// What is told of the step at a place, right behind which a walk stands.
-fn place_line(lab: &Lab, node: NodeId, place: u32, walk: &Walk<'_>) -> TextBuffer
-    requires place { place < steps_of node.number lab.now.kept }
-    requires walk { walk.now ≡ standing lab.now node (place + 1) }
-    ensures { result.items ≡ passed_text node (place + 1) (slice_get (history_of lab.now node.number) place) (node_after lab.now node.number (place + 1)) }
-{
-    // So the number of the step fits, as that of them all does.
-    let _steps = lab.steps(node);
-    match lab.told(node, place) {
-        Some(made) => step_line(node, place + 1, made, walk.node()),
-        None => ArrayVec::new(),
+    /// What is told of the step to which the node is walked back.
+    fn place_line(&self) -> TextBuffer
+        requires { 0 < self.now.near.step }
+        ensures { result.items ≡ passed_text self.now.node self.now.near.step (slice_get (history_of self.now.lab.now self.now.node.number) (self.now.near.step - 1))
+            (node_after self.now.lab.now self.now.node.number self.now.near.step) }
+    {
+        let step = self.near.step();
+        match self.lab.told(self.node, step - 1) {
+            Some(made) => step_line(self.node, step, made, self.near.node()),
+            None => ArrayVec::new(),
+        }
     }
 }

@@ -2,21 +2,19 @@
 
 ghost use Rattle.std.specs.Prelude.{◌≡◌, ◌+◌, ◌-◌, ◌≤◌, ◌<◌, ◌^◌, ◌++◌};
 ghost use Rattle.arrayvec.specs.ArrayVec.{array_vec_len};
-ghost use Rattle.ga_lab.specs.Machine.{standing};
 ghost use Rattle.ga_display.specs.Texts.{register_text};
-ghost use Rattle.ga_text.specs.Output.{Says, SaysExactly};
-ghost use Rattle.ga_answers.specs.Because.{decided_text, decision_text, decisions_text, because_text};
+ghost use Rattle.ga_text.specs.Output.{Says};
+ghost use Rattle.ga_answers.specs.Because.{decided_text, because_text};
 ghost use Rattle.ga_answers.specs.Trees.{part_name};
 
 use crate::deed_text::push_deed;
 use crate::part_text::{PART_ROOM, push_part};
-use crate::tail_text::say_step_tail;
-use crate::whence_text::say_row;
+use crate::tail_text::Outlook;
 use arrayvec::ArrayVec;
 use ga_display::refusal_text;
 use ga_event::Part;
 use ga_grid::NodeId;
-use ga_lab::{Lab, LabFault, Made, Walk};
+use ga_lab::{Lab, LabFault, Made};
 use ga_notes::Notes;
 use ga_origin::{Decision, Decisions, Row};
 use ga_text::{Spoken, TextBuffer, WORD_ROOM, Writer, push_spaced, push_step, push_text};
@@ -42,58 +40,10 @@ pub fn say_because<W: Write>(
     ensures { Says result (λ text. text ≡ because_text notes.now lab.now node step most) W.contents writer.old writer.new }
 {
     if lab.stands((node, step)) {
-        let near = lab.walk(node, step);
-        say_decisions(lab, notes, &near, node, most, writer)
+        Outlook::new(lab, notes, node, step).say_decisions(most, writer)
     } else {
         writer.say(refusal_text(LabFault::NoStep))
     }
-}
-
-/// Says those before the step to which the node is walked back.
-fn say_decisions<'l, W: Write>(
-    lab: &'l Lab,
-    notes: &Option<Notes>,
-    near: &Walk<'l>,
-    node: NodeId,
-    most: u32,
-    writer: &mut Writer<'_, W>,
-) -> Spoken
-    requires { near.now ≡ standing lab.now node near.now.step }
-    ensures { Says result (λ text. text ≡ decisions_text notes.now lab.now node most (near.now.step - 1))
-        W.contents writer.old writer.new }
-{
-    let mut decisions = Decisions::before(lab, near, node);
-    let mut left = most;
-    'telling: while left > 0 {
-        let Some(decision) = decisions.next() else {
-            return Ok(());
-        };
-        say_decision(lab, notes, near, node, decision, writer)?;
-        left -= 1;
-    }
-    Ok(())
-}
-
-/// Says a step with what it tested, and below it the step that made the value, by where a walk of the node stands.
-fn say_decision<W: Write>(
-    lab: &Lab,
-    notes: &Option<Notes>,
-    near: &Walk<'_>,
-    node: NodeId,
-    decision: Decision,
-    writer: &mut Writer<'_, W>,
-) -> Spoken
-    requires { near.now ≡ standing lab.now node near.now.step }
-    ensures { SaysExactly result (decision_text notes.now lab.now node decision) W.contents writer.old writer.new }
-{
-    let step = decision.step;
-    let row = Row {
-        depth: 0,
-        value: decision.source,
-    };
-    writer.say_blocks(decided_line(node, decision).as_slice())?;
-    say_step_tail(lab, notes, near, node, node, step, writer)?;
-    say_row(lab, notes, near, node, 1, row, writer)
 }
 
 /// A step, what it did and what it tested.
@@ -118,4 +68,41 @@ fn push_tested(out: &mut TextBuffer, part: Part, word: Word18)
     push_text(out, b" ");
     push_part(out, part);
     push_spaced(out, word);
+}
+
+impl<'l> Outlook<'l> {
+    ghost use Rattle.std.specs.Prelude.{◌≡◌, ◌-◌};
+    ghost use Rattle.ga_text.specs.Output.{Says, SaysExactly};
+    ghost use Rattle.ga_answers.specs.Because.{decision_text, decisions_text};
+
+    /// Says those before the step to which the node is walked back.
+    fn say_decisions<W: Write>(&self, most: u32, writer: &mut Writer<'_, W>) -> Spoken
+        ensures { Says result (λ text. text ≡ decisions_text self.now.notes.now self.now.lab.now self.now.node most (self.now.near.step - 1))
+            W.contents writer.old writer.new }
+    {
+        let mut decisions = Decisions::before(self.lab, &self.near, self.node);
+        let mut left = most;
+        'telling: while left > 0 {
+            let Some(decision) = decisions.next() else {
+                return Ok(());
+            };
+            self.say_decision(decision, writer)?;
+            left -= 1;
+        }
+        Ok(())
+    }
+
+    /// Says a step with what it tested, and below it the step that made the value.
+    fn say_decision<W: Write>(&self, decision: Decision, writer: &mut Writer<'_, W>) -> Spoken
+        ensures { SaysExactly result (decision_text self.now.notes.now self.now.lab.now self.now.node decision) W.contents writer.old writer.new }
+    {
+        let step = decision.step;
+        let row = Row {
+            depth: 0,
+            value: decision.source,
+        };
+        writer.say_blocks(decided_line(self.node, decision).as_slice())?;
+        self.say_step_tail(self.node, step, writer)?;
+        self.say_row(1, row, writer)
+    }
 }

@@ -30,21 +30,23 @@ pub(crate) fn push_deed(out: &mut TextBuffer, made: Made, node: NodeId)
     ensures text { out.new.items ≡ out.old.items ++ deed_text made node.number }
     ensures len { array_vec_len out.new ≤ array_vec_len out.old + DEED_ROOM }
 {
-    match made {
-        Made::Own { kind, .. } => push_kind(out, kind),
+    match &made {
+        Made::Own { kind, .. } => push_kind(out, *kind),
         Made::Pass {
             writer,
             writer_step,
             reader,
+            word,
+            ..
+        } if node.number == reader.number => {
+            push_pass(out, b"takes ", *word, b" from ", *writer, *writer_step);
+        }
+        Made::Pass {
+            reader,
             reader_step,
             word,
-        } => {
-            if node.number == reader.number {
-                push_pass(out, b"takes ", word, b" from ", writer, writer_step);
-            } else {
-                push_pass(out, b"sends ", word, b" to ", reader, reader_step);
-            }
-        }
+            ..
+        } => push_pass(out, b"sends ", *word, b" to ", *reader, *reader_step),
     }
 }
 

@@ -1,7 +1,10 @@
 //! Steps that could have come out otherwise, told line by line.
 
-ghost use Rattle.std.specs.Prelude.{◌≡◌, ◌≤◌, ◌++◌, length, flat_map};
+ghost use Rattle.std.specs.Prelude.{◌≡◌, ◌≤◌, ◌+◌, ◌++◌, flat_map, codes};
+ghost use Rattle.arrayvec.specs.ArrayVec.{array_vec_len};
+ghost use Rattle.ga_word.specs.Word.{hex6_of};
 ghost use Rattle.ga_text.specs.Output.{Says, SaysExactly};
+ghost use Rattle.ga_text.specs.Digits.{name_of_node};
 ghost use Rattle.ga_race_detector.specs.Readings.{back_of};
 ghost use Rattle.ga_answers.specs.Races.{race_text, reading_text, before_or_behind, races_head, race_lines_text, last_line, listed_text, TellsRaces};
 
@@ -11,10 +14,15 @@ use ga_grid::NodeId;
 use ga_lab::Lab;
 use ga_race_detector::{Race, Races, Reading, find_races};
 use ga_text::{
-    Spoken, TextBuffer, Writer, push_node, push_number, push_step, push_text, push_word,
+    NODE_ROOM, Spoken, TextBuffer, WORD_ROOM, Writer, push_node, push_number, push_step, push_text,
+    push_word,
 };
+use ga_word::Word18;
 use std::alloc::Global;
 use std::io::Write;
+
+/// The most bytes of a word and the node that it comes from.
+const FROM_ROOM: usize = WORD_ROOM + b" from ".len() + NODE_ROOM;
 
 /// `races` or `races NNN`: tells the steps that could have come out otherwise, of all nodes or of one, and what holds of other orders.
 /// Nothing is taken back.
@@ -124,9 +132,8 @@ fn reading_line(reading: Reading) -> TextBuffer
 }
 
 /// On which side of the change a look would have read the other word.
-fn side_of(early: bool) -> &'static [u8]
-    ensures text { result.now ≡ before_or_behind early }
-    ensures len { length result.now ≤ 8 }
+fn side_of(early: bool) -> &'static [u8; 8]
+    ensures { result.now ≡ before_or_behind early }
 {
     if early { b" behind " } else { b" before " }
 }
@@ -149,19 +156,26 @@ fn race_line(race: Race) -> TextBuffer
     let mut out = ArrayVec::new();
     push_step(&mut out, race.reader, race.step);
     push_text(&mut out, b" takes ");
-    push_word(&mut out, race.word);
-    push_text(&mut out, b" from ");
-    push_node(&mut out, race.writer);
+    push_from(&mut out, race.word, race.writer);
     push_text(&mut out, b", or ");
-    push_word(&mut out, race.offered);
-    push_text(&mut out, b" from ");
-    push_node(&mut out, race.other);
+    push_from(&mut out, race.offered, race.other);
     push_text(&mut out, b": rewind ");
     push_step(&mut out, race.reader, race.step);
     push_text(&mut out, b", step ");
     push_node(&mut out, race.other);
     push_text(&mut out, b"\n");
     out
+}
+
+/// Adds a word and the node that it comes from.
+fn push_from(out: &mut TextBuffer, word: Word18, node: NodeId)
+    requires { array_vec_len out.old + FROM_ROOM ≤ 256 }
+    ensures text { out.new.items ≡ out.old.items ++ (hex6_of word ++ codes " from " ++ name_of_node node) }
+    ensures len { array_vec_len out.new ≤ array_vec_len out.old + FROM_ROOM }
+{
+    push_word(out, word);
+    push_text(out, b" from ");
+    push_node(out, node);
 }
 
 /// What holds of other orders.

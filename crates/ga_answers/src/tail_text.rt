@@ -1,13 +1,12 @@
 //! What a source says of cells and slots, behind the lines that name them.
 
-ghost use Rattle.std.specs.Prelude.{◌≡◌, ◌≤◌, ◌-◌, ℕ, min};
+ghost use Rattle.std.specs.Prelude.{◌≡◌, ◌≤◌};
 ghost use Rattle.ga_node.specs.Record.{record_of};
 ghost use Rattle.ga_event.specs.Told.{steps_of};
-ghost use Rattle.ga_text.specs.Output.{SaysExactly};
 ghost use Rattle.ga_lab.specs.Machine.{standing};
-ghost use Rattle.ga_origin.specs.Fetched.{fetched_cell as cell_fetched};
 ghost use Rattle.ga_origin.specs.Origins.{node_after};
-ghost use Rattle.ga_answers.specs.Tails.{noted_cell, noted_slot as noted_slot_of, noted_text, tail_text, slot_before, step_tail, part_cell, value_tail};
+ghost use Rattle.ga_text.specs.Output.{SaysExactly};
+ghost use Rattle.ga_answers.specs.Tails.{noted_cell, noted_slot as noted_slot_of, tail_text, part_cell};
 
 use ga_event::Part;
 use ga_grid::NodeId;
@@ -58,100 +57,12 @@ fn part_cell(part: Part) -> Option<u8>
     }
 }
 
-/// The cell from which the instruction word of a step was fetched, where the source says something of cells: found from where a walk
-/// of some node stands.
-fn step_cell(
-    lab: &Lab,
-    notes: &Option<Notes>,
-    near: &Walk<'_>,
-    at: NodeId,
-    node: NodeId,
-    step: u32,
-) -> Option<u8>
-    requires { near.now ≡ standing lab.now at near.now.step }
-    ensures { (slot : ℕ) → noted_text notes.now node result slot ≡ noted_text notes.now node (cell_fetched lab.now node step) slot }
-{
-    match notes {
-        Some(_) => fetched_near(lab, near, at, node, step),
-        None => None,
-    }
-}
-
 /// The slot of a node.
 #[tactic(auto, unfolding(ga_node::specs::Record::record_of))]
 fn slot_of(node: &Node) -> u32
     ensures { result ≡ (record_of node.now).slot }
 {
     node.get(Place::Slot)
-}
-
-/// The slot of a node that is walked back to so many of its steps.
-fn walked_slot(lab: &Lab, node: NodeId, place: u32, walk: &Walk<'_>) -> u32
-    requires within { place ≤ steps_of node.number lab.now.kept }
-    requires walk { walk.now ≡ standing lab.now node place }
-    ensures { result ≡ (node_after lab.now node.number place).slot }
-{
-    slot_of(walk.node())
-}
-
-/// The slot behind so many steps of a node of which a walk stands at no fewer.
-fn copied_slot(lab: &Lab, node: NodeId, place: u32, near: &Walk<'_>) -> u32
-    requires within { place ≤ steps_of node.number lab.now.kept }
-    requires order { place ≤ near.now.step }
-    requires near { near.now ≡ standing lab.now node near.now.step }
-    ensures { result ≡ (node_after lab.now node.number place).slot }
-{
-    let mut walk = near.copy();
-    walk.back_to(place);
-    walked_slot(lab, node, place, &walk)
-}
-
-/// The slot behind so many steps of a node, which is walked back there: from where a walk of some node stands, where that is of the same
-/// node and not earlier, else from its newest step.
-fn slot_near(lab: &Lab, near: &Walk<'_>, at: NodeId, node: NodeId, place: u32) -> u32
-    requires within { place ≤ steps_of node.number lab.now.kept }
-    requires near { near.now ≡ standing lab.now at near.now.step }
-    ensures { result ≡ (node_after lab.now node.number place).slot }
-{
-    if at == node && place <= near.step() {
-        copied_slot(lab, node, place, near)
-    } else {
-        walked_slot(lab, node, place, &lab.walk(node, place))
-    }
-}
-
-/// The slot that was next before a step.
-fn before_step(lab: &Lab, near: &Walk<'_>, at: NodeId, node: NodeId, step: u32) -> usize
-    requires { near.now ≡ standing lab.now at near.now.step }
-    ensures { result ≡ slot_before lab.now node step }
-{
-    let place = step.saturating_sub(1).min(lab.steps(node));
-    slot_near(lab, near, at, node, place) as usize
-}
-
-/// The same where the source tells slots of the cell.
-fn step_slot(
-    lab: &Lab,
-    notes: &Option<Notes>,
-    near: &Walk<'_>,
-    at: NodeId,
-    node: NodeId,
-    step: u32,
-    cell: Option<u8>,
-) -> usize
-    requires { near.now ≡ standing lab.now at near.now.step }
-    ensures { noted_text notes.now node cell result ≡ noted_text notes.now node cell (slot_before lab.now node step) }
-{
-    match notes {
-        Some(notes) => {
-            if notes.is_long(node, cell) {
-                before_step(lab, near, at, node, step)
-            } else {
-                FETCH
-            }
-        }
-        None => FETCH,
-    }
 }
 
 /// Says what the source says of a slot of a cell, and ends the line.
@@ -164,82 +75,144 @@ fn say_tail<W: Write>(
 ) -> Spoken
     ensures { SaysExactly result (tail_text notes.now node cell slot) W.contents writer.old writer.new }
 {
-    say_noted(notes, node, cell, slot, writer)?;
+    writer.say_blocks(noted(notes, node, cell))?;
+    writer.say_blocks(noted_slot(notes, node, cell, slot))?;
     writer.say(b"\n")
 }
 
-/// Says what the source says of a slot of a cell.
-fn say_noted<W: Write>(
-    notes: &Option<Notes>,
-    node: NodeId,
-    cell: Option<u8>,
-    slot: usize,
-    writer: &mut Writer<'_, W>,
-) -> Spoken
-    ensures { SaysExactly result (noted_text notes.now node cell slot) W.contents writer.old writer.new }
+/// The slot of a node that is walked back to so many of its steps.
+fn walked_slot(lab: &Lab, node: NodeId, place: u32, walk: &Walk<'_>) -> u32
+    requires within { place ≤ steps_of node.number lab.now.kept }
+    requires walk { walk.now ≡ standing lab.now node place }
+    ensures { result ≡ (node_after lab.now node.number place).slot }
 {
-    writer.say_blocks(noted(notes, node, cell))?;
-    writer.say_blocks(noted_slot(notes, node, cell, slot))
+    slot_of(walk.node())
 }
 
-/// Ends a line that tells of a step, by where a walk of some node stands.
-///
-/// # Errors
-/// A write failed.
-pub(crate) fn say_step_tail<W: Write>(
-    lab: &Lab,
-    notes: &Option<Notes>,
-    near: &Walk<'_>,
-    at: NodeId,
-    node: NodeId,
-    step: u32,
-    writer: &mut Writer<'_, W>,
-) -> Spoken
-    requires { near.now ≡ standing lab.now at near.now.step }
-    ensures { SaysExactly result (step_tail notes.now lab.now node step) W.contents writer.old writer.new }
-{
-    let cell = step_cell(lab, notes, near, at, node, step);
-    let slot = step_slot(lab, notes, near, at, node, step, cell);
-    say_tail(notes, node, cell, slot, writer)
+/// A lab, what the source says of its cells, and a node that is walked back to one of its steps, from where what is told is found.
+#[derive(Drop)]
+pub(crate) struct Outlook<'l> {
+    pub lab: &'l Lab,
+    pub notes: &'l Option<Notes>,
+    pub node: NodeId,
+    pub near: Walk<'l>,
+    ghost stands: { near ≡ standing lab.now node near.step },
 }
 
-/// Ends a line that tells of the step to which a node is walked back.
-///
-/// # Errors
-/// A write failed.
-pub(crate) fn say_walk_tail<W: Write>(
-    lab: &Lab,
-    notes: &Option<Notes>,
-    node: NodeId,
-    walk: &Walk<'_>,
-    writer: &mut Writer<'_, W>,
-) -> Spoken
-    requires { walk.now ≡ standing lab.now node walk.now.step }
-    ensures { SaysExactly result (step_tail notes.now lab.now node walk.now.step) W.contents writer.old writer.new }
-{
-    say_step_tail(lab, notes, walk, node, node, walk.step(), writer)
-}
+impl<'l> Outlook<'l> {
+    ghost use Rattle.std.specs.Prelude.{◌≡◌, ◌≤◌, ℕ};
+    ghost use Rattle.ga_event.specs.Told.{steps_of};
+    ghost use Rattle.ga_lab.specs.Machine.{standing};
+    ghost use Rattle.ga_text.specs.Output.{SaysExactly};
+    ghost use Rattle.ga_origin.specs.Fetched.{fetched_cell as cell_fetched};
+    ghost use Rattle.ga_origin.specs.Origins.{node_after};
+    ghost use Rattle.ga_answers.specs.Tails.{noted_text, slot_before, step_tail, value_tail};
 
-/// Ends a line that tells of a value: of the step that made it, or of the cell where it was loaded; by where a walk of some node
-/// stands.
-///
-/// # Errors
-/// A write failed.
-pub(crate) fn say_value_tail<W: Write>(
-    lab: &Lab,
-    notes: &Option<Notes>,
-    near: &Walk<'_>,
-    at: NodeId,
-    value: Value,
-    writer: &mut Writer<'_, W>,
-) -> Spoken
-    requires { near.now ≡ standing lab.now at near.now.step }
-    ensures { SaysExactly result (value_tail notes.now lab.now value) W.contents writer.old writer.new }
-{
-    if value.step == 0 {
-        let cell = part_cell(value.part);
-        say_tail(notes, value.node, cell, FETCH, writer)
-    } else {
-        say_step_tail(lab, notes, near, at, value.node, value.step, writer)
+    /// From a node that is walked back to its step.
+    pub fn new(lab: &'l Lab, notes: &'l Option<Notes>, node: NodeId, step: u32) -> Self
+        requires { step ≤ steps_of node.number lab.now.kept }
+        ensures lab { result.lab.now ≡ lab.now }
+        ensures notes { result.notes.now ≡ notes.now }
+        ensures node { result.node ≡ node }
+        ensures near { result.near ≡ standing lab.now node step }
+    {
+        Outlook {
+            lab,
+            notes,
+            node,
+            near: lab.walk(node, step),
+        }
+    }
+
+    /// The slot behind so many steps of a node, which is walked back there: from here, where this is of the same node and not earlier,
+    /// else from its newest step.
+    fn slot_near(&self, node: NodeId, place: u32) -> u32
+        requires { place ≤ steps_of node.number self.now.lab.now.kept }
+        ensures { result ≡ (node_after self.now.lab.now node.number place).slot }
+    {
+        if self.node == node && place <= self.near.step() {
+            let mut walk = self.near.copy();
+            walk.back_to(place);
+            walked_slot(self.lab, node, place, &walk)
+        } else {
+            walked_slot(self.lab, node, place, &self.lab.walk(node, place))
+        }
+    }
+
+    /// The slot that was next before a step.
+    fn before_step(&self, node: NodeId, step: u32) -> usize
+        ensures { result ≡ slot_before self.now.lab.now node step }
+    {
+        let place = step.saturating_sub(1).min(self.lab.steps(node));
+        self.slot_near(node, place) as usize
+    }
+
+    /// The same where the source tells slots of the cell.
+    fn step_slot(&self, node: NodeId, step: u32, cell: Option<u8>) -> usize
+        ensures { noted_text self.now.notes.now node cell result ≡ noted_text self.now.notes.now node cell (slot_before self.now.lab.now node step) }
+    {
+        match self.notes {
+            Some(notes) => {
+                if notes.is_long(node, cell) {
+                    self.before_step(node, step)
+                } else {
+                    FETCH
+                }
+            }
+            None => FETCH,
+        }
+    }
+
+    /// The cell from which the instruction word of a step was fetched, where the source says something of cells.
+    fn step_cell(&self, node: NodeId, step: u32) -> Option<u8>
+        ensures { (slot : ℕ) → noted_text self.now.notes.now node result slot
+            ≡ noted_text self.now.notes.now node (cell_fetched self.now.lab.now node step) slot }
+    {
+        match self.notes {
+            Some(_) => fetched_near(self.lab, &self.near, self.node, node, step),
+            None => None,
+        }
+    }
+
+    /// Ends a line that tells of a step.
+    ///
+    /// # Errors
+    /// A write failed.
+    pub fn say_step_tail<W: Write>(
+        &self,
+        node: NodeId,
+        step: u32,
+        writer: &mut Writer<'_, W>,
+    ) -> Spoken
+        ensures { SaysExactly result (step_tail self.now.notes.now self.now.lab.now node step) W.contents writer.old writer.new }
+    {
+        let cell = self.step_cell(node, step);
+        let slot = self.step_slot(node, step, cell);
+        say_tail(self.notes, node, cell, slot, writer)
+    }
+
+    /// Ends a line that tells of the step to which the node is walked back.
+    ///
+    /// # Errors
+    /// A write failed.
+    pub fn say_own_tail<W: Write>(&self, writer: &mut Writer<'_, W>) -> Spoken
+        ensures { SaysExactly result (step_tail self.now.notes.now self.now.lab.now self.now.node self.now.near.step) W.contents writer.old writer.new }
+    {
+        self.say_step_tail(self.node, self.near.step(), writer)
+    }
+
+    /// Ends a line that tells of a value: of the step that made it, or of the cell where it was loaded.
+    ///
+    /// # Errors
+    /// A write failed.
+    pub fn say_value_tail<W: Write>(&self, value: Value, writer: &mut Writer<'_, W>) -> Spoken
+        ensures { SaysExactly result (value_tail self.now.notes.now self.now.lab.now value) W.contents writer.old writer.new }
+    {
+        if value.step == 0 {
+            let cell = part_cell(value.part);
+            say_tail(self.notes, value.node, cell, FETCH, writer)
+        } else {
+            self.say_step_tail(value.node, value.step, writer)
+        }
     }
 }

@@ -1,20 +1,18 @@
 //! Where a value came from, told line by line.
 
-ghost use Rattle.std.specs.Prelude.{◌≡◌, ◌≤◌, ◌<◌, ◌+◌, ◌++◌, ◌⊎◌, Some, flat_map};
+ghost use Rattle.std.specs.Prelude.{◌≡◌, ◌≤◌, ◌<◌, ◌+◌, ◌++◌};
 ghost use Rattle.arrayvec.specs.ArrayVec.{array_vec_len};
-ghost use Rattle.ga_event.specs.Flow.{IsPart};
-ghost use Rattle.ga_lab.specs.Machine.{stands, standing};
 ghost use Rattle.ga_text.specs.Output.{Says, SaysExactly};
-ghost use Rattle.ga_answers.specs.Trees.{blanks, tree_row_text, rows_by, value_text, did_text, head_text, more_text, TellsAsked, TellsWhence};
+ghost use Rattle.ga_answers.specs.Trees.{blanks, value_text, did_text, more_text, TellsWhence};
 ghost use Rattle.ga_answers.specs.kept.{is_first};
 
 use crate::deed_text::{DEED_ROOM, push_deed};
 use crate::part_text::{push_mark, push_part};
-use crate::tail_text::{say_value_tail, say_walk_tail};
+use crate::tail_text::Outlook;
 use arrayvec::ArrayVec;
 use ga_display::refusal_text;
 use ga_grid::NodeId;
-use ga_lab::{Lab, LabFault, Walk};
+use ga_lab::{Lab, LabFault};
 use ga_notes::Notes;
 use ga_origin::{Row, Value, asked_behind, whence_near};
 use ga_text::{STEP_ROOM, Spoken, TextBuffer, Writer, push_node, push_step, push_text};
@@ -45,35 +43,10 @@ pub fn say_whence<W: Write>(
     if !lab.stands((node, step)) {
         return writer.say(refusal_text(LabFault::NoStep));
     }
-    let near = lab.walk(node, step);
-    match asked_behind(lab, &near, node) {
-        Some(value) => say_asked(alloc, lab, notes, &near, node, value, writer),
-        None => say_head(lab, notes, &near, node, writer),
-    }
-}
-
-/// Says the tree of a value, which is asked for where the step is named to which its node is walked back.
-fn say_asked<W: Write>(
-    alloc: Global,
-    lab: &Lab,
-    notes: &Option<Notes>,
-    near: &Walk<'_>,
-    node: NodeId,
-    value: Value,
-    writer: &mut Writer<'_, W>,
-) -> Spoken
-    requires part { IsPart value.part }
-    requires near { near.now ≡ standing lab.now node near.now.step }
-    ensures { Says result (λ text. TellsAsked notes.now lab.now node near.now.step (Some value) text)
-        W.contents writer.old writer.new }
-{
-    match whence_near(alloc, lab, near, node, value, MOST_ROWS) {
-        Ok(listing) => {
-            let rows = listing.rows.as_slice();
-            say_rows(lab, notes, near, node, rows, writer)?;
-            writer.say_blocks(more(listing.is_whole))
-        }
-        Err(_) => writer.say(refusal_text(LabFault::Memory)),
+    let here = Outlook::new(lab, notes, node, step);
+    match asked_behind(lab, &here.near, node) {
+        Some(value) => here.say_asked(alloc, value, writer),
+        None => here.say_head(writer),
     }
 }
 
@@ -92,80 +65,6 @@ fn is_first(step: u32, rows: &[Row]) -> bool
         [first, ..] => first.value.step == step,
         [] => false,
     }
-}
-
-/// Says the rows, behind the step asked for where this isn't the first of them.
-fn say_rows<W: Write>(
-    lab: &Lab,
-    notes: &Option<Notes>,
-    near: &Walk<'_>,
-    node: NodeId,
-    rows: &[Row],
-    writer: &mut Writer<'_, W>,
-) -> Spoken
-    requires { near.now ≡ standing lab.now node near.now.step }
-    ensures { Says result (λ text. text ≡ rows_by notes.now lab.now node near.now.step (is_first near.now.step rows.now) rows.now)
-        W.contents writer.old writer.new }
-{
-    if is_first(near.step(), rows) {
-        return say_lines(lab, notes, near, node, 0, rows, writer);
-    }
-    say_head(lab, notes, near, node, writer)?;
-    say_lines(lab, notes, near, node, 1, rows, writer)
-}
-
-/// Says the step asked for, to which its node is walked back.
-fn say_head<W: Write>(
-    lab: &Lab,
-    notes: &Option<Notes>,
-    near: &Walk<'_>,
-    node: NodeId,
-    writer: &mut Writer<'_, W>,
-) -> Spoken
-    requires { near.now ≡ standing lab.now node near.now.step }
-    ensures { Says result (λ text. text ≡ head_text notes.now lab.now node near.now.step)
-        W.contents writer.old writer.new }
-{
-    writer.say_blocks(head_line(lab, node, near.step()).as_slice())?;
-    say_walk_tail(lab, notes, node, near, writer)
-}
-
-/// Says the lines of some rows, each so much deeper, by where a walk of some node stands.
-fn say_lines<W: Write>(
-    lab: &Lab,
-    notes: &Option<Notes>,
-    near: &Walk<'_>,
-    at: NodeId,
-    deeper: u8,
-    rows: &[Row],
-    writer: &mut Writer<'_, W>,
-) -> Spoken
-    requires { near.now ≡ standing lab.now at near.now.step }
-    ensures { Says result (λ text. text ≡ flat_map (tree_row_text notes.now lab.now deeper) rows.now)
-        W.contents writer.old writer.new }
-{
-    'rows: for row in rows {
-        say_row(lab, notes, near, at, deeper, *row, writer)?;
-    }
-    Ok(())
-}
-
-/// Says the line of a row.
-pub(crate) fn say_row<W: Write>(
-    lab: &Lab,
-    notes: &Option<Notes>,
-    near: &Walk<'_>,
-    at: NodeId,
-    deeper: u8,
-    row: Row,
-    writer: &mut Writer<'_, W>,
-) -> Spoken
-    requires { near.now ≡ standing lab.now at near.now.step }
-    ensures { SaysExactly result (tree_row_text notes.now lab.now deeper row) W.contents writer.old writer.new }
-{
-    say_blanks(u64::from(row.depth) + u64::from(deeper), writer)?;
-    writer.say_blocks(value_line(lab, row.value).as_slice())?;
-    say_value_tail(lab, notes, near, at, row.value, writer)
 }
 
 /// Says two blanks for each level.
@@ -215,5 +114,69 @@ fn push_did(out: &mut TextBuffer, lab: &Lab, node: NodeId, step: u32)
     push_text(out, b" ");
     if let Some(made) = lab.told(node, step.saturating_sub(1)) {
         push_deed(out, made, node);
+    }
+}
+
+impl<'l> Outlook<'l> {
+    ghost use Rattle.std.specs.Prelude.{◌≡◌, Some, flat_map};
+    ghost use Rattle.ga_event.specs.Flow.{IsPart};
+    ghost use Rattle.ga_text.specs.Output.{Says, SaysExactly};
+    ghost use Rattle.ga_answers.specs.Trees.{tree_row_text, rows_by, head_text, TellsAsked};
+    ghost use Rattle.ga_answers.specs.kept.{is_first};
+
+    /// Says the tree of a value, which is asked for where the step is named to which its node is walked back.
+    fn say_asked<W: Write>(&self, alloc: Global, value: Value, writer: &mut Writer<'_, W>) -> Spoken
+        requires { IsPart value.part }
+        ensures { Says result (λ text. TellsAsked self.now.notes.now self.now.lab.now self.now.node self.now.near.step (Some value) text)
+            W.contents writer.old writer.new }
+    {
+        match whence_near(alloc, self.lab, &self.near, self.node, value, MOST_ROWS) {
+            Ok(listing) => {
+                self.say_rows(listing.rows.as_slice(), writer)?;
+                writer.say_blocks(more(listing.is_whole))
+            }
+            Err(_) => writer.say(refusal_text(LabFault::Memory)),
+        }
+    }
+
+    /// Says the rows, behind the step asked for where this isn't the first of them.
+    fn say_rows<W: Write>(&self, rows: &[Row], writer: &mut Writer<'_, W>) -> Spoken
+        ensures { Says result (λ text. text ≡ rows_by self.now.notes.now self.now.lab.now self.now.node self.now.near.step (is_first self.now.near.step rows.now) rows.now)
+            W.contents writer.old writer.new }
+    {
+        if is_first(self.near.step(), rows) {
+            return self.say_lines(0, rows, writer);
+        }
+        self.say_head(writer)?;
+        self.say_lines(1, rows, writer)
+    }
+
+    /// Says the step asked for, to which its node is walked back.
+    fn say_head<W: Write>(&self, writer: &mut Writer<'_, W>) -> Spoken
+        ensures { Says result (λ text. text ≡ head_text self.now.notes.now self.now.lab.now self.now.node self.now.near.step)
+            W.contents writer.old writer.new }
+    {
+        writer.say_blocks(head_line(self.lab, self.node, self.near.step()).as_slice())?;
+        self.say_own_tail(writer)
+    }
+
+    /// Says the lines of some rows, each so much deeper.
+    fn say_lines<W: Write>(&self, deeper: u8, rows: &[Row], writer: &mut Writer<'_, W>) -> Spoken
+        ensures { Says result (λ text. text ≡ flat_map (tree_row_text self.now.notes.now self.now.lab.now deeper) rows.now)
+            W.contents writer.old writer.new }
+    {
+        'rows: for row in rows {
+            self.say_row(deeper, *row, writer)?;
+        }
+        Ok(())
+    }
+
+    /// Says the line of a row.
+    pub fn say_row<W: Write>(&self, deeper: u8, row: Row, writer: &mut Writer<'_, W>) -> Spoken
+        ensures { SaysExactly result (tree_row_text self.now.notes.now self.now.lab.now deeper row) W.contents writer.old writer.new }
+    {
+        say_blanks(u64::from(row.depth) + u64::from(deeper), writer)?;
+        writer.say_blocks(value_line(self.lab, row.value).as_slice())?;
+        self.say_value_tail(row.value, writer)
     }
 }

@@ -1,5 +1,7 @@
-use Rattle.std.proofs.Common.{rules, ℕ, ◌+◌, min, ap, sym, ◌∙◌, arith}
+use Rattle.std.proofs.Common.{rules, ◌≡◌, ℕ, ◌+◌, ◌-◌, min, ap, sym, ◌∙◌, arith}
 use Rattle.ga_event.specs.Told.{steps_of}
+use Rattle.ga_lab.specs.Machine.{Standing}
+use Rattle.ga_answers.specs.Around.{places_text}
 use Rattle.ga_answers.proofs.Saying.{around_here, last_is, around_nowhere}
 use Rattle.ga_answers.proofs.at_text.say_around.Goals as goal
 
@@ -7,11 +9,17 @@ pub returns-then-stands : goal.returns-then-stands
 returns-then-stands g c = (
   search rules,
   λ before said h.
-      let done = c.say_places.ensures.1 before said h in (
+      let notes = c.args.notes.now in
+      let s = c.args.lab.now in
+      let first : ℕ = c.saturating_sub-first.result in
+      let last : ℕ = c.min-last.result in
+      let done = c.say_places.ensures.1 before said h in
+      let at : c.new.result.near.step ≡ last = ap (λ (z : Standing). z.step) c.new.ensures.near in
+      let told : done.0 ≡ places_text notes s c.args.node first (last - first) = rw (c.new.ensures.notes, c.new.ensures.lab, c.new.ensures.node, at) at done.1 in (
         done.0,
-        done.1 ∙ around_here c.args.notes.now c.args.lab.now c.args.node c.args.step c.args.around _ _ (sym c.stands.ensures.value ∙ c.if-stands.true)
+        told ∙ around_here notes s c.args.node c.args.step c.args.around first last (sym c.stands.ensures.value ∙ c.if-stands.true)
             (omega (arith, c.saturating_sub-first.ensures))
-            (last_is (c.args.step + c.args.around) (steps_of c.args.node.number c.args.lab.now.kept) c.saturating_add.result c.min-last.result c.saturating_add.ensures
+            (last_is (c.args.step + c.args.around) (steps_of c.args.node.number s.kept) c.saturating_add.result last c.saturating_add.ensures
             (c.min-last.ensures ∙ ap (λ (n : ℕ). min c.saturating_add.result n) c.steps.ensures.steps) (omega (arith, c.steps.ensures.steps, c.steps.type_inv))),
         done.2,
       ),

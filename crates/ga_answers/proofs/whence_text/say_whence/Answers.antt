@@ -1,4 +1,4 @@
-use Rattle.std.proofs.Common.{rules, ◌≡◌, ℕ, Some, sym, ap, ◌∙◌, inl, inr, subst}
+use Rattle.std.proofs.Common.{rules, ◌≡◌, Some, sym, ap, ◌∙◌, inl, inr, subst}
 use Rattle.ga_lab.specs.Machine.{Standing}
 use Rattle.ga_origin.specs.Asked.{asked_of}
 use Rattle.ga_origin.proofs.Made.{stands_so}
@@ -15,8 +15,8 @@ returns-then-not-stands g c = (
   ),
 )
 
-pub say_asked-requires-clause-near : goal.say_asked-requires-clause-near
-say_asked-requires-clause-near g c = stands_so c.args.lab.now c.args.node c.args.step c.walk-near.result c.walk-near.ensures
+pub asked_behind-requires : goal.asked_behind-requires
+asked_behind-requires g c = stands_so c.args.lab.now c.args.node c.args.step c.new-here.result.near c.new-here.ensures.near
 
 pub returns-in-Some : goal.returns-in-Some
 returns-in-Some g c = (
@@ -24,12 +24,12 @@ returns-in-Some g c = (
   λ before said h.
       let s = c.args.lab.now in
       let done = c.say_asked.ensures.1 before said h in
-      let at : c.walk-near.result.step ≡ c.args.step = ap (λ (z : Standing). z.step) c.walk-near.ensures in (
+      let at : c.new-here.result.near.step ≡ c.args.step = ap (λ (z : Standing). z.step) c.new-here.ensures.near in
+      let told : TellsAsked c.args.notes.now s c.args.node c.args.step (Some c.in-Some.value) done.0 = rw (c.new-here.ensures.notes, c.new-here.ensures.lab, c.new-here.ensures.node, at) at done.1 in (
         done.0,
         inr (
           sym c.stands.ensures.value ∙ c.if-not-stands.false,
-          subst (λ v. TellsAsked c.args.notes.now s c.args.node c.args.step v done.0) (c.in-Some.ensures.value ∙ ap (asked_of s c.args.node) at)
-              (subst (λ (k : ℕ). TellsAsked c.args.notes.now s c.args.node k (Some c.in-Some.value) done.0) at done.1),
+          subst (λ v. TellsAsked c.args.notes.now s c.args.node c.args.step v done.0) (c.in-Some.ensures.value ∙ ap (asked_of s c.args.node) at) told,
         ),
         done.2,
       ),
@@ -41,12 +41,12 @@ returns-in-None g c = (
   λ before said h.
       let s = c.args.lab.now in
       let done = c.say_head.ensures.1 before said h in
-      let at : c.walk-near.result.step ≡ c.args.step = ap (λ (z : Standing). z.step) c.walk-near.ensures in (
+      let at : c.new-here.result.near.step ≡ c.args.step = ap (λ (z : Standing). z.step) c.new-here.ensures.near in
+      let told : done.0 ≡ head_text c.args.notes.now s c.args.node c.args.step = rw (c.new-here.ensures.notes, c.new-here.ensures.lab, c.new-here.ensures.node, at) at done.1 in (
         done.0,
         inr (
           sym c.stands.ensures.value ∙ c.if-not-stands.false,
-          subst (λ v. TellsAsked c.args.notes.now s c.args.node c.args.step v done.0) (c.in-None.ensures.value ∙ ap (asked_of s c.args.node) at)
-              (done.1 ∙ ap (head_text c.args.notes.now s c.args.node) at),
+          subst (λ v. TellsAsked c.args.notes.now s c.args.node c.args.step v done.0) (c.in-None.ensures.value ∙ ap (asked_of s c.args.node) at) told,
         ),
         done.2,
       ),
