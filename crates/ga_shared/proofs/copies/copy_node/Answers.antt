@@ -23,4 +23,4 @@ copy_registers-requires c = (
 pub returns : goal.returns
 returns c =
     record_of-copied c.args.from.now c.args.to.now c.copy_memories.new.to c.set_stacks.new.self c.copy_registers.new.to c.of.result c.of-2.result
-    c.copy_memories.ensures c.set_stacks.ensures.kept c.copy_registers.ensures (c.of.ensures ∙ c.stack_words-kept.ensures.0) (c.of-2.ensures ∙ c.stack_words-kept.ensures.1)
+    c.copy_memories.ensures c.set_stacks.ensures.kept c.copy_registers.ensures (c.of.ensures ∙ c.stack_words-data_words.ensures.0) (c.of-2.ensures ∙ c.stack_words-data_words.ensures.1)

@@ -8,7 +8,7 @@ returns c =
     let i = c.loop-place.invariant in
     let d = (record_of c.args.node.now).d in
     let r = (record_of c.args.node.now).r in
-    let each = below_more (λ k. slice_index c.loop-place.kept k ≡ slice_index d k) 9 (λ k below. i.kept k (omega arith)) i.bottom in (
-      same_number_lists c.loop-place.kept d (i.kept_size ∙ sym (c.d.ensures.size (omega arith))) (λ k b. each k (omega (arith, i.kept_size))),
-      same_number_lists c.loop-place.returned r (i.returned_size ∙ sym (c.r.ensures.size (omega arith))) (λ k b. i.returned k (omega (arith, i.returned_size))),
+    let each = below_more (λ k. slice_index c.loop-place.data_words k ≡ slice_index d k) 9 (λ k below. i.data_words k (omega arith)) i.bottom in (
+      same_number_lists c.loop-place.data_words d (i.data_size ∙ sym (c.d.ensures.size (omega arith))) (λ k b. each k (omega (arith, i.data_size))),
+      same_number_lists c.loop-place.return_words r (i.return_size ∙ sym (c.r.ensures.size (omega arith))) (λ k b. i.return_words k (omega (arith, i.return_size))),
     )
