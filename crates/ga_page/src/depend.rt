@@ -27,11 +27,7 @@ pub extern "C" fn ga_shades(
         × (result ≡ length codes) × (take result output.new ≡ take (length output.old) codes)) }
 {
     match codes(alloc, image, nodes, place) {
-        Some(codes) => {
-            let text = codes.as_slice();
-            put_front(output, text);
-            text.len()
-        }
+        Some(codes) => put_front(output, codes.as_slice()),
         None => 0,
     }
 }

@@ -6,7 +6,7 @@ ghost use Rattle.ga_explorer.specs.Opening.{Exploring};
 ghost use Rattle.ga_picture.specs.Following.{FollowsTo};
 ghost use Rattle.ga_page.specs.kept.{maker_of, makers_of};
 
-use crate::buffer::put_front;
+use crate::buffer::{put_front, streams};
 use ga_event::{Cause, Event};
 use ga_lab::Lab;
 use ga_picture::follow_session;
@@ -21,9 +21,7 @@ pub extern "C" fn ga_kept(alloc: Global, input: &[u8], output: &mut [u8], limit:
         × FollowsTo limit read rest text (Ok last) × (nodes : List ℕ) × (nodes ≡ makers_of last.lab)
         × (result ≡ length nodes) × (take result output.new ≡ take (length output.old) nodes)) }
 {
-    let mut reader = input;
-    let mut refusal = Vec::new(alloc);
-    let mut errors = Vec::new(alloc);
+    let (mut reader, mut refusal, mut errors) = streams(alloc, input);
     match follow_session(alloc, &mut reader, &mut refusal, &mut errors, limit) {
         Ok(explorer) => tell(alloc, explorer.lab(), output),
         Err(_) => 0,
@@ -36,11 +34,7 @@ fn tell(alloc: Global, lab: &Lab, output: &mut [u8]) -> usize
         × (result ≡ length nodes) × (take result output.new ≡ take (length output.old) nodes)) }
 {
     match makers(alloc, lab) {
-        Some(nodes) => {
-            let numbers = nodes.as_slice();
-            put_front(output, numbers);
-            numbers.len()
-        }
+        Some(nodes) => put_front(output, nodes.as_slice()),
         None => 0,
     }
 }

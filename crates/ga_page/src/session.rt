@@ -6,7 +6,7 @@ ghost use Rattle.ga_console.specs.declared.run.Status.{Status as Ended};
 ghost use Rattle.ga_explorer.specs.Session.{RunsExploring};
 ghost use Rattle.ga_page.specs.kept.{number_of};
 
-use crate::buffer::put_front;
+use crate::buffer::{put_front, streams};
 use ga_console::Status;
 use ga_explorer::explore;
 use std::alloc::Global;
@@ -27,14 +27,10 @@ pub extern "C" fn ga_session(
         × (result ≡ length text) × (take result output.new ≡ take (length output.old) text)
         × (take 1 ended.new ≡ take (length ended.old) (number_of status ∷ [])) }
 {
-    let mut reader = input;
-    let mut answers = Vec::new(alloc);
-    let mut errors = Vec::new(alloc);
+    let (mut reader, mut answers, mut errors) = streams(alloc, input);
     let status = explore(alloc, &mut reader, &mut answers, &mut errors, limit);
-    let text = answers.as_slice();
-    put_front(output, text);
     put_front(ended, &[number(status)]);
-    text.len()
+    put_front(output, answers.as_slice())
 }
 
 /// The exit status of a session that ended so.

@@ -5,7 +5,7 @@ ghost use Rattle.ga_text.specs.Lines.{Bytes};
 ghost use Rattle.ga_listing.specs.Source.{Assembles, Lists};
 ghost use Rattle.ga_console.specs.declared.run.Status.{Status as Ended};
 
-use crate::buffer::put_front;
+use crate::buffer::{put_front, streams};
 use ga_listing::{assemble_source, list_source};
 use std::alloc::Global;
 
@@ -21,14 +21,10 @@ pub extern "C" fn ga_assemble(
     ensures { (read rest text : Bytes) × (status : Ended) × (input.now ≡ read ++ rest) × Assembles read rest text status
         × (result ≡ length text) × (take result output.new ≡ take (length output.old) text) }
 {
-    let mut reader = input;
-    let mut image = Vec::new(alloc);
-    let mut faults = Vec::new(alloc);
+    let (mut reader, mut image, mut faults) = streams(alloc, input);
     let _status = assemble_source(alloc, &mut reader, &mut image, &mut faults);
-    let text = image.as_slice();
-    put_front(output, text);
     put_front(told, faults.as_slice());
-    text.len()
+    put_front(output, image.as_slice())
 }
 
 /// The listing of a source, as far as there is room for it; says how many bytes it has, 0 where the source is refused.
@@ -37,11 +33,7 @@ pub extern "C" fn ga_list(alloc: Global, input: &[u8], output: &mut [u8]) -> usi
     ensures { (read rest text : Bytes) × (status : Ended) × (input.now ≡ read ++ rest) × Lists read rest text status
         × (result ≡ length text) × (take result output.new ≡ take (length output.old) text) }
 {
-    let mut reader = input;
-    let mut listing = Vec::new(alloc);
-    let mut faults = Vec::new(alloc);
+    let (mut reader, mut listing, mut faults) = streams(alloc, input);
     let _status = list_source(alloc, &mut reader, &mut listing, &mut faults);
-    let text = listing.as_slice();
-    put_front(output, text);
-    text.len()
+    put_front(output, listing.as_slice())
 }

@@ -1,4 +1,4 @@
-use Rattle.std.proofs.Common.{[], Some, refl, ap, ◌≡◌, ◌++◌, ℕ, List, length, take, Ok, ◌⊎◌, inl, inr, subst}
+use Rattle.std.proofs.Common.{[], Some, ap, ◌≡◌, ◌++◌, ℕ, List, length, take, Ok, ◌⊎◌, inl, inr, subst}
 use Rattle.ga_lab.specs.Machine.{State}
 use Rattle.ga_explorer.specs.Opening.{Exploring}
 use Rattle.ga_picture.specs.Following.{FollowsTo}
@@ -17,6 +17,6 @@ kept_told limit result input old new read rest text seen last splits reached sam
 
 pub returns-in-Ok : goal.returns-in-Ok
 returns-in-Ok c =
-    let done = c.in-Ok.ensures c.args.input.now [] refl (ap Some c.new-refusal.ensures.items) in
+    let done = c.in-Ok.ensures c.args.input.now [] (ap Some c.streams-refusal.ensures.0) (ap Some c.streams-refusal.ensures.1) in
     kept_told c.args.limit c.tell.result c.args.input.now c.args.output.now c.tell.new.output done.0 done.1 done.2 c.lab.result.now c.in-Ok.explorer
     done.3 done.6 c.lab.ensures c.tell.ensures
