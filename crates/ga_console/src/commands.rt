@@ -30,10 +30,10 @@ pub enum Ending {
 /// A write failed.
 pub fn serve<S: Responder, R: Read, W: Write>(
     alloc: Global,
-    session: &mut S,
     input: &mut Input,
     reader: &mut R,
     writer: &mut Writer<'_, W>,
+    session: &mut S,
 ) -> Result<Ending, WriteFailed>
     requires { IsWithin input.old }
     ensures same { IsSameStream writer.old writer.new }
@@ -45,17 +45,17 @@ pub fn serve<S: Responder, R: Read, W: Write>(
         × Serves S.answers (input_limit - input.old.taken) session.old read rest text session.new result
         × Written result (said ++ text) sent }
 {
-    let ending = answer_lines(input, reader, writer, alloc, session)?;
+    let ending = answer_lines(alloc, input, reader, writer, session)?;
     writer.send()?;
     Ok(ending)
 }
 
 /// Answers the command lines one by one, until the input ends. Some of the answers may be pending then.
 fn answer_lines<S: Responder, R: Read, W: Write>(
+    alloc: Global,
     input: &mut Input,
     reader: &mut R,
     writer: &mut Writer<'_, W>,
-    alloc: Global,
     session: &mut S,
 ) -> Result<Ending, WriteFailed>
     requires { IsWithin input.old }

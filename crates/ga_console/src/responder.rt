@@ -24,9 +24,6 @@ pub enum Turn {
     Quit,
 }
 
-/// What comes of answering a line.
-pub type Turned = Result<Turn, WriteFailed>;
-
 /// What answers the lines of a session. It knows each command of the debugger, and may know more.
 pub trait Responder: Drop {
     // The machine before a line, the line, its answer, and the machine after it.
@@ -43,15 +40,25 @@ pub trait Responder: Drop {
     ///
     /// # Errors
     /// A write failed.
-    fn answer<W: Write>(&mut self, alloc: Global, line: &[u8], out: &mut Writer<'_, W>) -> Turned
-        ensures { Says result (Turns answers self.old line.now self.new result) W.contents out.old out.new };
+    fn answer<W: Write>(
+        &mut self,
+        alloc: Global,
+        line: &[u8],
+        writer: &mut Writer<'_, W>,
+    ) -> Result<Turn, WriteFailed>
+        ensures { Says result (Turns answers self.old line.now self.new result) W.contents writer.old writer.new };
 
     /// Answers a line that spells a command of the debugger.
     ///
     /// # Errors
     /// A write failed.
-    fn obey<W: Write>(&mut self, alloc: Global, asked: Command, out: &mut Writer<'_, W>) -> Spoken
-        ensures { Says result (AnswersCommand answers self.old asked self.new) W.contents out.old out.new };
+    fn obey<W: Write>(
+        &mut self,
+        alloc: Global,
+        command: Command,
+        writer: &mut Writer<'_, W>,
+    ) -> Spoken
+        ensures { Says result (AnswersCommand answers self.old command self.new) W.contents writer.old writer.new };
 }
 
 impl Responder for Lab {
@@ -65,33 +72,48 @@ impl Responder for Lab {
         lab
     }
 
-    fn answer<W: Write>(&mut self, alloc: Global, line: &[u8], out: &mut Writer<'_, W>) -> Turned {
-        answer(alloc, self, line, out)
+    fn answer<W: Write>(
+        &mut self,
+        alloc: Global,
+        line: &[u8],
+        writer: &mut Writer<'_, W>,
+    ) -> Result<Turn, WriteFailed> {
+        answer(alloc, self, line, writer)
     }
 
     #[inline(always)]
-    fn obey<W: Write>(&mut self, alloc: Global, asked: Command, out: &mut Writer<'_, W>) -> Spoken {
-        obey(alloc, self, asked, out)
+    fn obey<W: Write>(
+        &mut self,
+        alloc: Global,
+        command: Command,
+        writer: &mut Writer<'_, W>,
+    ) -> Spoken {
+        obey(alloc, self, command, writer)
     }
 }
 
 /// Answers a line, of which at least the first 201 bytes are here.
-fn answer<W: Write>(alloc: Global, lab: &mut Lab, line: &[u8], out: &mut Writer<'_, W>) -> Turned
-    ensures { Says result (Turns LineAnswer lab.old line.now lab.new result) W.contents out.old out.new }
+fn answer<W: Write>(
+    alloc: Global,
+    lab: &mut Lab,
+    line: &[u8],
+    writer: &mut Writer<'_, W>,
+) -> Result<Turn, WriteFailed>
+    ensures { Says result (Turns LineAnswer lab.old line.now lab.new result) W.contents writer.old writer.new }
 {
     if line.len() > LINE_LIMIT {
-        out.say(b"no 32 long\n")?;
+        writer.say(b"no 32 long\n")?;
         return Ok(Turn::Answered);
     }
     match command_of(line) {
         None => {
-            out.say(b"no 31 syntax\n")?;
+            writer.say(b"no 31 syntax\n")?;
             Ok(Turn::Answered)
         }
         Some(command) => match command {
             Command::Quit => Ok(Turn::Quit),
             _ => {
-                obey(alloc, lab, command, out)?;
+                obey(alloc, lab, command, writer)?;
                 Ok(Turn::Answered)
             }
         },
@@ -100,24 +122,29 @@ fn answer<W: Write>(alloc: Global, lab: &mut Lab, line: &[u8], out: &mut Writer<
 
 /// Carries a command out. `quit` asks for nothing here.
 #[inline(always)]
-fn obey<W: Write>(alloc: Global, lab: &mut Lab, command: Command, out: &mut Writer<'_, W>) -> Spoken
-    ensures { Says result (λ text. Does lab.old command text lab.new) W.contents out.old out.new }
+fn obey<W: Write>(
+    alloc: Global,
+    lab: &mut Lab,
+    command: Command,
+    writer: &mut Writer<'_, W>,
+) -> Spoken
+    ensures { Says result (λ text. Does lab.old command text lab.new) W.contents writer.old writer.new }
 {
     match command {
-        Command::Step(at) => step(lab, at, out),
-        Command::Back => back(lab, out),
-        Command::Rewind(at, number) => rewind(lab, at, number, out),
-        Command::Node(at) => node(lab, at, out),
-        Command::Memory(at, address) => memory(lab, at, address, out),
-        Command::Trace(at) => trace(lab, at, out),
+        Command::Step(at) => step(lab, at, writer),
+        Command::Back => back(lab, writer),
+        Command::Rewind(at, number) => rewind(lab, at, number, writer),
+        Command::Node(at) => node(lab, at, writer),
+        Command::Memory(at, address) => memory(lab, at, address, writer),
+        Command::Trace(at) => trace(lab, at, writer),
         Command::Why {
             from,
             from_step,
             to,
             to_step,
-        } => why(lab, (from, from_step), (to, to_step), out),
-        Command::Count => count(lab, out),
-        Command::Dump => dump(alloc, lab, out),
+        } => why(lab, (from, from_step), (to, to_step), writer),
+        Command::Count => count(lab, writer),
+        Command::Dump => dump(alloc, lab, writer),
         Command::Quit => Ok(()),
     }
 }

@@ -39,12 +39,17 @@ pub enum Status {
 /// answer for each command line, up to `quit` or the end of the input. Answers are gathered, and written before the session
 /// waits for more input. A line has up to 200 bytes, an input up to 16777216. Where a read fails, the lines read whole before
 /// are answered; after a failed write nothing more is written.
-pub fn session<R: Read, W: Write>(alloc: Global, reader: &mut R, out: &mut W, limit: u32) -> Status
+pub fn session<R: Read, W: Write>(
+    alloc: Global,
+    reader: &mut R,
+    writer: &mut W,
+    limit: u32,
+) -> Status
     // Where the streams tell their bytes: what was read, and what was written for it by the status.
     ensures { ReadsAndWrites (λ read rest text. Runs limit read rest text result)
-        (R.remaining reader.old) (R.remaining reader.new) (W.contents out.old) (W.contents out.new) }
+        (R.remaining reader.old) (R.remaining reader.new) (W.contents writer.old) (W.contents writer.new) }
 {
-    session_with::<Lab, R, W>(alloc, reader, out, limit)
+    session_with::<Lab, R, W>(alloc, reader, writer, limit)
 }
 
 /// A session as `session` is, whose lines are answered by a responder that begins on the image's chip.
@@ -92,7 +97,7 @@ fn after_image<S: Responder, R: Read, W: Write>(
         Ok(lab) => {
             let mut session = S::open(lab);
             let mut said = Writer::ready(writer);
-            status_of(serve(alloc, &mut session, input, reader, &mut said))
+            status_of(serve(alloc, input, reader, &mut said, &mut session))
         }
         Err(fault) => refuse(writer, fault),
     }

@@ -9,12 +9,12 @@ ghost use Rattle.ga_console.specs.kept.Run.{Turns};
 
 use crate::commands::{ExplorerCommand, request_of, told};
 use crate::forms::say_no_command;
-use ga_console::{Command, Responder, Turn, Turned, command_of};
+use ga_console::{Command, Responder, Turn, command_of};
 use ga_image::LINE_LIMIT;
 use ga_lab::Lab;
 use ga_notes::Notes;
 use ga_search::{conditions_asked, run_schedule};
-use ga_text::{Spoken, Writer};
+use ga_text::{Spoken, WriteFailed, Writer};
 use std::alloc::Global;
 use std::io::Write;
 use std::marker::Model;
@@ -72,13 +72,23 @@ impl Responder for Explorer {
         Explorer { lab, notes: None }
     }
 
-    fn answer<W: Write>(&mut self, alloc: Global, line: &[u8], out: &mut Writer<'_, W>) -> Turned {
-        answer_line(alloc, &mut self.lab, &self.notes, line, out)
+    fn answer<W: Write>(
+        &mut self,
+        alloc: Global,
+        line: &[u8],
+        writer: &mut Writer<'_, W>,
+    ) -> Result<Turn, WriteFailed> {
+        answer_line(alloc, &mut self.lab, &self.notes, line, writer)
     }
 
     #[inline(always)]
-    fn obey<W: Write>(&mut self, alloc: Global, asked: Command, out: &mut Writer<'_, W>) -> Spoken {
-        self.lab.obey(alloc, asked, out)
+    fn obey<W: Write>(
+        &mut self,
+        alloc: Global,
+        command: Command,
+        writer: &mut Writer<'_, W>,
+    ) -> Spoken {
+        self.lab.obey(alloc, command, writer)
     }
 }
 
@@ -92,7 +102,7 @@ pub fn answer_line<W: Write>(
     notes: &Option<Notes>,
     line: &[u8],
     writer: &mut Writer<'_, W>,
-) -> Turned
+) -> Result<Turn, WriteFailed>
     ensures { Says result (ExploresOrQuits (record { lab = lab.old; notes = notes.now }) line.now (record { lab = lab.new; notes = notes.now }) result)
         W.contents writer.old writer.new }
 {
@@ -157,7 +167,7 @@ fn answer_other<W: Write>(
     lab: &mut Lab,
     line: &[u8],
     writer: &mut Writer<'_, W>,
-) -> Turned
+) -> Result<Turn, WriteFailed>
     ensures { Says result (Turns AnswersOther lab.old line.now lab.new result)
         W.contents writer.old writer.new }
 {

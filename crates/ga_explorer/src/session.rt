@@ -27,7 +27,7 @@ pub fn explore<R: Read, W: Write, E: Write>(
         Ok(begun) => {
             let mut session = begun;
             let mut said = Writer::ready(writer);
-            status_of(serve(alloc, &mut session, &mut input, reader, &mut said))
+            status_of(serve(alloc, &mut input, reader, &mut said, &mut session))
         }
         Err(status) => status,
     }

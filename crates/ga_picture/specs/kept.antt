@@ -22,7 +22,6 @@ use Rattle.ga_picture.specs.declared.by_itself.ByItself.{ByItself}
 use Rattle.ga_picture.specs.declared.item.Facts.{Facts}
 use Rattle.ga_picture.specs.declared.shade.Shade.{Shade}
 use Rattle.ga_picture.specs.declared.view.View.{View}
-use Rattle.ga_picture.specs.Drawing as drawing
 use Rattle.ga_picture.specs.Drawing.{AreShades, IsLineOf}
 use Rattle.ga_picture.specs.Items.{Known, is_plain_at, is_same_run}
 use Rattle.ga_picture.specs.Picture.{place_for, items_in, AreGroups, classes_in}
@@ -172,9 +171,3 @@ AreWithin runs bound = (n : ℕ) → slice_index runs.counts n ≤ bound
 -- a head and the groups of the rows
 abbrev pub BeginsSvg : List PictureRow → List ℕ → Type 0
 BeginsSvg rows text = (head : List ℕ) × (groups : List ℕ) × AreGroups (classes_in rows) groups × (text ≡ head ++ groups)
-
--- ---- how an event stands to one that is asked for: that depends on it, or it on that
-
-abbrev pub IsRelated : Bool → List Cause → Option ℕ → ℕ → Type 0
-IsRelated true events asked place = drawing.DependsOnPlace events asked place
-IsRelated false events asked place = drawing.Goes events asked place

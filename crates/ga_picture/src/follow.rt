@@ -55,7 +55,7 @@ fn follow<R: Read, W: Write>(
         short: false,
     };
     let mut said = Writer::new(writer);
-    let ending = serve(alloc, &mut session, input, reader, &mut said);
+    let ending = serve(alloc, input, reader, &mut said, &mut session);
     match status_of(ending) {
         Status::Done => reached(writer, session),
         _ => Err(Status::StreamFault),

@@ -1,8 +1,7 @@
 //! The colours of the events.
 
 ghost use Rattle.std.specs.Prelude.{◌≡◌, ◌↔◌, ◌<◌, ℕ, true, false, length, Option, Some, IfOk, IfSome, IsTrue, slice_index_or};
-ghost use Rattle.ga_picture.specs.Drawing.{AreShades};
-ghost use Rattle.ga_picture.specs.kept.{IsRelated};
+ghost use Rattle.ga_picture.specs.Drawing.{AreShades, Goes, DependsOnPlace};
 ghost use Rattle.ga_causal.specs.Dependence.{DependsOn};
 
 use ga_causal::{Cause, Memory, Nodes, closure};
@@ -31,8 +30,8 @@ pub fn shades(
     requires rewind { IfSome rewind (λ place. place < length events.now) }
     ensures { IfOk result (λ shades. AreShades events.now cause rewind shades.items) }
 {
-    let leads = related(alloc, events, cause, true)?;
-    let goes = related(alloc, events, rewind, false)?;
+    let leads = leading(alloc, events, cause)?;
+    let goes = going(alloc, events, rewind)?;
     let mut shades = Vec::with_capacity(alloc, events.len())?;
     'events: for place in 0..events.len() {
         shades.push(shade_for(goes[place], leads[place]))?;
@@ -40,23 +39,29 @@ pub fn shades(
     Ok(shades)
 }
 
-/// Of each event, whether the one at the place depends on it, or else whether it depends on that. Without a place all count as
-/// the first, and none as the second.
-fn related(
-    alloc: Global,
-    events: &[Cause],
-    place: Option<u32>,
-    is_before: bool,
-) -> Result<Vec<bool>, Memory>
-    requires { IfSome place (λ place. place < length events.now) }
+/// Of each event, whether the one at the place depends on it; without a place all count as such.
+fn leading(alloc: Global, events: &[Cause], cause: Option<u32>) -> Result<Vec<bool>, Memory>
+    requires { IfSome cause (λ place. place < length events.now) }
     ensures size { IfOk result (λ flags. length flags.items ≡ length events.now) }
     ensures exact { IfOk result (λ flags.
-        (j : ℕ) → j < length events.now → (IsTrue (slice_index_or flags.items j false) ↔ IsRelated is_before events.now place j)) }
+        (j : ℕ) → j < length events.now → (IsTrue (slice_index_or flags.items j false) ↔ DependsOnPlace events.now cause j)) }
 {
-    match place {
-        Some(place) if is_before => grounds(alloc, events, place),
+    match cause {
+        Some(place) => grounds(alloc, events, place),
+        None => Ok(vec![in alloc; true; events.len()]?),
+    }
+}
+
+/// Of each event, whether it depends on the one at the place; without a place none does.
+fn going(alloc: Global, events: &[Cause], rewind: Option<u32>) -> Result<Vec<bool>, Memory>
+    requires { IfSome rewind (λ place. place < length events.now) }
+    ensures size { IfOk result (λ flags. length flags.items ≡ length events.now) }
+    ensures exact { IfOk result (λ flags.
+        (j : ℕ) → j < length events.now → (IsTrue (slice_index_or flags.items j false) ↔ Goes events.now rewind j)) }
+{
+    match rewind {
         Some(place) => closure(alloc, events, place),
-        None => Ok(vec![in alloc; is_before; events.len()]?),
+        None => Ok(vec![in alloc; false; events.len()]?),
     }
 }
 

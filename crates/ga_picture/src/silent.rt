@@ -8,7 +8,7 @@ ghost use Rattle.ga_picture.specs.Following.{IsShort};
 ghost use Rattle.ga_picture.specs.kept.{Notes};
 ghost use Rattle.ga_explorer.specs.Answers.{Explores};
 
-use ga_console::{Command, Responder, Turn, Turned};
+use ga_console::{Command, Responder, Turn};
 use ga_explorer::Explorer;
 use ga_lab::Lab;
 use ga_text::{Spoken, WriteFailed, Writer};
@@ -98,12 +98,22 @@ impl Responder for Silent {
         }
     }
 
-    fn answer<W: Write>(&mut self, alloc: Global, line: &[u8], _: &mut Writer<'_, W>) -> Turned {
+    fn answer<W: Write>(
+        &mut self,
+        alloc: Global,
+        line: &[u8],
+        _writer: &mut Writer<'_, W>,
+    ) -> Result<Turn, WriteFailed> {
         Ok(self.hear(alloc, line))
     }
 
-    fn obey<W: Write>(&mut self, alloc: Global, asked: Command, _: &mut Writer<'_, W>) -> Spoken {
-        self.hear_command(alloc, asked);
+    fn obey<W: Write>(
+        &mut self,
+        alloc: Global,
+        command: Command,
+        _writer: &mut Writer<'_, W>,
+    ) -> Spoken {
+        self.hear_command(alloc, command);
         Ok(())
     }
 }

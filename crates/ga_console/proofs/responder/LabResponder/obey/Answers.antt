@@ -7,5 +7,5 @@ returns g c = (
   search rules,
   λ before said h.
       let done = c.obey.ensures.1 before said h in
-      (done.0, λ line short spelled. command c.args.asked short spelled done.1, done.2),
+      (done.0, λ line short spelled. command c.args.command short spelled done.1, done.2),
 )

@@ -11,8 +11,8 @@ returns g c = (
   λ before said h.
       let done = c.obey.ensures.1 before said h in (
         done.0,
-        λ line short spelled. debugged (λ fits. debugger_alone c.args.self.now.notes c.args.asked line spelled)
-            (inl (inr (short, c.args.asked, spelled), subst (λ (s : Exploring). LineAnswer s.lab line done.0 c.obey.new.self) c.self.view_is (done.1 line short spelled)))
+        λ line short spelled. debugged (λ fits. debugger_alone c.args.self.now.notes c.args.command line spelled)
+            (inl (inr (short, c.args.command, spelled), subst (λ (s : Exploring). LineAnswer s.lab line done.0 c.obey.new.self) c.self.view_is (done.1 line short spelled)))
             (ap (λ (s : Exploring). s.notes) c.self.view_is),
         done.2,
       ),
