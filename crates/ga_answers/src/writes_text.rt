@@ -17,11 +17,16 @@ use std::io::Write;
 ///
 /// # Errors
 /// A write failed.
-pub fn say_writes<W: Write>(lab: &Lab, node: NodeId, at: u8, writer: &mut Writer<'_, W>) -> Spoken
-    ensures { Says result (λ text. text ≡ writes_text lab.now node at) W.contents writer.old writer.new }
+pub fn say_writes<W: Write>(
+    lab: &Lab,
+    node: NodeId,
+    address: u8,
+    writer: &mut Writer<'_, W>,
+) -> Spoken
+    ensures { Says result (λ text. text ≡ writes_text lab.now node address) W.contents writer.old writer.new }
 {
-    if at < 128 {
-        say_cell(lab, node, at % 64, writer)
+    if address < 128 {
+        say_cell(lab, node, address % 64, writer)
     } else {
         Ok(())
     }
