@@ -35,9 +35,9 @@ def files_in(folder, ending):
         yield from (f"{at}/{file}" for file in sorted(files) if file.endswith(ending))
 
 
-def is_kept(module):
+def is_inner(module):
     """Whether its definitions serve private contracts alone."""
-    return "kept" in module.split(".")
+    return "inner" in module.split(".")
 
 
 class Module:

@@ -8,7 +8,7 @@ use Rattle.ga_event.specs.declared.flow.part.Part.TheVariants as part
 use Rattle.ga_origin.specs.Origins.{flow_at}
 use Rattle.ga_adapter.specs.declared.calls.Shift.{Shift}
 use Rattle.ga_adapter.specs.Calls.{put_by, kept_from, entries_from}
-use Rattle.ga_adapter.specs.kept.{shift_at, entry_before}
+use Rattle.ga_adapter.specs.inner.{shift_at, entry_before}
 use Rattle.ga_adapter.proofs.Shifts.{shifted}
 
 same_map : {A : Type 0} {B : Type 0} (f g : A → B) → ((x : A) → f x ≡ g x) → (xs : List A) → map f xs ≡ map g xs

@@ -31,7 +31,7 @@ use Rattle.ga_origin.proofs.Ran.{WasNext, ran_so}
 use Rattle.ga_adapter.specs.Calls.{kept_from, is_call_op, is_call, is_calling}
 use Rattle.ga_adapter.specs.declared.calls.Shift.{Shift}
 use Rattle.ga_adapter.specs.declared.calls.Shift.TheVariants as shift
-use Rattle.ga_adapter.specs.kept.{shift_op, shift_kind, shift_told, shift_at, entry_before, is_calls}
+use Rattle.ga_adapter.specs.inner.{shift_op, shift_kind, shift_told, shift_at, entry_before, is_calls}
 
 -- ---- one entry
 

@@ -12,7 +12,7 @@ use Rattle.ga_adapter.specs.declared.calls.OpenCall.{OpenCall}
 use Rattle.ga_adapter.specs.declared.calls.Window.{Window}
 use Rattle.ga_adapter.specs.declared.calls.Shift.{Shift}
 use Rattle.ga_adapter.specs.declared.calls.Shift.TheVariants as shift
-use Rattle.ga_adapter.specs.kept.{shift_at, entry_before, is_calls, picked, put_first, IsBefore}
+use Rattle.ga_adapter.specs.inner.{shift_at, entry_before, is_calls, picked, put_first, IsBefore}
 use Rattle.ga_adapter.proofs.Shifts.{shifted, calls_so}
 
 same_map : (f g : ℕ → ℕ) (a b n : ℕ) → ((i : ℕ) → i < n → f (a + i) ≡ g (b + i)) → map f (range_with_len a n) ≡ map g (range_with_len b n)

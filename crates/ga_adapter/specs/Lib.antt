@@ -6,7 +6,7 @@ pub mod Shown
 pub mod Variables
 pub mod Spots
 pub mod Calls
-pub mod kept
+pub mod inner
 pub mod Labels
 pub mod Frames
 pub mod Disassembly

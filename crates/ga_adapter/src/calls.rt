@@ -6,7 +6,7 @@ ghost use Rattle.ga_node.specs.Table.{r};
 ghost use Rattle.ga_lab.specs.Machine.{standing};
 ghost use Rattle.ga_origin.specs.Origins.{node_after};
 ghost use Rattle.ga_adapter.specs.Calls.{open_call, open_calls};
-ghost use Rattle.ga_adapter.specs.kept.{counted, shift_op, shift_at, is_calls, put_first, IsBefore};
+ghost use Rattle.ga_adapter.specs.inner.{counted, shift_op, shift_at, is_calls, put_first, IsBefore};
 
 use crate::spots::{Spot, spot_back};
 use arrayvec::ArrayVec;

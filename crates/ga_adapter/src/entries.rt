@@ -4,7 +4,7 @@ ghost use Rattle.std.specs.Prelude.{◌≡◌, ◌<◌, ◌≤◌, map, IfSome};
 ghost use Rattle.std.specs.List.{range_with_len};
 ghost use Rattle.ga_event.specs.Told.{steps_of};
 ghost use Rattle.ga_adapter.specs.Calls.{put_by, is_calling, entries_from};
-ghost use Rattle.ga_adapter.specs.kept.{entry_before};
+ghost use Rattle.ga_adapter.specs.inner.{entry_before};
 
 use crate::calls::{Shift, shift_by};
 use ga_grid::NodeId;

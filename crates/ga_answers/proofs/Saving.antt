@@ -14,7 +14,7 @@ use Rattle.ga_lab.specs.Machine.{State, chip_of, told_of_kept, causes_of, step_a
 use Rattle.ga_lab.specs.declared.fault.LabFault.{LabFault}
 use Rattle.ga_search.proofs.WordCounts.{kept_told}
 use Rattle.ga_answers.specs.Saved.{step_line, saved_line, saved_lines, with_feed, saved_text}
-use Rattle.ga_answers.specs.kept.{actor_in, line_at, cause_line}
+use Rattle.ga_answers.specs.inner.{actor_in, line_at, cause_line}
 use Rattle.ga_answers.proofs.Saying.{no_lines}
 
 same_Some : {A : Type 0} (x y : A) → Some x ≡ Some y → x ≡ y

@@ -18,7 +18,7 @@ use Rattle.ga_origin.specs.declared.value.Value.{Value}
 use Rattle.ga_origin.specs.declared.listing.Row.{Row}
 use Rattle.ga_origin.specs.Origins.{node_after, origin_of}
 use Rattle.ga_origin.specs.Rows.{row_at, made_row, AreRows}
-use Rattle.ga_answers.specs.kept.{is_first}
+use Rattle.ga_answers.specs.inner.{is_first}
 use Rattle.ga_answers.specs.Trees.{blanks, rows_by, tree_rows_text, more_text, most_rows, TellsTree}
 use Rattle.ga_answers.specs.Waiting.{each_node, node_count, all_waiting, stuck_text, all_rings, idle_text}
 use Rattle.std.proofs.lemmas.Bool.Decides.{nat_tests}

@@ -9,4 +9,4 @@ pub mod Waiting
 pub mod Telling
 pub mod Saved
 pub mod Races
-pub mod kept
+pub mod inner

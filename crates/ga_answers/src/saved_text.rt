@@ -5,7 +5,7 @@ ghost use Rattle.std.specs.List.{slice_get};
 ghost use Rattle.ga_lab.specs.Machine.{actor_of};
 ghost use Rattle.ga_text.specs.Output.{Says, SaysExactly};
 ghost use Rattle.ga_answers.specs.Saved.{step_line, with_feed, saved_text};
-ghost use Rattle.ga_answers.specs.kept.{actor_in, line_at, cause_line};
+ghost use Rattle.ga_answers.specs.inner.{actor_in, line_at, cause_line};
 
 use arrayvec::ArrayVec;
 use ga_event::{Cause, Event};

@@ -4,7 +4,7 @@ ghost use Rattle.std.specs.Prelude.{◌≡◌, ◌≤◌, ◌<◌, ◌+◌, ◌+
 ghost use Rattle.arrayvec.specs.ArrayVec.{array_vec_len};
 ghost use Rattle.ga_text.specs.Output.{Says, SaysExactly};
 ghost use Rattle.ga_answers.specs.Trees.{blanks, value_text, did_text, more_text, TellsWhence};
-ghost use Rattle.ga_answers.specs.kept.{is_first};
+ghost use Rattle.ga_answers.specs.inner.{is_first};
 
 use crate::deed_text::{DEED_ROOM, push_deed};
 use crate::part_text::{push_mark, push_part};
@@ -122,7 +122,7 @@ impl<'l> Outlook<'l> {
     ghost use Rattle.ga_event.specs.Flow.{IsPart};
     ghost use Rattle.ga_text.specs.Output.{Says, SaysExactly};
     ghost use Rattle.ga_answers.specs.Trees.{tree_row_text, rows_by, head_text, TellsAsked};
-    ghost use Rattle.ga_answers.specs.kept.{is_first};
+    ghost use Rattle.ga_answers.specs.inner.{is_first};
 
     /// Says the tree of a value, which is asked for where the step is named to which its node is walked back.
     fn say_asked<W: Write>(&self, alloc: Global, value: Value, writer: &mut Writer<'_, W>) -> Spoken

@@ -39,8 +39,8 @@ use Rattle.ga_breakpoints.specs.declared.hits.HitTally.{HitTally}
 use Rattle.ga_breakpoints.specs.Breakpoints.{has_done, hit_counted, one_counted, counted_from}
 use Rattle.ga_breakpoints.specs.Conditions.{meets_test}
 use Rattle.ga_breakpoints.specs.Going.{tally_told}
-use Rattle.ga_breakpoints.specs.kept.Words.{keeps_kind, awaits_code, keeps_word, word_after, word_seen}
-use Rattle.ga_breakpoints.specs.kept.Cells.{Cells, cells_left, cell_known, cell_in, asks_word, cells_with, cells_asked, comes_by, has_done_by, cells_done, counted_by, cells_from, tally_by, cells_behind}
+use Rattle.ga_breakpoints.specs.inner.Words.{keeps_kind, awaits_code, keeps_word, word_after, word_seen}
+use Rattle.ga_breakpoints.specs.inner.Cells.{Cells, cells_left, cell_known, cell_in, asks_word, cells_with, cells_asked, comes_by, has_done_by, cells_done, counted_by, cells_from, tally_by, cells_behind}
 use Rattle.ga_breakpoints.proofs.Following.{IsCounted, IsWell, IsWord, Step, step_of, steps_more, word_more, well_more, refused_stays, well_next}
 
 -- ---- A node as it stands is the one behind all its steps

@@ -38,7 +38,7 @@ use Rattle.ga_event.specs.Flow.{Flow, send_flow, take_flow}
 use Rattle.ga_origin.specs.declared.value.Value.{Value}
 use Rattle.ga_origin.specs.Origins.{place_after, node_after, flow_told, flow_at, moved_from, moved_at, told_part, value_of_step, origin_from}
 use Rattle.ga_origin.specs.Fetched.{cell_of_target, fetched_by, fetched_cell}
-use Rattle.ga_origin.specs.kept.{by_kind}
+use Rattle.ga_origin.specs.inner.{by_kind}
 use Rattle.ga_origin.proofs.Made.{moved_on}
 use Rattle.ga_origin.proofs.Moves.{one_back}
 use Rattle.ga_search.specs.Conditions.{is_step_of}
@@ -54,7 +54,7 @@ use Rattle.ga_breakpoints.specs.declared.stepping.Grain.TheVariants.{Instruction
 use Rattle.ga_breakpoints.specs.declared.stepping.Stepping.{Stepping}
 use Rattle.ga_breakpoints.specs.Stepping.{call_behind, reaches_end, is_moved}
 use Rattle.ga_breakpoints.specs.Lines.{op_at, place_back, line_on_spot, comes_on, begins_behind}
-use Rattle.ga_breakpoints.specs.kept.Words.{keeps_kind, awaits_code, keeps_word, word_after, word_seen, spot_before, begins_by, reaches_by, is_moved_by}
+use Rattle.ga_breakpoints.specs.inner.Words.{keeps_kind, awaits_code, keeps_word, word_after, word_seen, spot_before, begins_by, reaches_by, is_moved_by}
 
 -- ---- a step that leaves the word
 

@@ -13,7 +13,7 @@ use Rattle.ga_breakpoints.specs.declared.hits.HitTally.{HitTally}
 use Rattle.ga_breakpoints.specs.declared.going.Halt.{Halt}
 use Rattle.ga_breakpoints.specs.Breakpoints.{tally_behind, is_stopping, ends_early}
 use Rattle.ga_breakpoints.specs.Going.{Course, tally_told, tally_on, halts_told, halts_behind, NeverHalts, IsFirst, HasGone, going_on, stepping_on}
-use Rattle.ga_breakpoints.specs.kept.Cells.{halt_hit, halt_of, with_hits, Cells, ends_by}
+use Rattle.ga_breakpoints.specs.inner.Cells.{halt_hit, halt_of, with_hits, Cells, ends_by}
 use Rattle.ga_search.specs.Conditions.{is_step_of}
 use Rattle.ga_event.specs.Apply.{replay}
 use Rattle.ga_breakpoints.specs.declared.halts.Halts.{Halts}
@@ -22,7 +22,7 @@ use Rattle.ga_breakpoints.specs.declared.moves.Steps.{Steps}
 use Rattle.ga_breakpoints.specs.declared.stepping.Stepping.{Stepping}
 use Rattle.ga_breakpoints.specs.declared.stepping.Grain.TheVariants.{Line}
 use Rattle.ga_breakpoints.specs.Stepping.{call_behind, step_seen, step_told, stepped_on}
-use Rattle.ga_breakpoints.specs.kept.Words.{word_seen, is_moved_by}
+use Rattle.ga_breakpoints.specs.inner.Words.{word_seen, is_moved_by}
 use Rattle.ga_breakpoints.proofs.Following.{IsWell, IsWord, word_told, well_next, word_next, moved_alike}
 use Rattle.ga_breakpoints.proofs.Cells.{IsKnown, cells_told, tally_told_by, known_next, tally_next, replays_next, well_of}
 

@@ -6,4 +6,4 @@ pub mod Breakpoints
 pub mod Stepping
 pub mod Going
 pub mod Reversing
-pub mod kept
+pub mod inner

@@ -3,7 +3,7 @@
 ghost use Rattle.std.specs.Prelude.{◌≡◌, ◌≤◌, None};
 ghost use Rattle.ga_search.specs.Running.{running, after_events};
 ghost use Rattle.ga_breakpoints.specs.Going.{HasGone, tally_on, going_on};
-ghost use Rattle.ga_breakpoints.specs.kept.Cells.{halt_by, halt_of};
+ghost use Rattle.ga_breakpoints.specs.inner.Cells.{halt_by, halt_of};
 
 use crate::halts::{Halting, Halts, is_stopping};
 use crate::hits::HitTally;

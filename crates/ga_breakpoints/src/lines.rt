@@ -3,7 +3,7 @@
 ghost use Rattle.std.specs.Prelude.{◌≡◌, ◌<◌, ◌≤◌};
 ghost use Rattle.ga_event.specs.Told.{steps_of};
 ghost use Rattle.ga_lab.specs.Machine.{standing};
-ghost use Rattle.ga_breakpoints.specs.kept.Words.{spot_before, begins_by};
+ghost use Rattle.ga_breakpoints.specs.inner.Words.{spot_before, begins_by};
 ghost use Rattle.ga_breakpoints.specs.Lines.{op_told, is_return_op, is_jump, place_back, line_on_spot, begins_at, comes_on, beginning_from, stepped_back_line};
 
 use crate::back::go_back;

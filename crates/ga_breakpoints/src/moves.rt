@@ -9,7 +9,7 @@ ghost use Rattle.ga_adapter.specs.Calls.{is_calling, entries_from};
 ghost use Rattle.ga_origin.specs.Fetched.{fetched_cell};
 ghost use Rattle.ga_breakpoints.specs.declared.stepping.Grain.TheVariants.{Line};
 ghost use Rattle.ga_breakpoints.specs.Stepping.{is_from, call_behind, step_seen, stepped_on};
-ghost use Rattle.ga_breakpoints.specs.kept.Words.{word_seen, reaches_by, is_moved_by};
+ghost use Rattle.ga_breakpoints.specs.inner.Words.{word_seen, reaches_by, is_moved_by};
 ghost use Rattle.ga_breakpoints.specs.Going.{HasGone, tally_on, stepping_on};
 
 use crate::going::{Went, went_by};
@@ -158,9 +158,9 @@ fn is_moved_by(
 
 impl<'a> Watch for Steps<'a> {
     ghost use Rattle.std.specs.Prelude.{Some, ◌||◌};
-    ghost use Rattle.ga_breakpoints.specs.kept.Cells.{ends_by, with_hits};
+    ghost use Rattle.ga_breakpoints.specs.inner.Cells.{ends_by, with_hits};
     ghost use Rattle.ga_breakpoints.specs.Stepping.{step_seen};
-    ghost use Rattle.ga_breakpoints.specs.kept.Words.{word_seen, is_moved_by};
+    ghost use Rattle.ga_breakpoints.specs.inner.Words.{word_seen, is_moved_by};
 
     ghost ends = { λ w told s. ends_by w.halting.halts.breakpoints.now w.halting.cells w.halting.halts.tally w.halting.halts.stops (Some w.stepping.node) told s || is_moved_by w.notes.now w.stepping w.word told s };
 

@@ -9,8 +9,8 @@ ghost use Rattle.ga_origin.specs.Fetched.{fetched_cell};
 ghost use Rattle.ga_adapter.specs.Spots.{spot_by};
 ghost use Rattle.ga_grid.specs.Chip.{record_at};
 ghost use Rattle.ga_lab.specs.Machine.{chip_of};
-ghost use Rattle.ga_breakpoints.specs.kept.Words.{keeps_kind, awaits_code, keeps_word, word_after};
-ghost use Rattle.ga_breakpoints.specs.kept.Cells.{cells_left, cell_known, cell_in, asks_word, cells_with, cells_asked};
+ghost use Rattle.ga_breakpoints.specs.inner.Words.{keeps_kind, awaits_code, keeps_word, word_after};
+ghost use Rattle.ga_breakpoints.specs.inner.Cells.{cells_left, cell_known, cell_in, asks_word, cells_with, cells_asked};
 
 use ga_adapter::{Spot, memory_cell, slot_and_p};
 use ga_grid::{NODES, NodeId};

@@ -6,7 +6,7 @@ use Rattle.ga_grid.specs.Grid.{neighbour_of}
 use Rattle.ga_event.specs.declared.event.Cause.{Cause}
 use Rattle.ga_event.specs.Touches.{with_some, neighbours, looked_at, seen_by, meets}
 use Rattle.ga_causal.specs.Dependence.{cause_nodes, cause_touches, event_at, dependents, DependsOn, itself, through, rule_of, rule_between, no_cause}
-use Rattle.ga_causal.specs.kept.{any_of, least, least_with, IsFirsts, Oldest, first_at}
+use Rattle.ga_causal.specs.inner.{any_of, least, least_with, IsFirsts, Oldest, first_at}
 use Rattle.std.proofs.lemmas.Bool.{or_left, or_right, or_cases, cases_Bool, cases_lt, cases_eq, both_ways, cond-true, cond-false, eqb-true}
 use Rattle.ga_causal.specs.Chains.{IsOldest, IsChainTo, alone, longer}
 use Rattle.ga_causal.proofs.Exact.{any-mono, rule_meets, meets_rule, flag_direct, flag_itself, why_dependent, DependsOn_from_flag, flag_from_DependsOn, Earlier}

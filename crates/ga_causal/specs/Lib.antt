@@ -3,4 +3,4 @@ pub mod Steps
 pub mod Equivalence
 pub mod Words
 pub mod Chains
-pub mod kept
+pub mod inner

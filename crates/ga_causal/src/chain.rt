@@ -3,7 +3,7 @@
 ghost use Rattle.std.specs.Prelude.{◌≡◌, ◌≢◌, ◌↔◌, ◌<◌, ◌≤◌, ◌+◌, ◌^◌, true, false, List, length, map, drop, slice_get, slice_index_or, IfOk, IsTrue, [], ◌∷◌};
 ghost use Rattle.ga_event.specs.declared.event.Cause.{Cause};
 ghost use Rattle.ga_causal.specs.Dependence.{dependents};
-ghost use Rattle.ga_causal.specs.kept.{first_at, IsFirsts};
+ghost use Rattle.ga_causal.specs.inner.{first_at, IsFirsts};
 ghost use Rattle.ga_causal.specs.Chains.{IsChain, IsChainTo, IsFound, IsNext};
 
 use crate::firsts::Firsts;

@@ -4,7 +4,7 @@ ghost use Rattle.std.specs.Prelude.{◌≡◌, ◌<◌, ◌≤◌, ◌≢◌, �
 ghost use Rattle.ga_grid.specs.Grid.{neighbour_of};
 ghost use Rattle.ga_event.specs.Touches.{neighbours, seen_by};
 ghost use Rattle.ga_causal.specs.Dependence.{cause_touches};
-ghost use Rattle.ga_causal.specs.kept.{first_at, least, least_with, IsFirsts};
+ghost use Rattle.ga_causal.specs.inner.{first_at, least, least_with, IsFirsts};
 
 use ga_event::{Cause, Event};
 use ga_grid::{NODES, NodeId, neighbour};
@@ -20,7 +20,7 @@ pub(crate) struct Firsts {
 
 impl Model for Firsts {
     ghost use Rattle.std.specs.Prelude.{◌≡◌, ℕ, List, length};
-    ghost use Rattle.ga_causal.specs.kept.{Oldest};
+    ghost use Rattle.ga_causal.specs.inner.{Oldest};
 
     ghost Value = { Oldest };
 

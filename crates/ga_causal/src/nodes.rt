@@ -5,7 +5,7 @@ ghost use Rattle.std.specs.List.{list_any};
 ghost use Rattle.ga_grid.specs.Grid.{neighbour_of};
 ghost use Rattle.ga_event.specs.Touches.{neighbours, meets};
 ghost use Rattle.ga_causal.specs.Dependence.{cause_nodes, cause_touches, is_marked};
-ghost use Rattle.ga_causal.specs.kept.{any_of};
+ghost use Rattle.ga_causal.specs.inner.{any_of};
 ghost use Rattle.ga_causal.specs.Equivalence.{sees};
 
 use ga_event::{Cause, Event};

@@ -4,7 +4,7 @@ ghost use Rattle.std.specs.Prelude.{◌≡◌};
 ghost use Rattle.std.specs.List.{list_any};
 ghost use Rattle.ga_grid.specs.Grid.{neighbour_of};
 ghost use Rattle.ga_event.specs.Touches.{touches, nodes_of, neighbours, looked_at};
-ghost use Rattle.ga_causal.specs.kept.{any_of};
+ghost use Rattle.ga_causal.specs.inner.{any_of};
 ghost use Rattle.ga_causal.specs.Dependence.{is_a_pass, rule_of};
 
 use ga_event::{Cause, Event, touches};

@@ -11,7 +11,7 @@ use Rattle.std.proofs.lemmas.List.Elements.{All-from_recursion, All-append}
 use Rattle.ga_grid.specs.Grid.{yxx_of}
 use Rattle.ga_text.specs.Lines.{HasNoFeed, ends_line}
 use Rattle.ga_console.specs.Session.{quit_line}
-use Rattle.ga_console.specs.kept.Run.{IsAhead, IsLineAhead, IsNumberAhead}
+use Rattle.ga_console.specs.inner.Run.{IsAhead, IsLineAhead, IsNumberAhead}
 use Rattle.ga_console.specs.declared.command.Command.{Command}
 use Rattle.std.proofs.Math.Seq.{drop-append-add}
 

@@ -1,7 +1,7 @@
 -- A line that spells a command begins with the first four bytes of one.
 use Rattle.std.proofs.Common.{◌≡◌, ◌≤◌, ℕ, true, List, length, refl, sym, subst, arith}
 use Rattle.ga_console.specs.Commands.{SpellsCommand}
-use Rattle.ga_console.specs.kept.Parsing.{head_of, is_head}
+use Rattle.ga_console.specs.inner.Parsing.{head_of, is_head}
 use Rattle.ga_console.specs.declared.command.Command.{Command}
 use Rattle.ga_console.specs.declared.command.Command.TheVariants.{Step, Back, Rewind, Node, Memory, Trace, Why, Count, Dump, Quit}
 

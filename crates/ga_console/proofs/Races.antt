@@ -21,7 +21,7 @@ use Rattle.ga_image.specs.declared.fault.ImageCause.TheVariants.{Memory}
 use Rattle.ga_lab.specs.Machine.{State}
 use Rattle.ga_display.specs.Texts.{image_fault_text}
 use Rattle.ga_console.specs.Race.{calls_by, IsRaceOfWorkers, Reports, report_text}
-use Rattle.ga_console.specs.kept.Run.{Writes, Races}
+use Rattle.ga_console.specs.inner.Run.{Writes, Races}
 use Rattle.ga_console.specs.declared.run.Status.{Status}
 use Rattle.ga_console.specs.declared.run.Status.TheVariants.{Done, ImageRefused, StreamFault, NotFinished}
 

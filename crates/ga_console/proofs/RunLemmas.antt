@@ -9,7 +9,7 @@ use Rattle.ga_text.specs.Output.{IsSaid, ready}
 use Rattle.ga_lab.specs.Machine.{State}
 use Rattle.ga_console.specs.Session.{Answering, Serves, Written}
 use Rattle.ga_console.specs.Run.{RunsBy, Served, Refused, Refuses, Opens, IsFault, IsImagePart, IsReadAlone, status_of}
-use Rattle.ga_console.specs.kept.Run.{AfterImage}
+use Rattle.ga_console.specs.inner.Run.{AfterImage}
 use Rattle.ga_console.specs.declared.commands.Ending.{Ending}
 use Rattle.ga_console.specs.declared.commands.Ending.TheVariants.{Ended, Quit, Past, ReadFailed}
 use Rattle.ga_text.specs.declared.output.WriteFailed.{WriteFailed}

@@ -9,7 +9,7 @@ use Rattle.ga_console.specs.declared.command.Command.TheVariants.{Step, Back, Re
 use Rattle.ga_text.specs.Digits.{name_of_node, byte_in}
 use Rattle.ga_text.specs.Parsing.{IsNumber, SpellsAddress, cut, node_in, number_in}
 use Rattle.ga_console.specs.Commands.{SpellsCommand}
-use Rattle.ga_console.specs.kept.Parsing.{step_in, rewind_in, memory_in, why_in, alone, with_arguments, command_by, command_in}
+use Rattle.ga_console.specs.inner.Parsing.{step_in, rewind_in, memory_in, why_in, alone, with_arguments, command_by, command_in}
 use Rattle.ga_text.proofs.Taking.{cut_joined, word_cut, first_step, mapped, node_name, name_node, name_word, number_decimal, decimal_number, decimal_word, byte_address, address_byte}
 
 -- ---- what is read is spelled so

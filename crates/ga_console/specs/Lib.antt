@@ -4,4 +4,4 @@ pub mod Session
 pub mod Run
 pub mod Settings
 pub mod Race
-pub mod kept
+pub mod inner

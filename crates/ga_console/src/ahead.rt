@@ -1,7 +1,7 @@
 //! A line that was read whole, found where it stands.
 ghost use Rattle.std.specs.Prelude.{◌≡◌, ◌+◌, ◌*◌, [], ◌∷◌, ◌++◌, IfSome, codes, take};
 ghost use Rattle.ga_text.specs.Digits.{name_of_node};
-ghost use Rattle.ga_console.specs.kept.Run.{IsAhead, IsLineAhead, IsNumberAhead, StandsAhead};
+ghost use Rattle.ga_console.specs.inner.Run.{IsAhead, IsLineAhead, IsNumberAhead, StandsAhead};
 
 use super::command::{Command, command_of};
 use ga_grid::NodeId;

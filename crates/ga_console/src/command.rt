@@ -3,7 +3,7 @@
 ghost use Rattle.std.specs.Prelude.{◌≡◌, false, IfSome, IfNone, option_map};
 ghost use Rattle.ga_console.specs.Commands.{SpellsCommand};
 ghost use Rattle.ga_text.specs.Parsing.{cut, node_in, number_in};
-ghost use Rattle.ga_console.specs.kept.Parsing.{step_in, rewind_in, memory_in, why_in, alone, with_arguments, is_head};
+ghost use Rattle.ga_console.specs.inner.Parsing.{step_in, rewind_in, memory_in, why_in, alone, with_arguments, is_head};
 ghost use Rattle.ga_console.specs.declared.command.Command.{Command};
 ghost use Rattle.ga_console.specs.declared.command.Command.TheVariants.{Step, Node, Trace};
 
@@ -155,7 +155,7 @@ fn spelled_by(line: &[u8]) -> Option<Command>
 }
 
 /// The command that is spelled by one word.
-#[tactic(auto, unfolding(crate::specs::kept::Parsing::alone))]
+#[tactic(auto, unfolding(crate::specs::inner::Parsing::alone))]
 fn alone(name: &[u8]) -> Option<Command>
     ensures { result ≡ alone name.now }
 {
@@ -169,7 +169,7 @@ fn alone(name: &[u8]) -> Option<Command>
 }
 
 /// The command that is spelled by a word and what follows the space behind it.
-#[tactic(auto, unfolding(crate::specs::kept::Parsing::with_arguments))]
+#[tactic(auto, unfolding(crate::specs::inner::Parsing::with_arguments))]
 fn with_arguments(name: &[u8], arguments: &[u8]) -> Option<Command>
     ensures { result ≡ with_arguments name.now arguments.now }
 {
@@ -208,7 +208,7 @@ fn trace_command(arguments: &[u8]) -> Option<Command>
     Some(Command::Trace(node_in(arguments)?))
 }
 
-#[tactic(auto, unfolding(crate::specs::kept::Parsing::rewind_in))]
+#[tactic(auto, unfolding(crate::specs::inner::Parsing::rewind_in))]
 fn rewind_of(arguments: &[u8]) -> Option<Command>
     ensures { result ≡ rewind_in arguments.now }
 {
@@ -216,7 +216,7 @@ fn rewind_of(arguments: &[u8]) -> Option<Command>
     Some(Command::Rewind(node, step))
 }
 
-#[tactic(auto, unfolding(crate::specs::kept::Parsing::memory_in))]
+#[tactic(auto, unfolding(crate::specs::inner::Parsing::memory_in))]
 fn memory_of(arguments: &[u8]) -> Option<Command>
     ensures { result ≡ memory_in arguments.now }
 {
@@ -224,7 +224,7 @@ fn memory_of(arguments: &[u8]) -> Option<Command>
     Some(Command::Memory(node_in(node)?, byte_of(address)?))
 }
 
-#[tactic(auto, unfolding(crate::specs::kept::Parsing::why_in))]
+#[tactic(auto, unfolding(crate::specs::inner::Parsing::why_in))]
 fn why_of(arguments: &[u8]) -> Option<Command>
     ensures { result ≡ why_in arguments.now }
 {
@@ -242,7 +242,7 @@ fn why_of(arguments: &[u8]) -> Option<Command>
 }
 
 /// A node and the number of a step.
-#[tactic(auto, unfolding(crate::specs::kept::Parsing::step_in))]
+#[tactic(auto, unfolding(crate::specs::inner::Parsing::step_in))]
 fn step_of(text: &[u8]) -> Option<(NodeId, u32)>
     ensures { result ≡ step_in text.now }
 {

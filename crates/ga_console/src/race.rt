@@ -3,7 +3,7 @@ ghost use Rattle.ga_text.specs.Output.{WritesText, ReadsAndWrites};
 ghost use Rattle.std.specs.Prelude.{◌≡◌, ◌<◌, ◌≤◌, ◌*◌, ℕ, map, length, Some, IfOk, IfSome, All, vec_len, slice_get};
 ghost use Rattle.ga_grid.specs.Chip.{records_of};
 ghost use Rattle.ga_console.specs.Race.{calls_by, report_text, IsRaceOfWorkers, Reports};
-ghost use Rattle.ga_console.specs.kept.Run.{Races, Writes};
+ghost use Rattle.ga_console.specs.inner.Run.{Races, Writes};
 
 use super::run::{Status, refuse};
 use ga_grid::{Chip, NodeId};

@@ -4,7 +4,7 @@ ghost use Rattle.std.specs.Prelude.{◌≡◌};
 ghost use Rattle.ga_text.specs.Lines.{Bytes};
 ghost use Rattle.ga_lab.specs.Machine.{State};
 ghost use Rattle.ga_console.specs.Replies.{LineAnswer, Does};
-ghost use Rattle.ga_console.specs.kept.Run.{Turns, AnswersCommand};
+ghost use Rattle.ga_console.specs.inner.Run.{Turns, AnswersCommand};
 
 use super::changes::{back, rewind, step};
 use super::command::{Command, command_of};

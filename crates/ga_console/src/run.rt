@@ -3,7 +3,7 @@ ghost use Rattle.ga_text.specs.Output.{WritesText, ReadsAndWrites, ReadsOnAndWri
 ghost use Rattle.std.specs.Prelude.{◌≡◌, IfOk, IfErr};
 ghost use Rattle.ga_text.specs.Input.{IsWithin};
 ghost use Rattle.ga_console.specs.Run.{Runs, RunsBy, Refuses, Opens, IsFault, status_of as status_that};
-ghost use Rattle.ga_console.specs.kept.Run.{AfterImage};
+ghost use Rattle.ga_console.specs.inner.Run.{AfterImage};
 
 use super::commands::{Ending, serve};
 use super::responder::Responder;

@@ -10,7 +10,7 @@ use Rattle.ga_responses.specs.Sending.{Message, Messages, Sends, SendsAll}
 use Rattle.ga_dap.specs.declared.unanswered.Unanswered.{Unanswered}
 use Rattle.ga_dap.specs.declared.unanswered.Unanswered.TheVariants.{Memory, Untold}
 use Rattle.ga_dap.specs.Client.{sent_as}
-use Rattle.ga_dap.specs.kept.Carrying.{Carries}
+use Rattle.ga_dap.specs.inner.Carrying.{Carries}
 use Rattle.std.specs.Prelude.{false}
 use Rattle.ga_protocol.specs.declared.request.ClientRequest.{ClientRequest}
 use Rattle.ga_responses.specs.declared.request_name.RequestName.{RequestName}

@@ -10,7 +10,7 @@ use Rattle.ga_dap.specs.declared.serving.SessionEnd.{SessionEnd}
 use Rattle.ga_dap.specs.declared.serving.SessionEnd.TheVariants as end
 use Rattle.ga_dap.specs.Client.{Serving, ArrivalTelling, ServesFor, MakesTurn, EndsBy, WrittenBy, new_session, serving_from, sent_from}
 use Rattle.ga_dap.specs.Launches.{FileGiving}
-use Rattle.ga_dap.specs.kept.Turning.{EndsTurn, serving_at}
+use Rattle.ga_dap.specs.inner.Turning.{EndsTurn, serving_at}
 
 pub begins_so : {S A : Type 0} (files : S) (arrivals : A) (session : Session) (out : SentMessages) (inbox left : Bytes) → session ≡ new_session → out ≡ sent_from 0 → inbox ≡ []
     → serving_at files arrivals session out.seq inbox left ≡ serving_from files arrivals left

@@ -16,7 +16,7 @@ use Rattle.ga_dap.specs.declared.turn.Progress.TheVariants.{On, End}
 use Rattle.ga_dap.specs.Client.{ArrivalTelling, IsRequestIn, IsTime, is_running, no_request_told}
 use Rattle.ga_dap.specs.Client.AnswersContent.{carried, wanting, no_request}
 use Rattle.ga_dap.specs.Launches.{FileGiving}
-use Rattle.ga_dap.specs.kept.Turning.{AnswersOrEnds, ContentOrEnds, DeclinesOrEnds, TakesOrEnds, GoesOnOrEnds, EndsTurn, TurnOrEnds, serving_at}
+use Rattle.ga_dap.specs.inner.Turning.{AnswersOrEnds, ContentOrEnds, DeclinesOrEnds, TakesOrEnds, GoesOnOrEnds, EndsTurn, TurnOrEnds, serving_at}
 use Rattle.ga_dap.proofs.Known.{back_again}
 
 pub content_so : {S : Type 0} (G : FileGiving S) (host after : S) (s t : Session) (content : Bytes) (request : ClientRequest) (old new : SentMessages) (progress : Progress)

@@ -5,4 +5,4 @@ pub mod Evaluating
 pub mod Going
 pub mod Answering
 pub mod Client
-pub mod kept
+pub mod inner

@@ -2,7 +2,7 @@
 
 ghost use Rattle.std.specs.Prelude.{◌≡◌, [], ◌∷◌, codes};
 ghost use Rattle.ga_dap.specs.Going.{StepsBack, Reverses, reason_behind};
-ghost use Rattle.ga_dap.specs.kept.Carrying.{Carries};
+ghost use Rattle.ga_dap.specs.inner.Carrying.{Carries};
 ghost use Rattle.ga_responses.specs.Sending.{refused_response};
 
 use crate::changes::tell_back_twice;

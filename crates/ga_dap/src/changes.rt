@@ -7,7 +7,7 @@ ghost use Rattle.ga_requests.specs.Back.{gone_words};
 ghost use Rattle.ga_dap.specs.Evaluating.{AnswerTold};
 ghost use Rattle.ga_dap.specs.Launches.{output_told};
 ghost use Rattle.ga_dap.specs.Telling.{ThreadsChanged, StandsThen, StopTold, SliceTold, BackTold, CommandTold};
-ghost use Rattle.ga_dap.specs.kept.Carrying.{Carries};
+ghost use Rattle.ga_dap.specs.inner.Carrying.{Carries};
 
 use crate::evaluating::text_body;
 use crate::unanswered::Unanswered;

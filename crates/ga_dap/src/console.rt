@@ -8,7 +8,7 @@ ghost use Rattle.ga_responses.specs.Evaluating.{AsksForNoVariable};
 ghost use Rattle.ga_adapter.specs.Shown.{IsVariable};
 ghost use Rattle.ga_dap.specs.Evaluating.{Evaluates, EvaluatesIn, Obeys, ObeysIf, ValueShown, is_from_console};
 ghost use Rattle.ga_dap.specs.Telling.{has_moved};
-ghost use Rattle.ga_dap.specs.kept.Carrying.{Carries};
+ghost use Rattle.ga_dap.specs.inner.Carrying.{Carries};
 
 use crate::back::refuse;
 use crate::changes::tell_command_twice;

@@ -12,7 +12,7 @@ ghost use Rattle.ga_lab.specs.Machine.{first};
 ghost use Rattle.ga_console.specs.Run.{Opens as OpensImage};
 ghost use Rattle.ga_explorer.specs.Opening.{begins_as_image, OpensExploring, OpensSource};
 ghost use Rattle.ga_dap.specs.Opening.{OpensProgram, IsNoProgram, NodesShown, NodesOfSource, parts_explored};
-ghost use Rattle.ga_dap.specs.kept.Unopened.{IfFault};
+ghost use Rattle.ga_dap.specs.inner.Unopened.{IfFault};
 
 use ga_console::{open_image, refuse};
 use ga_grid::{Chip, NodeId};

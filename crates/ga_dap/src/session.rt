@@ -8,7 +8,7 @@ ghost use Rattle.ga_dap.specs.Answering.{AnswersRequest, AnswersKnown, DoesOfLau
 ghost use Rattle.ga_dap.specs.Client.{is_running, new_session};
 ghost use Rattle.ga_dap.specs.Going.{RunGoesOn};
 ghost use Rattle.ga_dap.specs.Launches.{Launches, event_alone};
-ghost use Rattle.ga_dap.specs.kept.Carrying.{Carries};
+ghost use Rattle.ga_dap.specs.inner.Carrying.{Carries};
 
 use crate::back::{refuse, reverse, step_back};
 use crate::changes::tell_slice_twice;

@@ -6,7 +6,7 @@ ghost use Rattle.ga_protocol.specs.Inbox.{GivesNext};
 ghost use Rattle.ga_protocol.specs.Messages.{HoldsNoRequest};
 ghost use Rattle.ga_responses.specs.Sending.{SendsAll};
 ghost use Rattle.ga_dap.specs.Client.{IsTime, IsRequestIn, is_running, no_request_told, refused_for_memory, request_words, sent_from};
-ghost use Rattle.ga_dap.specs.kept.Turning.{AnswersOrEnds, DeclinesOrEnds, ContentOrEnds, TakesOrEnds, GoesOnOrEnds, TurnOrEnds, serving_at};
+ghost use Rattle.ga_dap.specs.inner.Turning.{AnswersOrEnds, DeclinesOrEnds, ContentOrEnds, TakesOrEnds, GoesOnOrEnds, TurnOrEnds, serving_at};
 
 use crate::serving::SessionEnd;
 use crate::session::{Session, go_on_launched};

@@ -15,7 +15,7 @@ use Rattle.ga_event.specs.declared.flow.choice.Choice.{Choice}
 use Rattle.ga_event.specs.declared.flow.part.Part.{Part}
 use Rattle.ga_event.specs.declared.flow.part.Part.TheVariants.{Data, Return, Ram, Rom, A, B, P, I, Io, Carry, Slot, Wait as WaitPart, Stop, Outside}
 use Rattle.ga_event.specs.Flow.{Flow, Same, From, Flows, Move, PushData, PopData, SetTop, PopTo, PushReturn, PopReturn, SetTopReturn, SetP, SetA, SetB, SetI, SetIo, SetCarry, SetRam, GoOn, Skip, StartAgain, SetWait, SetStop, is_same, with_flow, pushed_data, data_flows_popped, pushed_return, return_flows_popped, by, moved, moved_all, top, top_return, choice, target_of, test_holds, read_moves, write_moves, moves_where, moves_by, send_moves, take_moves, flow_where, own_flow, send_flow, take_flow, kind_of, index_of}
-use Rattle.ga_event.specs.kept.{Trace, At, Found, set_at, push_data, pop_data, push_return, pop_return, before, before_all, settled, read_before, write_before, count_before}
+use Rattle.ga_event.specs.inner.{Trace, At, Found, set_at, push_data, pop_data, push_return, pop_return, before, before_all, settled, read_before, write_before, count_before}
 use Rattle.std.specs.Prelude.{◌↔◌, IsTrue}
 use Rattle.std.proofs.lemmas.Bool.{eq-eqb, eqb-true}
 

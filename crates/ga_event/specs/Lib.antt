@@ -5,4 +5,4 @@ pub mod Undo
 pub mod Told
 pub mod Flow
 pub mod Sources
-pub mod kept
+pub mod inner

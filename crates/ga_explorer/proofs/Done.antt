@@ -12,7 +12,7 @@ use Rattle.ga_search.specs.declared.running.End.{End}
 use Rattle.ga_answers.specs.Texts.{run_text, back_text}
 use Rattle.ga_notes.specs.declared.notes.Notes.{Notes}
 use Rattle.ga_explorer.specs.Opening.{Exploring}
-use Rattle.ga_explorer.specs.kept.{exploring}
+use Rattle.ga_explorer.specs.inner.{exploring}
 use Rattle.ga_explorer.specs.Commands.{Explored}
 use Rattle.ga_explorer.specs.declared.commands.ExplorerCommand.{ExplorerCommand}
 use Rattle.ga_explorer.specs.declared.commands.ExplorerCommand.TheVariants.{Run, BackUntil}

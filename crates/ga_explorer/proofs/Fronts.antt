@@ -8,7 +8,7 @@ use Rattle.ga_console.specs.Run.{IsReadAlone, IsFault}
 use Rattle.ga_console.specs.declared.run.Status.{Status}
 use Rattle.ga_explorer.specs.Opening.{Exploring, begins_as_image, OpensExploring, IsFront, IsRefusedImage, IsBegun}
 use Rattle.ga_explorer.specs.Opening.Unbegun.{image_refused, source_refused}
-use Rattle.ga_explorer.specs.kept.{IsOpened}
+use Rattle.ga_explorer.specs.inner.{IsOpened}
 use Rattle.ga_explorer.specs.declared.opening.Unopened.TheVariants.{Image, Source}
 
 refused_image : (image ahead rest : List ℕ) (fault : ImageFault) → IsReadAlone image ahead rest → begins_as_image image ≡ true → IsFault image fault

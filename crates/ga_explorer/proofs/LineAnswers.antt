@@ -10,13 +10,13 @@ use Rattle.ga_explorer.specs.Commands.{request_in, lone_request, lone_question, 
 use Rattle.std.specs.Result.{IsErr}
 use Rattle.std.proofs.lemmas.List.{take_all}
 use Rattle.ga_console.specs.Replies.{LineAnswer}
-use Rattle.ga_console.specs.kept.Run.{Turns, AnswersLine}
+use Rattle.ga_console.specs.inner.Run.{Turns, AnswersLine}
 use Rattle.ga_console.specs.Session.{quit_line}
 use Rattle.ga_lab.specs.Machine.{State}
 use Rattle.ga_text.specs.declared.output.WriteFailed.{WriteFailed}
 use Rattle.ga_console.specs.declared.responder.Turn.{Turn}
 use Rattle.ga_explorer.specs.Opening.{Exploring}
-use Rattle.ga_explorer.specs.kept.{exploring}
+use Rattle.ga_explorer.specs.inner.{exploring}
 use Rattle.ga_explorer.specs.Answers.{Explores, AnswersOther, IsOfDebugger}
 use Rattle.ga_explorer.specs.NoCommand.{no_command}
 use Rattle.ga_explorer.specs.Answers.Explores.{explored, debugged}

@@ -7,4 +7,4 @@ pub mod Answers
 pub mod Opening
 pub mod Front
 pub mod Session
-pub mod kept
+pub mod inner

@@ -3,7 +3,7 @@ ghost use Rattle.std.specs.Prelude.{◌≡◌, ◌++◌, [], Some};
 ghost use Rattle.ga_text.specs.Lines.{Bytes};
 ghost use Rattle.ga_text.specs.Input.{IsWithin};
 ghost use Rattle.ga_explorer.specs.Opening.{IsBegun};
-ghost use Rattle.ga_explorer.specs.kept.{IsOpened};
+ghost use Rattle.ga_explorer.specs.inner.{IsOpened};
 
 use crate::explorer::Explorer;
 use crate::opening::{Unopened, is_image, open_text};

@@ -2,7 +2,7 @@
 
 ghost use Rattle.std.specs.Prelude.{◌≡◌, map};
 ghost use Rattle.ga_explorer.specs.Commands.{rows, request_in, lone_request, lone_question, named_request, named_question};
-ghost use Rattle.ga_explorer.specs.kept.{exploring, IsTold, entry_of};
+ghost use Rattle.ga_explorer.specs.inner.{exploring, IsTold, entry_of};
 
 use crate::arguments::{node_and_cell, node_and_step, node_and_steps, two_nodes};
 use crate::back_request::back_of;

@@ -3,9 +3,9 @@
 ghost use Rattle.std.specs.Prelude.{◌≡◌, ◌≤◌, length, Some, None, IfSome, IfNone, IsTrue, false};
 ghost use Rattle.ga_text.specs.Output.{Says};
 ghost use Rattle.ga_explorer.specs.Commands.{request_in, Explored};
-ghost use Rattle.ga_explorer.specs.kept.{exploring};
+ghost use Rattle.ga_explorer.specs.inner.{exploring};
 ghost use Rattle.ga_explorer.specs.Answers.{ExploresOrQuits, AnswersOther, IsOfDebugger, IsNoCommand};
-ghost use Rattle.ga_console.specs.kept.Run.{Turns};
+ghost use Rattle.ga_console.specs.inner.Run.{Turns};
 
 use crate::commands::{ExplorerCommand, request_of, told};
 use crate::forms::say_no_command;
@@ -28,7 +28,7 @@ pub struct Explorer {
 
 impl Model for Explorer {
     ghost use Rattle.ga_explorer.specs.Opening.{Exploring};
-    ghost use Rattle.ga_explorer.specs.kept.{exploring};
+    ghost use Rattle.ga_explorer.specs.inner.{exploring};
 
     ghost Value = { Exploring };
 
@@ -61,7 +61,7 @@ impl Explorer {
 
 impl Responder for Explorer {
     ghost use Rattle.std.specs.Prelude.{None};
-    ghost use Rattle.ga_explorer.specs.kept.{exploring};
+    ghost use Rattle.ga_explorer.specs.inner.{exploring};
     ghost use Rattle.ga_explorer.specs.Answers.{Explores};
 
     ghost answers = { Explores };

@@ -5,7 +5,7 @@ ghost use Rattle.ga_text.specs.Output.{Says, SaysExactly};
 ghost use Rattle.ga_explorer.specs.Forms.{form_row_text, form_rows_text, about_text, place_from};
 ghost use Rattle.ga_explorer.specs.Commands.{rows, command_text, place_of_form};
 ghost use Rattle.ga_explorer.specs.NoCommand.{form_of_command, near_form_in, form_for, is_near, are_exchanged, is_mark, is_return, has_blank_end, is_upper, cure, no_command};
-ghost use Rattle.ga_explorer.specs.kept.{entry_of};
+ghost use Rattle.ga_explorer.specs.inner.{entry_of};
 
 use crate::commands::rows;
 use ga_text::{Spoken, Writer, cut};

@@ -1,7 +1,7 @@
 //! What a session of exploring begins on: an image, or source.
 ghost use Rattle.std.specs.Prelude.{◌≡◌, IfOk, IfErr, IfSome};
 ghost use Rattle.ga_explorer.specs.Opening.{begins_as_image, OpensExploring, OpensSource};
-ghost use Rattle.ga_explorer.specs.kept.{IsUnopened};
+ghost use Rattle.ga_explorer.specs.inner.{IsUnopened};
 
 use crate::explorer::Explorer;
 use ga_console::open_image;

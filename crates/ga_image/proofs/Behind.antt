@@ -11,7 +11,7 @@ use Rattle.ga_image.specs.declared.fault.ImageCause.TheVariants as cause
 use Rattle.ga_image.specs.declared.field.Field.{Field}
 use Rattle.ga_image.specs.declared.field.Field.TheVariants.{A, B, P, I, Io, Carry, Slot, Wait, Stop, Data, Return, Ram, Rom}
 use Rattle.ga_image.specs.declared.field.Held.{Held}
-use Rattle.ga_image.specs.kept.{HasCell}
+use Rattle.ga_image.specs.inner.{HasCell}
 use Rattle.ga_image.specs.Fields.{writes, number_of, goes_past, held_at_load, held_after}
 use Rattle.ga_image.specs.Spelling.{Form, Node, Words, End, Spells}
 use Rattle.ga_image.specs.Grammar.{header, format_of, all_writes}

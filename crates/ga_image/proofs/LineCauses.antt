@@ -9,7 +9,7 @@ use Rattle.ga_node.specs.Places.{greatest_of}
 use Rattle.ga_image.specs.declared.field.Field.{Field}
 use Rattle.ga_image.specs.declared.field.Field.TheVariants.{A, B, P, I, Io, Carry, Slot, Wait, Stop, Data, Return, Ram, Rom}
 use Rattle.ga_image.specs.declared.fault.ImageCause.TheVariants.{Repeated}
-use Rattle.ga_image.specs.kept.{HasCell, HoldsCode, AreCodes}
+use Rattle.ga_image.specs.inner.{HasCell, HoldsCode, AreCodes}
 use Rattle.ga_image.specs.Fields.{goes_past, greatest, next_field, number_of, writes, repeats, is_too_great}
 use Rattle.ga_image.specs.Reading.{Progress, words_fault, with_write, with_writes, Stage, node_fault, is_misplaced, has_block}
 use Rattle.std.specs.Bool.{Decides}

@@ -12,7 +12,7 @@ use Rattle.ga_image.specs.Spelling.{Node, End, Form, Words, letter, set_text, wa
 use Rattle.ga_text.specs.Digits.{words_text, decimal3_of, hex2_of}
 use Rattle.ga_image.specs.Grammar.{Block, field_line_form, block_forms, Spell, header}
 use Rattle.ga_image.specs.Printing.{AreWords, lines_text, line_text, field_text, line_unless, word_unless, row_cells, lines_at, block_unless, blocks_from, printed}
-use Rattle.ga_image.specs.kept.{fields_text, blocks_text}
+use Rattle.ga_image.specs.inner.{fields_text, blocks_text}
 use Rattle.std.specs.Char.{to_ascii_lowercase}
 use Rattle.std.specs.Str.{str_to_ascii_lowercase}
 use Rattle.std.proofs.Math.Nat.{mod-lt}

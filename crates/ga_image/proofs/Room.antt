@@ -20,7 +20,7 @@ use Rattle.ga_text.specs.Lines.{longest, lines_of, with_byte}
 use Rattle.ga_image.specs.declared.parser.Stage.{Stage as Expects}
 use Rattle.ga_image.specs.declared.parser.Stage.TheVariants as expects
 use Rattle.ga_image.specs.declared.fault.ImageCause.{ImageCause}
-use Rattle.ga_image.specs.kept.{stage_of}
+use Rattle.ga_image.specs.inner.{stage_of}
 
 -- how many flags aren't set
 abbrev pub free : List Bool → ℕ

@@ -2,7 +2,7 @@
 use Rattle.ga_image.specs.declared.parser.Stage.TheVariants as expects
 use Rattle.std.proofs.Common.{◌≢◌, refl, ◌≡◌, ℕ, ◌+◌, inl, inr, ◌<◌, ◌≤◌, true, false, ◌&&◌, List, [], ◌∷◌, ◌++◌, length, map, Option, Some, None, sym, ◌∙◌, ap, subst, arith}
 use Rattle.ga_image.specs.declared.parser.Stage.{Stage as Expects}
-use Rattle.ga_image.specs.kept.{stage_of, IsBehindHeader, HoldsCode, AreCodes}
+use Rattle.ga_image.specs.inner.{stage_of, IsBehindHeader, HoldsCode, AreCodes}
 use Rattle.std.specs.Prelude.{nat_le, codes, ◌==◌, ◌-◌}
 use Rattle.std.specs.Char.{to_ascii_lowercase}
 use Rattle.std.specs.Str.{str_to_ascii_lowercase}

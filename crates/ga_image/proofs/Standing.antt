@@ -8,7 +8,7 @@ use Rattle.ga_image.specs.declared.fault.ImageCause.TheVariants as cause
 use Rattle.ga_image.specs.declared.field.Field.{Field}
 use Rattle.ga_image.specs.declared.field.Format.{Format}
 use Rattle.ga_image.specs.declared.field.Format.TheVariants.{One, Two}
-use Rattle.ga_image.specs.kept.{HasCell}
+use Rattle.ga_image.specs.inner.{HasCell}
 use Rattle.ga_image.specs.Fields.{number_of, held_at_load, held_after, is_unsteady}
 use Rattle.ga_image.specs.Spelling.{Form, Node, Words, End, Spells, form, state_form, wide_form}
 use Rattle.ga_image.specs.Grammar.{header, all_writes}

@@ -4,4 +4,4 @@ pub mod Spelling
 pub mod Reading
 pub mod FirstFault
 pub mod Printing
-pub mod kept
+pub mod inner

@@ -2,7 +2,7 @@
 
 ghost use Rattle.std.specs.Prelude.{◌≡◌, ◌<◌, ◌≤◌, length};
 ghost use Rattle.ga_image.specs.Spelling.{field_name};
-ghost use Rattle.ga_image.specs.kept.{field_in, HasCell};
+ghost use Rattle.ga_image.specs.inner.{field_in, HasCell};
 ghost use Rattle.ga_image.specs.Fields.{has_field, field_place, number_of, next_field, goes_past, is_too_great, held_at_load, with_code, is_unsteady};
 
 use ga_node::Place;

@@ -7,7 +7,7 @@ ghost use Rattle.ga_node.specs.State.{IsWaitCode};
 ghost use Rattle.ga_text.specs.Digits.{decimal3_of, hex2_of, words_text};
 ghost use Rattle.ga_image.specs.Spelling.{set_text, wait_text};
 ghost use Rattle.ga_image.specs.Printing.{field_text, line_unless, word_unless, AreWords};
-ghost use Rattle.ga_image.specs.kept.{fields_text, HasWords, HasDigit};
+ghost use Rattle.ga_image.specs.inner.{fields_text, HasWords, HasDigit};
 
 use super::field::Field;
 use ga_grid::NodeId;

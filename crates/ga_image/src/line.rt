@@ -3,7 +3,7 @@
 ghost use Rattle.std.specs.Prelude.{◌≡◌, ◌≤◌, [], ◌∷◌};
 ghost use Rattle.ga_image.specs.Spelling.{Words, words_in_row, word_form, cells_form, stack_form, digit_form, set_form, side_form, wait_form, node_form, wide_form, state_form, form};
 ghost use Rattle.std.specs.Option.{option_map};
-ghost use Rattle.ga_image.specs.kept.{form_of, field_in};
+ghost use Rattle.ga_image.specs.inner.{form_of, field_in};
 
 use super::field::{Bank, Field};
 use arrayvec::ArrayVec;

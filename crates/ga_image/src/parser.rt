@@ -4,7 +4,7 @@ ghost use Rattle.std.specs.Prelude.{◌≡◌, ◌≤◌, length, OnOk, Some};
 ghost use Rattle.std.specs.Result.{result_err};
 ghost use Rattle.ga_grid.specs.Grid.{default_chip, node_of};
 ghost use Rattle.ga_image.specs.Fields.{writes, greatest};
-ghost use Rattle.ga_image.specs.kept.{HasCell, progress_of, stage_of, IsBehindHeader, HoldsCode, AreCodes};
+ghost use Rattle.ga_image.specs.inner.{HasCell, progress_of, stage_of, IsBehindHeader, HoldsCode, AreCodes};
 ghost use Rattle.ga_image.specs.Reading.{Header};
 ghost use Rattle.ga_image.specs.Spelling.{Node, Words, End};
 ghost use Rattle.ga_image.specs.Grammar.{with_word};

@@ -4,7 +4,7 @@ ghost use Rattle.std.specs.Prelude.{◌≡◌, ◌<◌, ◌≤◌, ◌+◌, ◌+
 ghost use Rattle.ga_node.specs.Record.{record_of, fresh_record};
 ghost use Rattle.ga_grid.specs.Chip.{records_of, AreSteady};
 ghost use Rattle.ga_grid.specs.Grid.{load_p_of};
-ghost use Rattle.ga_image.specs.kept.{fields_text, blocks_text, words_in, size_in, field_in};
+ghost use Rattle.ga_image.specs.inner.{fields_text, blocks_text, words_in, size_in, field_in};
 ghost use Rattle.ga_image.specs.Printing.{register_lines, state_lines, memory_lines, lines_beside, block_unless, lines_at, printed, AreWords, HasSoundRegisters, HasSoundState, HoldsWords, IsSoundRecord, AreSound, Describes};
 ghost use Rattle.ga_text.specs.Lines.{lines_of};
 ghost use Rattle.ga_image.specs.FirstFault.{no_memory};

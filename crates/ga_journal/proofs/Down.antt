@@ -10,7 +10,7 @@ use Rattle.ga_event.specs.Apply.{Told}
 use Rattle.ga_journal.specs.declared.fault.JournalFault.{JournalFault}
 use Rattle.ga_journal.specs.declared.since.Since.{Since}
 use Rattle.ga_journal.specs.Histories.{Past, history, Book}
-use Rattle.ga_journal.specs.kept.Histories.{Held, lists_of, Keeps, cut, older_causes, older_events, WalksBack, IsFirst, IsWalked, pasts_of, IsUntold, IsToldAt, AreTold}
+use Rattle.ga_journal.specs.inner.Histories.{Held, lists_of, Keeps, cut, older_causes, older_events, WalksBack, IsFirst, IsWalked, pasts_of, IsUntold, IsToldAt, AreTold}
 use Rattle.ga_event.specs.Told.{steps_of, events_in, events_told, made_in}
 use Rattle.ga_journal.specs.Logs.{Stamped, Records, IsSince, IsWhole}
 use Rattle.ga_event.specs.declared.made.Made.{Made}

@@ -14,10 +14,10 @@ use Rattle.ga_journal.specs.declared.entry.Part.TheVariants.{Own, Look, Passed}
 use Rattle.ga_journal.specs.declared.entry.Pass.{Pass}
 use Rattle.ga_journal.specs.declared.entry.Entry.{Entry}
 use Rattle.ga_journal.specs.Histories.{Past, deed}
-use Rattle.ga_journal.specs.kept.Histories.{Rises, IsPastNewest}
+use Rattle.ga_journal.specs.inner.Histories.{Rises, IsPastNewest}
 use Rattle.ga_journal.specs.Events.{has_looked_in}
 use Rattle.ga_journal.specs.Looks.{HasLook, IsNewestLook, HasNoLook, IsLookAfter, HasNoLookAfter}
-use Rattle.ga_journal.specs.kept.Stored.{own_part, no_pass, act_in, past_in, passes_in, IsBelow, IsDropped, AreNumbered, looked_in, looked_after, KeepLooks, IsHistory}
+use Rattle.ga_journal.specs.inner.Stored.{own_part, no_pass, act_in, past_in, passes_in, IsBelow, IsDropped, AreNumbered, looked_in, looked_after, KeepLooks, IsHistory}
 use Rattle.ga_journal.proofs.Matches.{entries_ordered}
 use Rattle.ga_journal.proofs.Storing.{numbered_le, below_by, own_numbered, pass_numbered, dropped_numbered}
 

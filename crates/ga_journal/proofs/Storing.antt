@@ -13,8 +13,8 @@ use Rattle.ga_journal.specs.declared.entry.Part.TheVariants.{Own, Look, Passed}
 use Rattle.ga_journal.specs.declared.entry.Pass.{Pass}
 use Rattle.ga_journal.specs.declared.entry.Entry.{Entry}
 use Rattle.ga_journal.specs.Histories.{Past, past, deed}
-use Rattle.ga_journal.specs.kept.Histories.{bound_from, bound_of}
-use Rattle.ga_journal.specs.kept.Stored.{own_part, act_with, no_pass, act_in, past_in, passes_in, Names, IsBelow, IsDropped, AreNumbered, IsHistory}
+use Rattle.ga_journal.specs.inner.Histories.{bound_from, bound_of}
+use Rattle.ga_journal.specs.inner.Stored.{own_part, act_with, no_pass, act_in, past_in, passes_in, Names, IsBelow, IsDropped, AreNumbered, IsHistory}
 use Rattle.ga_journal.proofs.Walks.{entry_in_front}
 
 pub numbered_le : (n m : ℕ) (es : List Entry) → AreNumbered n es m → n ≤ m

@@ -1,7 +1,7 @@
 //! The history of one node.
 
 ghost use Rattle.std.specs.Prelude.{◌≡◌, ◌+◌, ◌<◌, ◌≤◌, ◌^◌, length};
-ghost use Rattle.ga_journal.specs.kept.Stored.{own_part, act_in, looked_in, looked_after, passes_in, IsBelow, IsDropped};
+ghost use Rattle.ga_journal.specs.inner.Stored.{own_part, act_in, looked_in, looked_after, passes_in, IsBelow, IsDropped};
 
 use crate::entry::{Act, Entry, Head, Part, Pass, Role, Taken};
 use crate::fault::JournalFault;
@@ -28,11 +28,11 @@ pub(crate) struct History {
 }
 
 impl Model for History {
-    ghost use Rattle.ga_journal.specs.kept.Histories.{Held};
+    ghost use Rattle.ga_journal.specs.inner.Histories.{Held};
 
     ghost Value = { Held };
 
-    ghost use Rattle.ga_journal.specs.kept.Stored.{held_by, IsHistory};
+    ghost use Rattle.ga_journal.specs.inner.Stored.{held_by, IsHistory};
 
     ghost view = { λ h. held_by h.entries h.passes };
 
@@ -146,9 +146,9 @@ impl History {
     ghost use Rattle.ga_node.specs.Table.{refusal};
     ghost use Rattle.ga_grid.specs.Chip.{node_at};
     ghost use Rattle.ga_journal.specs.Histories.{past};
-    ghost use Rattle.ga_journal.specs.kept.Histories.{past_of, bound_of, IsPastNewest};
-    ghost use Rattle.ga_journal.specs.kept.Stored.{act_with};
-    ghost use Rattle.ga_journal.specs.kept.Ends.{TellsOf, IsMadeAlone, CanGoBack, IsGoneBack};
+    ghost use Rattle.ga_journal.specs.inner.Histories.{past_of, bound_of, IsPastNewest};
+    ghost use Rattle.ga_journal.specs.inner.Stored.{act_with};
+    ghost use Rattle.ga_journal.specs.inner.Ends.{TellsOf, IsMadeAlone, CanGoBack, IsGoneBack};
     ghost use Rattle.ga_journal.specs.Looks.{HasLook, HasNoLook, IsNewestLook};
 
     /// A history without an entry.

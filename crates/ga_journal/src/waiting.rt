@@ -14,7 +14,7 @@ pub(crate) struct Waiting {
 
 impl Model for Waiting {
     ghost use Rattle.std.specs.Prelude.{Bool, List};
-    ghost use Rattle.ga_journal.specs.kept.Histories.{IsWindow};
+    ghost use Rattle.ga_journal.specs.inner.Histories.{IsWindow};
 
     ghost Value = { List Bool };
 

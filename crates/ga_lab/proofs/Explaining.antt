@@ -16,7 +16,7 @@ use Rattle.ga_causal.proofs.Places.{place_step, place_stands, place-zero, touchi
 use Rattle.ga_journal.specs.Histories.{Book}
 use Rattle.ga_journal.specs.Events.{kept_of, events_of}
 use Rattle.ga_lab.specs.declared.fault.LabFault.TheVariants.{Memory, NoStep}
-use Rattle.ga_lab.specs.kept.Tied.{IsTied, state_of}
+use Rattle.ga_lab.specs.inner.Tied.{IsTied, state_of}
 use Rattle.ga_lab.proofs.Replays.{told_tied, causes_tied, IsReplayed}
 use Rattle.ga_lab.specs.Machine.{State, told_of_kept, causes_of, why_between, stands, why_answer}
 use Rattle.std.proofs.lemmas.Bool.{cases_lt, leb-true, le-leb, lt-leb, lt-ltb, le-ltb, cases_Bool, both_ways, and_from, and_right, and_parts, and_cases}

@@ -7,7 +7,7 @@ use Rattle.ga_event.specs.Told.{steps_of}
 use Rattle.ga_journal.specs.Histories.{Past, Book, history}
 use Rattle.ga_journal.specs.Walked.{walked, CanWalk, held_before, among, before_entry, overwritten}
 use Rattle.ga_journal.proofs.Logs.{steps_log}
-use Rattle.ga_lab.specs.kept.Tied.{IsTied, state_of}
+use Rattle.ga_lab.specs.inner.Tied.{IsTied, state_of}
 use Rattle.ga_lab.proofs.Stepping.{whole_of}
 use Rattle.ga_lab.proofs.Replays.{kept_steps, peeked, steps_front, can_peek}
 use Rattle.ga_rollback.proofs.Link.{walked-append}

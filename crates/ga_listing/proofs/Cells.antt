@@ -6,7 +6,7 @@ use Rattle.std.proofs.lemmas.List.{append-nil, drop_more, drop_all, take_all}
 use Rattle.std.proofs.lemmas.List.Elements.{All-nil, All-more}
 use Rattle.std.proofs.lemmas.Bool.{ne_eqb, eq-eqb}
 use Rattle.ga_text.specs.Lines.{Text}
-use Rattle.ga_listing.specs.kept.{Word, Adds, cell_words, next_of, cells_words, next_behind, holds_word, IsCell, AreCells}
+use Rattle.ga_listing.specs.inner.{Word, Adds, cell_words, next_of, cells_words, next_behind, holds_word, IsCell, AreCells}
 use Rattle.ga_listing.proofs.SourceLines.{nothing_added, both_added}
 
 -- ---- cells that were written so far

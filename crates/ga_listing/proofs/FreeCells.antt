@@ -10,7 +10,7 @@ use Rattle.ga_parser.specs.declared.item.Item.TheVariants.{Cell}
 use Rattle.ga_parser.specs.declared.item.Request.{Request}
 use Rattle.ga_parser.specs.declared.item.Request.TheVariants.{Put}
 use Rattle.ga_source.specs.Made.{cells_from, IsMemoryAddress, cell_of, AreDistinctCells}
-use Rattle.ga_listing.specs.kept.{next_of, next_behind, IsFit}
+use Rattle.ga_listing.specs.inner.{next_of, next_behind, IsFit}
 use Rattle.ga_listing.proofs.PlainWords.{address_requests, cell_requests, cells_requests, node_requests, IsCellAddress, IsWithin, first_within, rest_within}
 use Rattle.ga_listing.proofs.PlainCells.{counts_up}
 

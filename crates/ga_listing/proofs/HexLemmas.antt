@@ -11,7 +11,7 @@ use Rattle.ga_word.specs.Word.{hex_digit}
 use Rattle.ga_ports.specs.Address.{set_number}
 use Rattle.ga_parser.specs.Vocabulary.{is_numeral, digits_in, set_in, number_by_word}
 use Rattle.ga_parser.specs.Plain.{by_number}
-use Rattle.ga_listing.specs.kept.{hex_of, number_word}
+use Rattle.ga_listing.specs.inner.{hex_of, number_word}
 
 -- ---- written
 

@@ -10,7 +10,7 @@ use Rattle.ga_grid.specs.Chip.{node_at, nowhere}
 use Rattle.ga_text.specs.Lines.{Text}
 use Rattle.ga_text.specs.Digits.{decimal3_of}
 use Rattle.ga_parser.specs.Saying.{Said, parted, said_from, source_lines}
-use Rattle.ga_listing.specs.kept.{Word, Says, Adds, holds_words, registers_words, memory_words, node_words, named_words, source_words, HasRegisters, IsFit}
+use Rattle.ga_listing.specs.inner.{Word, Says, Adds, holds_words, registers_words, memory_words, node_words, named_words, source_words, HasRegisters, IsFit}
 use Rattle.ga_listing.proofs.Telling.{says_nothing, says_both}
 use Rattle.ga_listing.proofs.SourceLines.{nothing_added, both_added}
 

@@ -15,7 +15,7 @@ use Rattle.ga_parser.specs.declared.item.Request.{Request}
 use Rattle.ga_parser.specs.declared.item.Request.TheVariants.{Put}
 use Rattle.ga_source.specs.Programs.{is_item}
 use Rattle.ga_source.specs.Made.{with_cell, with_requests}
-use Rattle.ga_listing.specs.kept.{next_of, next_behind, holds_word, IsFit}
+use Rattle.ga_listing.specs.inner.{next_of, next_behind, holds_word, IsFit}
 use Rattle.ga_listing.proofs.PlainWords.{address_requests, cell_requests, cells_requests, node_requests, IsCellAddress, IsWithin, first_within, rest_within}
 
 -- ---- addresses

@@ -12,7 +12,7 @@ use Rattle.ga_parser.specs.declared.item.Item.TheVariants.{Cell}
 use Rattle.ga_parser.specs.declared.item.Request.{Request}
 use Rattle.ga_parser.specs.declared.item.Request.TheVariants.{Put, Go}
 use Rattle.ga_parser.specs.Plain.{Plain, no_request, with_request, only_if, is_cell, may_be, plain_from, plain_of}
-use Rattle.ga_listing.specs.kept.{Word, number_word, register_words, address_words, cell_words, next_of, cells_words, next_behind, usual_p, holds_words, node_words, IsCell, IsFit}
+use Rattle.ga_listing.specs.inner.{Word, number_word, register_words, address_words, cell_words, next_of, cells_words, next_behind, usual_p, holds_words, node_words, IsCell, IsFit}
 use Rattle.ga_listing.proofs.HexLemmas.{number_read}
 
 -- ---- cells

@@ -7,7 +7,7 @@ use Rattle.std.proofs.lemmas.List.Folds.{list_all-append}
 use Rattle.std.proofs.lemmas.Bool.{and_from, cond-true, cond-false, eq-eqb, ne_eqb}
 use Rattle.ga_text.specs.Lines.{Text}
 use Rattle.ga_parser.specs.Saying.{source_words, Said, a_word, spoken}
-use Rattle.ga_listing.specs.kept.{Word, Says, Adds, AddsRemark, IsOrdinary, IsUnmarked, is_inner, hex_of, number_word, register_words, address_words, cell_words}
+use Rattle.ga_listing.specs.inner.{Word, Says, Adds, AddsRemark, IsOrdinary, IsUnmarked, is_inner, hex_of, number_word, register_words, address_words, cell_words}
 use Rattle.ga_listing.proofs.HexLemmas.{all_shown}
 use Rattle.ga_listing.proofs.Telling.{says_nothing, says_both, says_line, says_two, no_end, word_first, remark_last, all_inner, plain_word, grown}
 

@@ -10,7 +10,7 @@ use Rattle.ga_parser.specs.Plain.{no_request, plain_of, words_in, body_in, bodie
 use Rattle.ga_source.specs.Programs.{is_item}
 use Rattle.ga_source.specs.Made.{with_requests, number_or, plain_node, IsNode, HasPlain, IsSoundBody, node_number_of_words}
 use Rattle.ga_listing.specs.Source.{IsLoadedAs, IsSourceOf}
-use Rattle.ga_listing.specs.kept.{usual_p, holds_words, node_words, IsFit, Word, Says, source_words}
+use Rattle.ga_listing.specs.inner.{usual_p, holds_words, node_words, IsFit, Word, Says, source_words}
 use Rattle.ga_listing.proofs.PlainWords.{given, node_requests, plain_by, node_asks, nothing_asks}
 use Rattle.ga_listing.proofs.PlainCells.{memories_written, node_items}
 use Rattle.std.proofs.lemmas.List.Elements.{All-nil, All-cons, All-head, All-tail, All-get_or}

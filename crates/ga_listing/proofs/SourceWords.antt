@@ -11,7 +11,7 @@ use Rattle.ga_text.specs.Lines.{Text}
 use Rattle.ga_text.specs.Digits.{decimal3_of}
 use Rattle.ga_parser.specs.Saying.{Said, parted, is_word, source_lines, said_from, up_to_fault, said_in}
 use Rattle.ga_parser.specs.Plain.{words_in, is_node, body_in, bodies_in, yxx_in}
-use Rattle.ga_listing.specs.kept.{Word, Says, number_word, register_words, address_words, cell_words, next_of, cells_words, next_behind, usual_p, registers_words, memory_words, holds_words, node_words, named_words, source_words}
+use Rattle.ga_listing.specs.inner.{Word, Says, number_word, register_words, address_words, cell_words, next_of, cells_words, next_behind, usual_p, registers_words, memory_words, holds_words, node_words, named_words, source_words}
 use Rattle.ga_text.proofs.Numbers.{decimal_read as digit_back}
 use Rattle.ga_text.proofs.Taking.{node_of_yxx as number_back}
 

@@ -9,10 +9,10 @@ use Rattle.ga_source.specs.Mending.{with_numbers, mended, IsAssembledOf}
 use Rattle.ga_image.specs.FirstFault.{no_memory}
 use Rattle.ga_image.specs.declared.fault.ImageFault.{ImageFault}
 use Rattle.ga_console.specs.Run.{IsReadAlone, IsFault, Refused, Refuses}
-use Rattle.ga_console.specs.kept.Run.{Writes}
+use Rattle.ga_console.specs.inner.Run.{Writes}
 use Rattle.ga_listing.specs.Source.{IsAssembly, Assembles, IsMendedBy, IsFaulty, Lists, IsAccepted, Disassembles}
 use Rattle.ga_text.specs.Output.{IsReadWhole}
-use Rattle.ga_listing.specs.kept.{Assembly, IsListed, with_fault, behind_listing, Listing, Disassembly, IsUnread}
+use Rattle.ga_listing.specs.inner.{Assembly, IsListed, with_fault, behind_listing, Listing, Disassembly, IsUnread}
 use Rattle.ga_console.specs.declared.run.Status.{Status}
 use Rattle.ga_console.specs.declared.run.Status.TheVariants.{Done, ImageRefused, StreamFault, NotFinished}
 use Rattle.ga_console.proofs.RunLemmas.{refused_in}

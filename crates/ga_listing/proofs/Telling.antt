@@ -9,7 +9,7 @@ use Rattle.std.proofs.lemmas.Bool.{cases_Bool, and_parts, and_from, cond-false, 
 use Rattle.ga_text.specs.Lines.{Text, Bytes, Line, HasNoFeed, ended, text_of, ends_line, with_byte}
 use Rattle.ga_text.specs.Digits.{decimal3_of}
 use Rattle.ga_parser.specs.Saying.{parted, is_feed, is_blank, source_lines, has_bytes, source_words, order_mark, without_return, bare, Said, a_word, is_word, spoken, said_by, next_line, said_from, said_in, up_to_fault}
-use Rattle.ga_listing.specs.kept.{Word, Says, IsOrdinary, IsUnmarked, is_inner, is_shown}
+use Rattle.ga_listing.specs.inner.{Word, Says, IsOrdinary, IsUnmarked, is_inner, is_shown}
 use Rattle.ga_listing.proofs.SourceWords.{not_true}
 use Rattle.ga_parser.proofs.Scanning.{short_line}
 use Rattle.std.proofs.lemmas.List.Elements.{All-head, All-tail}

@@ -2,7 +2,7 @@
 ghost use Rattle.ga_text.specs.Output.{ReadsAndWrites};
 ghost use Rattle.std.specs.Prelude.{◌≡◌, ◌++◌, Some, IfSome};
 ghost use Rattle.ga_text.specs.Lines.{Bytes};
-ghost use Rattle.ga_console.specs.kept.Run.{Writes};
+ghost use Rattle.ga_console.specs.inner.Run.{Writes};
 ghost use Rattle.ga_listing.specs.Source.{IsAssembly, Assembles};
 
 use super::reading::read_source;

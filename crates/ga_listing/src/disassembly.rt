@@ -7,7 +7,7 @@ ghost use Rattle.ga_image.specs.Grammar.{IsImage};
 ghost use Rattle.ga_text.specs.Lines.{lines_of};
 ghost use Rattle.ga_console.specs.Run.{IsFault};
 ghost use Rattle.ga_listing.specs.Source.{IsAccepted, Disassembles};
-ghost use Rattle.ga_listing.specs.kept.{Disassembly, IsOrdinary, IsUnmarked, Says, Adds, AddsRemark, number_word, register_words, address_words, cell_words, next_of, cells_words, next_behind, holds_words as holds_words_of, usual_p as usual_p_of, registers_words, memory_words, node_words, named_words, source_words, AreCells, HasRegisters, HasMemories, IsFit};
+ghost use Rattle.ga_listing.specs.inner.{Disassembly, IsOrdinary, IsUnmarked, Says, Adds, AddsRemark, number_word, register_words, address_words, cell_words, next_of, cells_words, next_behind, holds_words as holds_words_of, usual_p as usual_p_of, registers_words, memory_words, node_words, named_words, source_words, AreCells, HasRegisters, HasMemories, IsFit};
 
 use super::assembling::write_text;
 use super::listing::{push_hex, push_node};

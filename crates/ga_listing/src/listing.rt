@@ -5,7 +5,7 @@ ghost use Rattle.ga_text.specs.Lines.{Bytes};
 ghost use Rattle.hex.specs.Hex.{lower_digits};
 ghost use Rattle.ga_grid.specs.Grid.{yxx_of};
 ghost use Rattle.ga_text.specs.Digits.{decimal3_of};
-ghost use Rattle.ga_listing.specs.kept.{Adds, hex_of, Listing, IsListed, with_fault, behind_listing};
+ghost use Rattle.ga_listing.specs.inner.{Adds, hex_of, Listing, IsListed, with_fault, behind_listing};
 ghost use Rattle.ga_listing.specs.Source.{Lists};
 
 use super::assembling::write_text;

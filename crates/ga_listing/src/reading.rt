@@ -2,7 +2,7 @@
 ghost use Rattle.std.specs.Prelude.{◌≡◌, ◌++◌, Some, IfOk, IfErr};
 ghost use Rattle.ga_text.specs.Lines.{Bytes};
 ghost use Rattle.ga_text.specs.Output.{IsWholeText};
-ghost use Rattle.ga_listing.specs.kept.{IsUnread};
+ghost use Rattle.ga_listing.specs.inner.{IsUnread};
 
 use ga_console::Status;
 use ga_notes::{tell_long, tell_memory};

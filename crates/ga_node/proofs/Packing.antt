@@ -9,7 +9,7 @@ use Rattle.std.proofs.Math.Seq.{get_or-append_seam}
 use Rattle.std.proofs.Math.ListN.{get_or-append}
 use Rattle.std.proofs.lemmas.List.{length-map, length-append, map-append, take-append-le, take_all}
 use Rattle.ga_node.specs.State.{IsPlace}
-use Rattle.ga_node.specs.kept.Packed.{code_of, place_by, packed, unpacked, free_bits, spare, with_spare, whole, IsWord, AreWords, AreKept}
+use Rattle.ga_node.specs.inner.Packed.{code_of, place_by, packed, unpacked, free_bits, spare, with_spare, whole, IsWord, AreWords, AreKept}
 
 -- the place of a code in RAM, in ROM
 ram_back : (cell kind code : ℕ) → cell < 64 → code ≡ 64 + cell → kind ≡ code / 8 → place_by kind code ≡ Ram cell

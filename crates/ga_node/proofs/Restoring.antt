@@ -11,7 +11,7 @@ use Rattle.ga_node.specs.declared.wait.Wait.TheVariants.{Nothing, Fetch as Fetch
 use Rattle.ga_node.specs.Table.{refused_by, refusal}
 use Rattle.ga_node.specs.declared.place.Place.{Place}
 use Rattle.ga_node.specs.declared.place.Place.TheVariants.{T, S, DataCell, DataPointer, R, ReturnCell, ReturnPointer, Ram, Rom, A, B, P, I, Slot, Io, Carry, Wait as WaitCode, Stop}
-use Rattle.ga_node.specs.kept.Packed.{code_of, place_by, unpacked, IsWord, pairs_of, AreAt}
+use Rattle.ga_node.specs.inner.Packed.{code_of, place_by, unpacked, IsWord, pairs_of, AreAt}
 use Rattle.ga_node.proofs.Packing.{kind_in}
 
 -- no wait and no stop, as numbers

@@ -1,6 +1,6 @@
 //! The old values of many events, of each place the one that is written back last.
 
-ghost use Rattle.ga_node.specs.kept.Packed.{unpacked, IsWord};
+ghost use Rattle.ga_node.specs.inner.Packed.{unpacked, IsWord};
 
 use crate::aside::Aside;
 use crate::node::Node;
@@ -21,7 +21,7 @@ pub struct Gathered {
 impl Model for Gathered {
     ghost use Rattle.std.specs.Prelude.{◌≡◌, List, ℕ, length};
     ghost use Rattle.ga_node.specs.declared.place.Place.{Place};
-    ghost use Rattle.ga_node.specs.kept.Packed.{pairs_of, AreAt};
+    ghost use Rattle.ga_node.specs.inner.Packed.{pairs_of, AreAt};
 
     ghost Value = { List (Place × ℕ) };
 

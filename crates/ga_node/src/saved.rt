@@ -3,7 +3,7 @@
 ghost use Rattle.std.specs.Prelude.{◌≡◌, ◌+◌, ◌-◌, ◌<◌, ◌≤◌, ◌^◌, ◌*◌, ◌/◌, ◌%◌, length};
 ghost use Rattle.std.specs.Bool.{OnTrue, OnFalse};
 ghost use Rattle.ga_node.specs.State.{IsPlace};
-ghost use Rattle.ga_node.specs.kept.Packed.{code_of, place_by, packed, unpacked, free_bits as free_bits_of, spare, with_spare, AreWords, AreKept};
+ghost use Rattle.ga_node.specs.inner.Packed.{code_of, place_by, packed, unpacked, free_bits as free_bits_of, spare, with_spare, AreWords, AreKept};
 
 use crate::place::Place;
 use arrayvec::ArrayVec;
@@ -20,7 +20,7 @@ pub struct Saved {
 impl Model for Saved {
     ghost use Rattle.std.specs.Prelude.{List, ℕ, map};
     ghost use Rattle.ga_node.specs.declared.place.Place.{Place};
-    ghost use Rattle.ga_node.specs.kept.Packed.{unpacked, whole, AreKept};
+    ghost use Rattle.ga_node.specs.inner.Packed.{unpacked, whole, AreKept};
 
     ghost Value = { List (Place × ℕ) };
 
@@ -34,7 +34,7 @@ impl Saved {
     ghost use Rattle.std.specs.Bool.{OnTrue, OnFalse};
     ghost use Rattle.std.specs.List.{slice_get};
     ghost use Rattle.ga_node.specs.State.{IsPlace};
-    ghost use Rattle.ga_node.specs.kept.Packed.{unpacked, IsWord};
+    ghost use Rattle.ga_node.specs.inner.Packed.{unpacked, IsWord};
 
     /// A list with no pair.
     #[inline(always)]

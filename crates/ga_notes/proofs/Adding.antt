@@ -14,7 +14,7 @@ use Rattle.std.specs.Option.{option_or}
 use Rattle.ga_parser.specs.declared.item.Asked.{Asked}
 use Rattle.ga_source.specs.declared.program.Program.{Program}
 use Rattle.ga_parser.specs.declared.item.Request.TheVariants.{Mark}
-use Rattle.ga_notes.specs.kept.{label_at, IsMarked}
+use Rattle.ga_notes.specs.inner.{label_at, IsMarked}
 
 -- ---- joined with what was told before
 

@@ -1,3 +1,3 @@
 pub mod Source
 pub mod Notes
-pub mod kept
+pub mod inner

@@ -4,7 +4,7 @@ ghost use Rattle.std.specs.Prelude.{◌≡◌, ◌++◌, map, decimal, IfOk, OnO
 ghost use Rattle.ga_notes.specs.Notes.{AreOfSource};
 ghost use Rattle.ga_notes.specs.Source.{named_by, named_at, names_in, label_text, address_text, note_text as note_text_of, whole_line_text, noted_by, noted_at, is_code, group_noted, notes_in, literal_noted};
 ghost use Rattle.ga_source.specs.Reading.{p_behind};
-ghost use Rattle.ga_notes.specs.kept.{IsMarked};
+ghost use Rattle.ga_notes.specs.inner.{IsMarked};
 
 use crate::label::{Marked, cell_of, name_of};
 use crate::line::{Lines, is_long};

@@ -2,7 +2,7 @@
 ghost use Rattle.std.specs.Prelude.{◌≡◌, ◌+◌, ◌*◌, ◌≤◌, [], ◌++◌, take, length};
 ghost use Rattle.arrayvec.specs.ArrayVec.{array_vec_len};
 ghost use Rattle.ga_node.specs.State.{IsPlace};
-ghost use Rattle.ga_notes.specs.kept.{shown_byte, shown, unknown_text};
+ghost use Rattle.ga_notes.specs.inner.{shown_byte, shown, unknown_text};
 
 use arrayvec::ArrayVec;
 use ga_grid::{Chip, NODES, NodeId};

@@ -4,7 +4,7 @@ ghost use Rattle.std.specs.Prelude.{◌≡◌, ◌<◌, ℕ, None, length, repli
 ghost use Rattle.std.specs.Option.{option_or};
 ghost use Rattle.ga_notes.specs.Source.{cell_of_address, label_name as name_by, label_cell as label_cell_of, marked_by, label_before};
 ghost use Rattle.ga_source.specs.declared.program.Program.{Program as AProgram};
-ghost use Rattle.ga_notes.specs.kept.{label_at, IsMarked};
+ghost use Rattle.ga_notes.specs.inner.{label_at, IsMarked};
 
 use ga_ports::{Target, classify};
 use ga_source::{Program, Request};

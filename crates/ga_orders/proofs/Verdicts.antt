@@ -14,7 +14,7 @@ use Rattle.ga_check.specs.declared.tally.Stop.TheVariants.{Reached, Memory}
 use Rattle.ga_console.specs.declared.run.Status.TheVariants.{ImageRefused, StreamFault}
 use Rattle.ga_orders.specs.OrderTexts.{orders_text, no_order_text}
 use Rattle.ga_orders.specs.EveryOrder.{IsSearched, IsLooked, IsFoundBy, IsTextOut, is_faultless, verdict_of, no_order_verdict, found_text, found_verdict, searched, said_verdict, TellsOrders, TellsEvery}
-use Rattle.ga_orders.specs.kept.{TellsLooks}
+use Rattle.ga_orders.specs.inner.{TellsLooks}
 use Rattle.ga_orders.specs.declared.every_order.Verdict.{Verdict}
 use Rattle.ga_orders.specs.declared.every_order.Verdict.TheVariants.{Alike, Several, SearchedAlike, SearchedSeveral, Open, Ended}
 

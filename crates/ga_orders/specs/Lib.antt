@@ -1,4 +1,4 @@
 pub mod OrderTexts
 pub mod Settled
 pub mod EveryOrder
-pub mod kept
+pub mod inner

@@ -10,7 +10,7 @@ ghost use Rattle.ga_orders.specs.Settled.{begun_from};
 ghost use Rattle.ga_answers.specs.Saved.{saved_text};
 ghost use Rattle.ga_orders.specs.OrderTexts.{orders_text, no_order_text};
 ghost use Rattle.ga_orders.specs.EveryOrder.{TellsOrders, ChecksOrders, IsTextOut, has_stop, is_faultless, is_stop_fate, verdict_of, no_order_verdict, tally_text, tally_verdict, searched};
-ghost use Rattle.ga_orders.specs.kept.{TellsLooks};
+ghost use Rattle.ga_orders.specs.inner.{TellsLooks};
 ghost use Rattle.ga_orders.specs.declared.every_order.Verdict.TheVariants.{Alike, Ended};
 ghost use Rattle.ga_console.specs.declared.run.Status.TheVariants.{ImageRefused};
 

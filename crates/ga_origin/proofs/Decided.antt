@@ -18,7 +18,7 @@ use Rattle.ga_origin.specs.declared.deciding.Decision.{Decision}
 use Rattle.ga_origin.specs.Origins.{value_of_step, node_after, flow_at, origin_of}
 use Rattle.ga_origin.specs.Rows.{sender_in, IsCause, IsNamedFor}
 use Rattle.ga_origin.specs.Deciding.{code_by, brought_at, came_over, kind_tested, tested_at, decision, decided_by, decided_at, newer, newest_decided}
-use Rattle.ga_origin.specs.kept.{IsOwn}
+use Rattle.ga_origin.specs.inner.{IsOwn}
 use Rattle.ga_origin.proofs.Causes.{earlier, earlier_step, named_origin, named_sender}
 
 abbrev some_decision : ℕ → Made → Value → ℕ → Value → Option Decision

@@ -30,7 +30,7 @@ use Rattle.ga_node.specs.declared.wait.Wait.TheVariants as wait
 use Rattle.ga_grid.specs.declared.node_id.NodeId.{NodeId}
 use Rattle.ga_event.specs.declared.made.Made.TheVariants as made
 use Rattle.ga_event.specs.Flow.{Flow, Same, Move, PushData, SetP, SetA, SetI, GoOn, StartAgain, from, read_moves, write_moves, moves, moves_by, moved_all, own_flow, send_flow, take_flow, PopData, SetWait, SetStop, top}
-use Rattle.ga_origin.specs.kept.{is_store, ran_store, stored_at, misses_at, misses}
+use Rattle.ga_origin.specs.inner.{is_store, ran_store, stored_at, misses_at, misses}
 use Rattle.ga_origin.proofs.Ran.{WasNext, ran_so, due_told}
 use Rattle.std.proofs.lemmas.Bool.{eqb-true, eq-eqb}
 use Rattle.ga_slots.specs.Codes.{op_of}

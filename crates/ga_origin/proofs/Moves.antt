@@ -26,7 +26,7 @@ use Rattle.ga_event.specs.declared.flow.part.Part.TheVariants.{Data, Return, Ram
 use Rattle.ga_event.specs.Flow.{Flow, Same, Move, PushData, PopData, SetP, SetA, SetI, SetIo, SetRam, SetWait, SetStop, GoOn, StartAgain, top, from, read_moves, write_moves, moves, moves_by, moved_all, own_flow}
 use Rattle.ga_origin.specs.declared.value.Value.{Value}
 use Rattle.ga_origin.specs.Origins.{node_after, flow_told, moved_from, moved_at, origin_from, origin_of}
-use Rattle.ga_origin.specs.kept.{by_op, by_fetch, by_pause, by_kind, moved_by}
+use Rattle.ga_origin.specs.inner.{by_op, by_fetch, by_pause, by_kind, moved_by}
 use Rattle.ga_origin.proofs.Made.{back_on}
 use Rattle.ga_origin.proofs.Ran.{WasNext, ran_so}
 use Rattle.std.proofs.lemmas.Option.{none-some}

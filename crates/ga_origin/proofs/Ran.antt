@@ -37,7 +37,7 @@ use Rattle.ga_node.specs.declared.wait.Reader.TheVariants.{Instruction, Stack}
 use Rattle.ga_event.specs.declared.flow.choice.Choice.{Choice}
 use Rattle.ga_event.specs.declared.flow.part.Part.{Part}
 use Rattle.ga_event.specs.Flow.{Same, choice, moves_where, moves_by, moved_all, flow_where, own_flow}
-use Rattle.ga_origin.specs.kept.{IsDueBy}
+use Rattle.ga_origin.specs.inner.{IsDueBy}
 
 -- ---- what is told of a step of a node's own is what its next event was, where the node stood before it
 

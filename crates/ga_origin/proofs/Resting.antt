@@ -9,7 +9,7 @@ use Rattle.ga_lab.specs.Holding.{Holds}
 use Rattle.ga_origin.specs.declared.kept.Kept.{Kept}
 use Rattle.ga_origin.specs.declared.kept.Kept.TheVariants.{A, B, Ram}
 use Rattle.ga_origin.specs.Origins.{place_after, node_after}
-use Rattle.ga_origin.specs.kept.{place_of, word_of, writes, rests_by, rests, IsWhole}
+use Rattle.ga_origin.specs.inner.{place_of, word_of, writes, rests_by, rests, IsWhole}
 use Rattle.ga_origin.proofs.Made.{place_holds}
 use Rattle.std.specs.List.{slice_get}
 use Rattle.ga_slots.specs.declared.op.Op.{Op}

@@ -15,7 +15,7 @@ use Rattle.ga_origin.specs.declared.value.Value.{Value}
 use Rattle.ga_origin.specs.declared.listing.Row.{Row}
 use Rattle.ga_origin.specs.Origins.{flow_at, value_of_step, origin_of}
 use Rattle.ga_origin.specs.Rows.{sender_in, source_values, sources_from, row_at, below, has_value, made_row, AreRows, all, again, next, cut, is_one, sources_of, IsToldIn}
-use Rattle.ga_origin.specs.kept.{IsOpen}
+use Rattle.ga_origin.specs.inner.{IsOpen}
 use Rattle.std.proofs.lemmas.Bool.{eq-eqb}
 use Rattle.std.proofs.lemmas.List.Folds.{list_any-append}
 

@@ -4,4 +4,4 @@ pub mod Fetched
 pub mod Origins
 pub mod Rows
 pub mod Writes
-pub mod kept
+pub mod inner

@@ -7,7 +7,7 @@ ghost use Rattle.ga_node.specs.Table.{due_of};
 ghost use Rattle.ga_lab.specs.Machine.{standing};
 ghost use Rattle.ga_event.specs.Flow.{IsPart};
 ghost use Rattle.ga_origin.specs.Asked.{read_asked, write_asked, op_asked, due_asked, take_asked, told_asked, value_asked, asked_of};
-ghost use Rattle.ga_origin.specs.kept.{IsAsked};
+ghost use Rattle.ga_origin.specs.inner.{IsAsked};
 
 use crate::value::Value;
 use ga_event::{Made, Part, due_in};

@@ -7,7 +7,7 @@ ghost use Rattle.ga_lab.specs.Machine.{standing};
 ghost use Rattle.ga_event.specs.Flow.{IsPart, part_of};
 ghost use Rattle.ga_origin.specs.Origins.{origin_of};
 ghost use Rattle.ga_origin.specs.Deciding.{tested_by, code_at, brought_at, came_over, op_tested, kind_tested, decided_by, decided_at};
-ghost use Rattle.ga_origin.specs.kept.{IsTested, IsOwn, IsTrailTo};
+ghost use Rattle.ga_origin.specs.inner.{IsTested, IsOwn, IsTrailTo};
 
 use crate::listing::sender_in;
 use crate::origin::{flow_by_trail, kept_step, origin_behind, trail_near};
@@ -260,7 +260,7 @@ pub struct Decisions<'l> {
 
 impl<'l> Model for Decisions<'l> {
     ghost use Rattle.ga_lab.specs.Machine.{Standing, standing};
-    ghost use Rattle.ga_origin.specs.kept.{IsDeciding};
+    ghost use Rattle.ga_origin.specs.inner.{IsDeciding};
 
     ghost Value = { Standing };
 

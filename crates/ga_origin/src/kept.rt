@@ -6,7 +6,7 @@ ghost use Rattle.std.specs.List.{slice_get};
 ghost use Rattle.ga_event.specs.Told.{steps_of};
 ghost use Rattle.ga_lab.specs.Machine.{history_of, standing};
 ghost use Rattle.ga_origin.specs.Origins.{node_after};
-ghost use Rattle.ga_origin.specs.kept.{place_of, word_of, writes, rests, IsWhole, AreHeld};
+ghost use Rattle.ga_origin.specs.inner.{place_of, word_of, writes, rests, IsWhole, AreHeld};
 ghost use Rattle.ga_node.specs.Record.{record_of};
 
 use ga_event::Made;

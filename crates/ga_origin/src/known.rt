@@ -8,7 +8,7 @@ ghost use Rattle.ga_node.specs.declared.due.Due.TheVariants as due;
 ghost use Rattle.ga_lab.specs.Machine.{standing};
 ghost use Rattle.ga_event.specs.Flow.{IsPart, choice, target_of, own_flow, take_flow, flow_of, AreSources};
 ghost use Rattle.ga_origin.specs.Origins.{node_after, flow_at};
-ghost use Rattle.ga_origin.specs.kept.{IsDueBy, IsTrailTo};
+ghost use Rattle.ga_origin.specs.inner.{IsDueBy, IsTrailTo};
 
 use crate::trail::Trail;
 use ga_event::{Choice, Flow, Made, Part, flow_where, send_flow, take_flow};

@@ -6,7 +6,7 @@ ghost use Rattle.ga_lab.specs.Machine.{standing};
 ghost use Rattle.ga_event.specs.Flow.{IsPart, Same};
 ghost use Rattle.ga_origin.specs.Origins.{value_of_step};
 ghost use Rattle.ga_origin.specs.Rows.{has_value, row_at, sender_in, source_values, below, AreRows};
-ghost use Rattle.ga_origin.specs.kept.{IsOpen};
+ghost use Rattle.ga_origin.specs.inner.{IsOpen};
 
 use crate::origin::{Origin, flow_by_trail, origin_near};
 use crate::trail::Trail;

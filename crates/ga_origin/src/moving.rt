@@ -2,7 +2,7 @@
 
 ghost use Rattle.std.specs.Prelude.{◌≡◌, ◌<◌, IfSome};
 ghost use Rattle.ga_event.specs.Flow.{IsPart};
-ghost use Rattle.ga_origin.specs.kept.{on_data, on_return, pushed, popped_to_data, moved_to_data, popped_to_return, moved_to_return, moved_to_a, unless_stored, by_op, by_fetch, by_pause, stored_at, misses_by, misses, moved_by};
+ghost use Rattle.ga_origin.specs.inner.{on_data, on_return, pushed, popped_to_data, moved_to_data, popped_to_return, moved_to_return, moved_to_a, unless_stored, by_op, by_fetch, by_pause, stored_at, misses_by, misses, moved_by};
 
 use crate::kept::Registers;
 use ga_event::{Made, Part};

@@ -6,7 +6,7 @@ ghost use Rattle.ga_event.specs.Told.{steps_of};
 ghost use Rattle.ga_lab.specs.Machine.{history_of, standing};
 ghost use Rattle.ga_event.specs.Flow.{IsPart, flow_of, AreSources};
 ghost use Rattle.ga_origin.specs.Origins.{is_memory_part, crosses, moved_from, is_of_three, told_part, told_flow, flow_at, origin_from, origin_of, node_after};
-ghost use Rattle.ga_origin.specs.kept.{moved_by, IsTrailTo};
+ghost use Rattle.ga_origin.specs.inner.{moved_by, IsTrailTo};
 ghost use Rattle.ga_ports.specs.Address.{classified};
 ghost use Rattle.ga_origin.specs.Fetched.{cell_of_target, fetched_cell};
 

@@ -3,7 +3,7 @@
 ghost use Rattle.std.specs.Prelude.{◌≡◌, ◌≤◌, ◌+◌, true, IfSome};
 ghost use Rattle.ga_event.specs.Flow.{IsPart};
 ghost use Rattle.ga_origin.specs.Origins.{origin_of};
-ghost use Rattle.ga_origin.specs.kept.{AreHeld, IsFollowed};
+ghost use Rattle.ga_origin.specs.inner.{AreHeld, IsFollowed};
 
 use crate::kept::{Registers, registers_at, registers_before, registers_in};
 use crate::moving::{data_place, misses, moved_by};
@@ -147,7 +147,7 @@ pub(crate) struct Trail<'l> {
 
 impl<'l> Model for Trail<'l> {
     ghost use Rattle.ga_lab.specs.Machine.{Standing};
-    ghost use Rattle.ga_origin.specs.kept.{AreHeld};
+    ghost use Rattle.ga_origin.specs.inner.{AreHeld};
 
     ghost Value = { Standing };
 
@@ -161,7 +161,7 @@ impl<'l> Trail<'l> {
     ghost use Rattle.ga_event.specs.Told.{steps_of};
     ghost use Rattle.ga_lab.specs.Machine.{standing};
     ghost use Rattle.ga_event.specs.Flow.{IsPart};
-    ghost use Rattle.ga_origin.specs.kept.{IsWhole, AreHeld, IsFollowed, IsTrailTo};
+    ghost use Rattle.ga_origin.specs.inner.{IsWhole, AreHeld, IsFollowed, IsTrailTo};
 
     /// From where a node is walked back to.
     pub fn new(lab: &'l Lab, node: NodeId, walk: Walk<'l>) -> Self

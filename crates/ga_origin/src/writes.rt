@@ -5,7 +5,7 @@ ghost use Rattle.ga_node.specs.Record.{record_of};
 ghost use Rattle.ga_event.specs.Told.{steps_of};
 ghost use Rattle.ga_event.specs.Flow.{flow_of};
 ghost use Rattle.ga_origin.specs.Writes.{is_written, written_at, newest_written};
-ghost use Rattle.ga_origin.specs.kept.{IsReached, IsFollowedBack, ran_store};
+ghost use Rattle.ga_origin.specs.inner.{IsReached, IsFollowedBack, ran_store};
 
 use crate::kept::{Kept, Registers, registers_before, registers_in, word_before, word_behind};
 use crate::moving::misses;
@@ -162,7 +162,7 @@ pub struct CellWrites<'l> {
 
 impl<'l> Model for CellWrites<'l> {
     ghost use Rattle.ga_origin.specs.Writes.{Search, search};
-    ghost use Rattle.ga_origin.specs.kept.{IsSearch};
+    ghost use Rattle.ga_origin.specs.inner.{IsSearch};
 
     ghost Value = { Search };
 

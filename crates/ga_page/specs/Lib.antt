@@ -1,1 +1,1 @@
-pub mod kept
+pub mod inner

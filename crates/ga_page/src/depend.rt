@@ -2,7 +2,7 @@
 
 ghost use Rattle.std.specs.Prelude.{◌≡◌, ◌⊎◌, ℕ, List, length, take, IfSome};
 ghost use Rattle.ga_grid.specs.Chip.{records_of};
-ghost use Rattle.ga_page.specs.kept.{AreCodes, Makes, MakesAll, code_of};
+ghost use Rattle.ga_page.specs.inner.{AreCodes, Makes, MakesAll, code_of};
 
 use crate::buffer::put_front;
 use ga_event::{Cause, apply, cause_of, next_event};

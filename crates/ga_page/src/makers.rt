@@ -4,7 +4,7 @@ ghost use Rattle.std.specs.Prelude.{◌≡◌, ◌++◌, ◌⊎◌, ℕ, List, O
 ghost use Rattle.ga_text.specs.Lines.{Bytes};
 ghost use Rattle.ga_explorer.specs.Opening.{Exploring};
 ghost use Rattle.ga_picture.specs.Following.{FollowsTo};
-ghost use Rattle.ga_page.specs.kept.{maker_of, makers_of};
+ghost use Rattle.ga_page.specs.inner.{maker_of, makers_of};
 
 use crate::buffer::{put_front, streams};
 use ga_event::{Cause, Event};

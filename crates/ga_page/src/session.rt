@@ -4,7 +4,7 @@ ghost use Rattle.std.specs.Prelude.{◌≡◌, ◌++◌, ◌∷◌, [], length, 
 ghost use Rattle.ga_text.specs.Lines.{Bytes};
 ghost use Rattle.ga_console.specs.declared.run.Status.{Status as Ended};
 ghost use Rattle.ga_explorer.specs.Session.{RunsExploring};
-ghost use Rattle.ga_page.specs.kept.{number_of};
+ghost use Rattle.ga_page.specs.inner.{number_of};
 
 use crate::buffer::{put_front, streams};
 use ga_console::Status;

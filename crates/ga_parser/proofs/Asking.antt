@@ -8,8 +8,8 @@ use Rattle.ga_parser.specs.declared.scan.Token.{Token}
 use Rattle.ga_parser.specs.Asking.{Asking, Refusal, refuse_line, line_of, all_closed, hear, next_text, asked_from, finished, is_waiting, all_placed, ◌▷◌, Mention, mention_of, named_before, label_number, label_at, with_mark}
 use Rattle.ga_parser.specs.Asking.Wrong.{Unclosed, Unknown}
 use Rattle.ga_parser.specs.Saying.{said_of, all_said, has_bytes}
-use Rattle.ga_parser.specs.kept.Drafting.{texts_of}
-use Rattle.ga_parser.specs.kept.Names.{AreNames}
+use Rattle.ga_parser.specs.inner.Drafting.{texts_of}
+use Rattle.ga_parser.specs.inner.Names.{AreNames}
 use Rattle.std.specs.HashMap.{HashMap, get_by, UpdatesBy}
 use Rattle.std.specs.Map.{lookup}
 use denote.Ref.{Bor}

@@ -18,7 +18,7 @@ use Rattle.ga_ports.specs.Steps.{◌>>=◌}
 use Rattle.ga_ports.specs.Address.{set_number, side_value}
 use Rattle.ga_parser.specs.Vocabulary.{by_name, number_by_word, directives, has_prefix, plain_in, word_of_size, word_below, numeral_in, set_address, set_in, ports, port_in}
 use Rattle.ga_parser.specs.Plain.{Plain, with_two_words, with_request, by_number, only_if, is_cell, plain_from}
-use Rattle.ga_parser.specs.kept.Drafting.{Heard, end_of, may_give, next_of, hear, hear_all}
+use Rattle.ga_parser.specs.inner.Drafting.{Heard, end_of, may_give, next_of, hear, hear_all}
 use Rattle.std.specs.Option.{option_map_or, option_or}
 use Rattle.std.proofs.Math.Nat.{mod-lt}
 use Rattle.std.proofs.lemmas.Nat.{xor_lt}

@@ -30,7 +30,7 @@ use Rattle.ga_parser.specs.Saying.{Said, said_of, all_said}
 use Rattle.ga_ports.specs.Steps.{◌>>=◌}
 use Rattle.ga_parser.specs.Vocabulary.{by_name, has_prefix, number_by_word, directives, directive_in, bound_of}
 use Rattle.ga_parser.specs.Plain.{Plain, with_request, by_number, only_if, is_cell, asked_by, value_in, plain_of, no_request}
-use Rattle.ga_parser.specs.kept.Drafting.{Heard, HasHeard, nothing_heard, end_of, with_register, may_give, next_of, hear_word, hear, hear_all, texts_of}
+use Rattle.ga_parser.specs.inner.Drafting.{Heard, HasHeard, nothing_heard, end_of, with_register, may_give, next_of, hear_word, hear, hear_all, texts_of}
 use Rattle.ga_parser.specs.declared.labels.Label.{Label}
 use Rattle.ga_parser.specs.declared.scan.Token.{Token}
 use Rattle.ga_parser.specs.declared.item.NodeRequests.{NodeRequests}

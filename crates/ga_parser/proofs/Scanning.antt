@@ -6,7 +6,7 @@ use Rattle.std.proofs.lemmas.Bool.{cond-true, cond-false, both_ways, and_parts, 
 use Rattle.ga_text.specs.Lines.{with_byte, lines_of}
 use Rattle.ga_parser.specs.declared.scan.TokenKind.TheVariants.{LongLine, OpenComment}
 use Rattle.ga_parser.specs.Saying.{parted, is_blank, source_lines, has_bytes, source_words, longest_source_line, bare, Said, a_word, a_fault, is_word, closes, spoken, said_by, up_to_fault, next_line, said_from, part_column, columns_spoken, columns_by, columns_from}
-use Rattle.ga_parser.specs.kept.Drafting.{IsTold}
+use Rattle.ga_parser.specs.inner.Drafting.{IsTold}
 
 -- ---- parts
 

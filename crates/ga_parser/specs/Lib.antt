@@ -3,4 +3,4 @@ pub mod Plain
 pub mod Vocabulary
 pub mod Asking
 pub mod Requests
-pub mod kept
+pub mod inner

@@ -2,7 +2,7 @@
 
 ghost use Rattle.std.specs.Prelude.{◌≡◌, Ok};
 ghost use Rattle.ga_parser.specs.Asking.{asking, begin_loop as begin_row, ahead as ahead_row, end_loop, end_ahead, end_around, control as control_row, jump as jump_row, line_of, ◌▷◌};
-ghost use Rattle.ga_parser.specs.kept.Drafting.{Answers, asking_of};
+ghost use Rattle.ga_parser.specs.inner.Drafting.{Answers, asking_of};
 ghost use Rattle.ga_parser.specs.declared.vocabulary.Control.TheVariants.{Else as ElseWord, Then as ThenWord, NextAround as NextAroundWord, Unext as UnextWord, While as WhileWord, Repeat as RepeatWord, For as ForWord};
 
 use super::draft::Draft;

@@ -5,7 +5,7 @@ ghost use Rattle.ga_slots.specs.declared.op.Op.TheVariants.{Jump, Call};
 ghost use Rattle.ga_parser.specs.declared.fault.SourceCause.TheVariants.{Memory};
 ghost use Rattle.ga_parser.specs.Asking.{asked_by_words, carried as carried_of, is_waiting as is_waiting_for};
 ghost use Rattle.ga_parser.specs.Requests.{AreRequestsOf, word_refusal};
-ghost use Rattle.ga_parser.specs.kept.Drafting.{Answers, asking_of, texts_of};
+ghost use Rattle.ga_parser.specs.inner.Drafting.{Answers, asking_of, texts_of};
 ghost use Rattle.ga_parser.specs.Saying.{all_said};
 
 use super::controls::Open;
@@ -48,7 +48,7 @@ impl<'s> Draft<'s> {
     ghost use Rattle.std.specs.Prelude.{◌≡◌, Ok};
     ghost use Rattle.ga_parser.specs.Asking.{◌▷◌, nothing_asked, asking, jump as jump_row, mark as mark_row, value_said, name_asks, register_asks, address_asks, directive as directive_row, cell as cell_row, call as call_row, word_asks, hear, give, naming, label_number as number_of_label, finished};
     ghost use Rattle.ga_parser.specs.declared.item.Operand.TheVariants.{Label as LabelOf};
-    ghost use Rattle.ga_parser.specs.kept.Drafting.{Answers, asking_of};
+    ghost use Rattle.ga_parser.specs.inner.Drafting.{Answers, asking_of};
     ghost use Rattle.ga_parser.specs.Saying.{said_of};
 
     fn new(alloc: Global) -> Self

@@ -3,7 +3,7 @@
 ghost use Rattle.std.specs.Prelude.{◌≡◌, ◌&&◌, not, [], length, map, IfOk, OnOk};
 ghost use Rattle.ga_parser.specs.Saying.{has_bytes};
 ghost use Rattle.ga_parser.specs.Asking.{Asking, mention_of, named_before, label_number, with_name, one_label_more, is_behind, with_mark, all_placed};
-ghost use Rattle.ga_parser.specs.kept.Drafting.{Answers};
+ghost use Rattle.ga_parser.specs.inner.Drafting.{Answers};
 
 use super::fault::{Fault, SourceCause, fault_at};
 use std::alloc::{AllocError, Global};
@@ -31,7 +31,7 @@ pub(crate) struct Labels<'s> {
 impl<'s> Model for Labels<'s> {
     ghost use Rattle.std.specs.Prelude.{List, map};
     ghost use Rattle.ga_parser.specs.Asking.{Mention, mention_of};
-    ghost use Rattle.ga_parser.specs.kept.Names.{AreNames};
+    ghost use Rattle.ga_parser.specs.inner.Names.{AreNames};
 
     ghost Value = { List Mention };
 

@@ -8,7 +8,7 @@ use Rattle.ga_console.specs.declared.commands.Ending.TheVariants.{Ended, Quit, P
 use Rattle.ga_text.specs.declared.output.WriteFailed.{WriteFailed}
 use Rattle.ga_console.specs.declared.run.Status.TheVariants.{Done, StreamFault}
 use Rattle.ga_picture.specs.Following.{Hears, Follows, Declines, Followed, FollowsTo, IsShort}
-use Rattle.ga_picture.specs.kept.{HearsLine, Goes, Ends, Notes}
+use Rattle.ga_picture.specs.inner.{HearsLine, Goes, Ends, Notes}
 use Rattle.ga_picture.specs.declared.silent.Silent.{Silent}
 use Rattle.ga_lab.specs.declared.fault.LabFault.TheVariants.{Memory}
 use Rattle.ga_console.specs.declared.run.Status.{Status}
@@ -17,7 +17,7 @@ use Rattle.ga_picture.specs.Following.Unreached.{broken, short}
 use Rattle.std.proofs.lemmas.List.{append-nil}
 use Rattle.std.proofs.lemmas.Option.{same_Some}
 use Rattle.ga_text.specs.Output.{IsSaid}
-use Rattle.ga_console.specs.kept.Run.{Turns}
+use Rattle.ga_console.specs.inner.Run.{Turns}
 use Rattle.ga_console.specs.declared.responder.Turn.{Turn}
 use Rattle.ga_console.specs.declared.responder.Turn.TheVariants as turns
 use Rattle.ga_explorer.specs.Answers.{Explores}

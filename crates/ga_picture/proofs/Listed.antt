@@ -21,7 +21,7 @@ use Rattle.ga_picture.specs.declared.shade.Shade.{Shade}
 use Rattle.ga_picture.specs.declared.view.View.{View}
 use Rattle.ga_picture.specs.declared.by_itself.ByItself.{ByItself}
 use Rattle.ga_picture.specs.Picture.{place_for, start_in, end_in, known_of, items_in}
-use Rattle.ga_picture.specs.kept.{known_by, AreListed, AreItemsOf, IsHeld}
+use Rattle.ga_picture.specs.inner.{known_by, AreListed, AreItemsOf, IsHeld}
 
 -- ---- the nodes that events touch
 

@@ -15,14 +15,14 @@ use Rattle.ga_event.specs.declared.event.Event.{Event}
 use Rattle.ga_event.specs.declared.event.Event.TheVariants.{Own, Pass}
 use Rattle.ga_event.specs.declared.event.Cause.{Cause}
 use Rattle.ga_event.specs.Touches.{nodes_of, looked_at, neighbours, seen_by}
-use Rattle.ga_causal.specs.kept.{any_of}
+use Rattle.ga_causal.specs.inner.{any_of}
 use Rattle.ga_causal.specs.Dependence.{cause_touches, is_a_pass, is_marked}
 use Rattle.ga_causal.specs.Equivalence.{sees}
 use Rattle.ga_causal.proofs.Oldest.{any_neighbours}
 use Rattle.ga_picture.specs.declared.item.PictureItem.{PictureItem}
 use Rattle.ga_picture.specs.Items.{at_place, no_item}
 use Rattle.ga_picture.specs.Drawing.{IsTouched, IsDrawnOf, IsFree, IsByItself, steps_made}
-use Rattle.ga_picture.specs.kept.{IsHeld, is_on, is_look, touched_in, held_in, looking_in, is_loose, AreTallied, HasJoined, works_loose, works_joined}
+use Rattle.ga_picture.specs.inner.{IsHeld, is_on, is_look, touched_in, held_in, looking_in, is_loose, AreTallied, HasJoined, works_loose, works_joined}
 use Rattle.ga_picture.proofs.Shaded.{any_of_one, any_at}
 use Rattle.ga_picture.proofs.Listed.{touched_below}
 use Rattle.std.proofs.lemmas.List.FromFn.{filter_of_map_range_with_len_more}

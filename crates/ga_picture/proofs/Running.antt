@@ -15,7 +15,7 @@ use Rattle.ga_picture.specs.declared.shade.Shade.TheVariants.{Black, Grey, Red}
 use Rattle.ga_picture.specs.declared.item.PictureItem.{PictureItem}
 use Rattle.ga_picture.specs.declared.runs.Runs.{Runs}
 use Rattle.ga_picture.specs.Items.{actor, at_place, no_item, is_same_run, IsSimple, run_with, run_before, run_in_front, behind_at}
-use Rattle.ga_picture.specs.kept.{count_in, HasNodes, AreWithin}
+use Rattle.ga_picture.specs.inner.{count_in, HasNodes, AreWithin}
 
 before_none : (n : ℕ) (shade : Shade) (items : List PictureItem) → run_before n shade items zero ≡ 0
 unfolding run_before

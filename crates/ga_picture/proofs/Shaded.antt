@@ -12,7 +12,7 @@ use Rattle.ga_causal.proofs.Oldest.{none_marked, DependsOn-order as ordered}
 use Rattle.std.proofs.lemmas.Option.{same_Some, slice_get_within}
 use Rattle.std.proofs.lemmas.Grind.{get_or-set_at}
 use Rattle.ga_grid.specs.declared.node_id.NodeId.{NodeId}
-use Rattle.ga_picture.specs.kept.{AreLines}
+use Rattle.ga_picture.specs.inner.{AreLines}
 use Rattle.ga_picture.specs.declared.shade.Shade.{Shade}
 use Rattle.ga_picture.specs.declared.shade.Shade.TheVariants.{Black, Grey, Red}
 use Rattle.ga_picture.specs.Drawing.{Goes, DependsOnPlace, IsShade}

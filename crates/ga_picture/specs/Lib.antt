@@ -1,5 +1,5 @@
 pub mod Items
 pub mod Drawing
 pub mod Picture
-pub mod kept
+pub mod inner
 pub mod Following

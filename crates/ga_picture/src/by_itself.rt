@@ -5,10 +5,10 @@ ghost use Rattle.std.specs.List.{All, list_any};
 ghost use Rattle.ga_grid.specs.Grid.{neighbour_of};
 ghost use Rattle.ga_event.specs.Touches.{neighbours};
 ghost use Rattle.ga_causal.specs.Dependence.{cause_touches, is_marked};
-ghost use Rattle.ga_causal.specs.kept.{any_of};
+ghost use Rattle.ga_causal.specs.inner.{any_of};
 ghost use Rattle.ga_picture.specs.Items.{actor, items_of};
 ghost use Rattle.ga_picture.specs.Drawing.{IsByItself, told_nodes};
-ghost use Rattle.ga_picture.specs.kept.{AreKnownBetween, ArePlainAs, known_in, AreTallied, HasFew, HasJoined, IsHeld, is_look, is_loose_by, works_loose, works_joined};
+ghost use Rattle.ga_picture.specs.inner.{AreKnownBetween, ArePlainAs, known_in, AreTallied, HasFew, HasJoined, IsHeld, is_look, is_loose_by, works_loose, works_joined};
 
 use crate::item::{Facts, PictureItem, actor, is_pass, item_at};
 use crate::view::View;

@@ -3,7 +3,7 @@ ghost use Rattle.ga_text.specs.Output.{WritesText, ReadsAndWrites, ReadsOnAndWri
 ghost use Rattle.std.specs.Prelude.{◌-◌};
 ghost use Rattle.ga_text.specs.Input.{IsWithin, input_limit};
 ghost use Rattle.ga_picture.specs.Following.{FollowsTo, Declines};
-ghost use Rattle.ga_picture.specs.kept.{Goes, Ends};
+ghost use Rattle.ga_picture.specs.inner.{Goes, Ends};
 
 use super::silent::Silent;
 use ga_console::{Status, serve, status_of};

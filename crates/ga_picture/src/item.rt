@@ -5,7 +5,7 @@ ghost use Rattle.ga_event.specs.Apply.{is_number};
 ghost use Rattle.ga_causal.specs.Dependence.{is_marked, is_a_pass, cause_touches};
 ghost use Rattle.ga_picture.specs.Items.{actor, is_plain_at, is_asked_step, is_asked_shade, is_narrow, is_left_out, holds_node, item_of, item_at, items_of, is_plain};
 ghost use Rattle.ga_picture.specs.Drawing.{without_nodes};
-ghost use Rattle.ga_picture.specs.kept.{ArePlainAs, known_in};
+ghost use Rattle.ga_picture.specs.inner.{ArePlainAs, known_in};
 
 use crate::shade::Shade;
 use crate::view::View;

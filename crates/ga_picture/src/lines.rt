@@ -2,7 +2,7 @@
 
 ghost use Rattle.std.specs.Prelude.{IfOk, ◌≡◌, ◌<◌, ℕ, true, false, length};
 ghost use Rattle.ga_causal.specs.Dependence.{is_marked, cause_touches};
-ghost use Rattle.ga_picture.specs.kept.{AreLines};
+ghost use Rattle.ga_picture.specs.inner.{AreLines};
 ghost use Rattle.ga_picture.specs.Drawing.{IsTouched};
 ghost use Rattle.ga_picture.specs.Items.{at_place};
 

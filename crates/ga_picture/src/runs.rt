@@ -5,7 +5,7 @@ ghost use Rattle.std.specs.List.{All};
 ghost use Rattle.ga_causal.specs.Equivalence.{sees};
 ghost use Rattle.ga_picture.specs.declared.shade.Shade.{Shade};
 ghost use Rattle.ga_picture.specs.Items.{run_with, behind_at, is_same_run, IsSimple};
-ghost use Rattle.ga_picture.specs.kept.{count_in, HasNodes, AreWithin};
+ghost use Rattle.ga_picture.specs.inner.{count_in, HasNodes, AreWithin};
 
 use crate::item::{PictureItem, actor};
 use crate::shade::Shade;

@@ -3,9 +3,9 @@ ghost use Rattle.std.specs.Prelude.{◌≡◌, ◌↔◌, [], Some, Ok, IsTrue};
 ghost use Rattle.ga_text.specs.Lines.{Bytes};
 ghost use Rattle.ga_text.specs.Output.{IsSaid};
 ghost use Rattle.ga_console.specs.declared.responder.Turn.TheVariants.{Quit};
-ghost use Rattle.ga_console.specs.kept.Run.{Turns, AnswersCommand};
+ghost use Rattle.ga_console.specs.inner.Run.{Turns, AnswersCommand};
 ghost use Rattle.ga_picture.specs.Following.{IsShort};
-ghost use Rattle.ga_picture.specs.kept.{Notes};
+ghost use Rattle.ga_picture.specs.inner.{Notes};
 ghost use Rattle.ga_explorer.specs.Answers.{Explores};
 
 use ga_console::{Command, Responder, Turn};
@@ -84,8 +84,8 @@ fn is_short(answer: &[u8]) -> bool
 
 impl Responder for Silent {
     ghost use Rattle.std.specs.Prelude.{false, None};
-    ghost use Rattle.ga_explorer.specs.kept.{exploring};
-    ghost use Rattle.ga_picture.specs.kept.{HearsLine};
+    ghost use Rattle.ga_explorer.specs.inner.{exploring};
+    ghost use Rattle.ga_picture.specs.inner.{HearsLine};
 
     ghost answers = { λ m line said new. HearsLine m.explorer m.short line said new.explorer new.short };
 

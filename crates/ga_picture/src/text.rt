@@ -3,7 +3,7 @@
 ghost use Rattle.std.specs.Prelude.{◌≡◌, IfOk, string_bytes};
 ghost use Rattle.ga_picture.specs.Drawing.{shade_of};
 ghost use Rattle.ga_picture.specs.Picture.{IsSvg, IsGroup, AreGroups, class_of, race_class, race_classes};
-ghost use Rattle.ga_picture.specs.kept.{BeginsSvg};
+ghost use Rattle.ga_picture.specs.inner.{BeginsSvg};
 
 use crate::marks::push_event;
 use crate::placing::{Drawing, Shape};

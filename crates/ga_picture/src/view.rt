@@ -9,7 +9,7 @@ ghost use Rattle.ga_race_detector.specs.Races.{races_asked};
 ghost use Rattle.ga_race_detector.specs.Readings.{IsTold};
 ghost use Rattle.ga_picture.specs.Picture.{IsPicture, IsPictureText, AreRaceMarks, is_ready, all_stand, stands_for, place_for};
 ghost use Rattle.ga_picture.specs.Items.{items_of};
-ghost use Rattle.ga_picture.specs.kept.{AreItemsOf, AreKnownBetween, AreListed, ArePlainAs, known_in};
+ghost use Rattle.ga_picture.specs.inner.{AreItemsOf, AreKnownBetween, AreListed, ArePlainAs, known_in};
 
 use crate::by_itself::{ByItself, tally_of};
 use crate::item::{Facts, PictureItem, items, plain_events};

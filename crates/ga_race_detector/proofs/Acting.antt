@@ -6,7 +6,7 @@ use Rattle.ga_event.specs.declared.event.Cause.{Cause}
 use Rattle.ga_causal.specs.Dependence.{event_at, no_cause}
 use Rattle.ga_lab.specs.Machine.{State, chip_of, told_by, causes_of, earlier}
 use Rattle.ga_race_detector.specs.declared.moments.Moment.{Moment}
-use Rattle.ga_race_detector.specs.kept.Glances.{IsMoment, AreMomentsFrom, AreMoments, no_moment, StoodSo, AllStood, IsAt, IsActAt}
+use Rattle.ga_race_detector.specs.inner.Glances.{IsMoment, AreMomentsFrom, AreMoments, no_moment, StoodSo, AllStood, IsAt, IsActAt}
 use Rattle.std.specs.Prelude.{map, unwrap_or, slice_index}
 use Rattle.std.proofs.Math.Seq.{take-append_seam, take-append-add}
 use Rattle.std.proofs.lemmas.List.Sums.{sum_by-append}
@@ -27,7 +27,7 @@ use Rattle.ga_races.specs.declared.act.Sides.{Sides}
 use Rattle.ga_races.specs.Orders.{CanBe}
 use Rattle.ga_races.specs.HappensBefore.{Action, no_action, action_of, actions, action_at, causes_in}
 use Rattle.ga_races.specs.Acts.{action_in, actions_in}
-use Rattle.ga_races.specs.kept.{changed_sides, HasChangedSides, AreAlike}
+use Rattle.ga_races.specs.inner.{changed_sides, HasChangedSides, AreAlike}
 use Rattle.ga_races.proofs.Frees.{first_of, replay_more, stays, touches_own, touches_writer, touches_reader}
 use Rattle.ga_races.proofs.Exact.{replay_into}
 use Rattle.ga_races.proofs.Orders.{is_some_of}

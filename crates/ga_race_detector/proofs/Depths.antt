@@ -14,7 +14,7 @@ use Rattle.ga_causal.proofs.Runs.{kept}
 use Rattle.ga_causal.proofs.Accounts.{place-first, place-touched, place-other}
 use Rattle.ga_causal.proofs.Places.{touching-cons, touching_no}
 use Rattle.ga_races.proofs.Blind.{no_touch}
-use Rattle.ga_race_detector.specs.kept.Writers.{greatest, greater_with, depth, AreLeft, IsFilled, IsTaken}
+use Rattle.ga_race_detector.specs.inner.Writers.{greatest, greater_with, depth, AreLeft, IsFilled, IsTaken}
 use Rattle.ga_race_detector.specs.declared.left.LeftOf.{LeftOf}
 
 -- ---- the greatest of some nodes

@@ -27,7 +27,7 @@ use Rattle.ga_races.proofs.Before.{actions_length}
 use Rattle.ga_lab.specs.Machine.{State, chip_of, causes_of, earlier, rewound}
 use Rattle.ga_race_detector.specs.Races.{looks_next}
 use Rattle.ga_race_detector.specs.Readings.{IsOtherwise}
-use Rattle.ga_race_detector.specs.kept.Glances.{IsMoment, AreMoments, first_part, last_part, no_moment, part_beside, IsGlance, IsGlanced, IsOtherWord, HasStep}
+use Rattle.ga_race_detector.specs.inner.Glances.{IsMoment, AreMoments, first_part, last_part, no_moment, part_beside, IsGlance, IsGlanced, IsOtherWord, HasStep}
 use Rattle.ga_race_detector.specs.declared.moments.Moment.{Moment}
 use Rattle.ga_race_detector.specs.declared.glances.Glance.{Glance}
 use Rattle.ga_race_detector.proofs.Acting.{Made, made_at, cause_at, cause_there, causes_are, causes_long}

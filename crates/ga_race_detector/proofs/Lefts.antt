@@ -15,8 +15,8 @@ use Rattle.ga_event.specs.declared.event.Cause.{Cause}
 use Rattle.ga_causal.specs.Dependence.{cause_touches, rewound_list}
 use Rattle.ga_causal.specs.Steps.{touching}
 use Rattle.ga_lab.specs.declared.fault.LabFault.{LabFault}
-use Rattle.ga_race_detector.specs.kept.Writers.{AreLeft, IsFilled, depth, IsTaken}
-use Rattle.ga_race_detector.specs.kept.Glances.{IsAround, AreAround, AreFirst, AreTaken, AreFew, around_over, lists_over, sweep_over, taken_of, HangTogether, IsAroundOf, AreKnown}
+use Rattle.ga_race_detector.specs.inner.Writers.{AreLeft, IsFilled, depth, IsTaken}
+use Rattle.ga_race_detector.specs.inner.Glances.{IsAround, AreAround, AreFirst, AreTaken, AreFew, around_over, lists_over, sweep_over, taken_of, HangTogether, IsAroundOf, AreKnown}
 use Rattle.ga_race_detector.specs.declared.around.Around.{Around}
 use Rattle.ga_race_detector.specs.declared.around.LeftAround.{LeftAround}
 use Rattle.ga_race_detector.specs.declared.around.Sweep.{Sweep}

@@ -25,7 +25,7 @@ use Rattle.ga_races.specs.declared.act.EventAccess.{EventAccess}
 use Rattle.ga_races.specs.declared.near.Near.{Near}
 use Rattle.ga_races.specs.HappensBefore.{action_at, actions, AreNear, are_linked}
 use Rattle.ga_races.specs.Acts.{action_in, actions_in, is_own_of, IsNearLook}
-use Rattle.ga_races.specs.kept.{AreAlike}
+use Rattle.ga_races.specs.inner.{AreAlike}
 use Rattle.ga_races.proofs.Rivals.{alike-sym, near_alike, open_of, number_of, at_node, at_two}
 use Rattle.ga_lab.specs.Machine.{State, chip_of, causes_of, rest_answer, rewind_answer, earlier, rewound, stands}
 use Rattle.ga_lab.specs.declared.fault.LabFault.{LabFault}
@@ -34,7 +34,7 @@ use Rattle.ga_lab.proofs.Explaining.{stands_place}
 use Rattle.ga_lab.proofs.Reasoned.{replayed}
 use Rattle.ga_race_detector.specs.Races.{looks_next, has_look}
 use Rattle.ga_race_detector.specs.Readings.{back_of, IsOtherwise, IsNearReading, IsTold}
-use Rattle.ga_race_detector.specs.kept.Glances.{part_beside, IsAtNear, IsGlance, AreGlanced, IsShownBy, AreRead}
+use Rattle.ga_race_detector.specs.inner.Glances.{part_beside, IsAtNear, IsGlance, AreGlanced, IsShownBy, AreRead}
 use Rattle.ga_race_detector.specs.declared.readings.Reading.{Reading}
 use Rattle.ga_race_detector.specs.declared.glances.Glance.{Glance}
 use Rattle.ga_race_detector.proofs.Acting.{Made, made_at, causes_long, causes_are, cause_there}

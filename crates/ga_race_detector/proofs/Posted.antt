@@ -31,7 +31,7 @@ use Rattle.ga_races.proofs.Rivals.{Open, open_of, back, number_of, wait_at, at_n
 use Rattle.ga_lab.specs.Machine.{State, chip_of, causes_of, history_of, earlier, rewound}
 use Rattle.ga_lab.proofs.Called.{Runs}
 use Rattle.ga_race_detector.specs.Races.{offered_by, offered}
-use Rattle.ga_race_detector.specs.kept.Writers.{posted, word_between}
+use Rattle.ga_race_detector.specs.inner.Writers.{posted, word_between}
 use Rattle.ga_race_detector.proofs.Standing.{steps-cons, stands_somewhere}
 use Rattle.ga_race_detector.proofs.Silent.{steps_take}
 use Rattle.ga_race_detector.proofs.Behind.{IsOf, IsWordOf, TakenBack, taken_back}

@@ -1,3 +1,3 @@
 pub mod Races
 pub mod Readings
-pub mod kept
+pub mod inner

@@ -10,9 +10,9 @@ ghost use Rattle.ga_event.specs.Apply.{writes_to, shows, beside_in, seen_from, r
 ghost use Rattle.ga_event.specs.Told.{steps_of};
 ghost use Rattle.ga_races.specs.HappensBefore.{causes_in, actions};
 ghost use Rattle.ga_races.specs.Acts.{actions_in};
-ghost use Rattle.ga_races.specs.kept.{shown_as, is_changed, changed_sides, AreAlike};
+ghost use Rattle.ga_races.specs.inner.{shown_as, is_changed, changed_sides, AreAlike};
 ghost use Rattle.ga_lab.specs.Machine.{State, chip_of, causes_of, earlier};
-ghost use Rattle.ga_race_detector.specs.kept.Glances.{StoodSo, AllStood, IsAt, IsActAt, IsMoment, AreMoments};
+ghost use Rattle.ga_race_detector.specs.inner.Glances.{StoodSo, AllStood, IsAt, IsActAt, IsMoment, AreMoments};
 
 use crate::adding::add;
 use crate::moments::{Moment, first_part, last_part, no_moments};

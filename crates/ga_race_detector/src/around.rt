@@ -4,7 +4,7 @@ ghost use Rattle.std.specs.Prelude.{◌≡◌, ◌<◌, ◌≤◌, ◌-◌, ◌^
 ghost use Rattle.ga_grid.specs.Grid.{neighbour_of};
 ghost use Rattle.ga_event.specs.declared.event.Cause.{Cause};
 ghost use Rattle.ga_causal.specs.Steps.{touching};
-ghost use Rattle.ga_race_detector.specs.kept.Glances.{around_over, lists_over, IsAround, AreAround};
+ghost use Rattle.ga_race_detector.specs.inner.Glances.{around_over, lists_over, IsAround, AreAround};
 
 use crate::left::{Depths, LeftOf, with_step};
 use ga_event::Cause;
@@ -80,8 +80,8 @@ struct Sweep {
 impl Sweep {
     ghost use Rattle.std.specs.Prelude.{◌≡◌, OnOk, IfOk, IfErr};
     ghost use Rattle.ga_ports.specs.declared.side.Side.{Side};
-    ghost use Rattle.ga_race_detector.specs.kept.Writers.{IsTaken, IsFilled};
-    ghost use Rattle.ga_race_detector.specs.kept.Glances.{sweep_over, lists_over, AreFirst, AreTaken, AreFew};
+    ghost use Rattle.ga_race_detector.specs.inner.Writers.{IsTaken, IsFilled};
+    ghost use Rattle.ga_race_detector.specs.inner.Glances.{sweep_over, lists_over, AreFirst, AreTaken, AreFew};
 
     // Where there was no event.
     fn none(alloc: Global, node: NodeId) -> Self

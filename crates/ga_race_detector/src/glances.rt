@@ -8,7 +8,7 @@ ghost use Rattle.ga_causal.specs.Dependence.{event_at};
 ghost use Rattle.ga_lab.specs.Machine.{State, chip_of, causes_of};
 ghost use Rattle.ga_race_detector.specs.declared.readings.Reading.{Reading};
 ghost use Rattle.ga_race_detector.specs.Readings.{IsTold};
-ghost use Rattle.ga_race_detector.specs.kept.Glances.{IsMoment, AreMoments, IsAtNear, part_beside, taken_of, IsGlance, IsGlanced, IsShownBy, AreGlanced, HangTogether};
+ghost use Rattle.ga_race_detector.specs.inner.Glances.{IsMoment, AreMoments, IsAtNear, part_beside, taken_of, IsGlance, IsGlanced, IsShownBy, AreGlanced, HangTogether};
 
 use crate::adding::add;
 use crate::moments::{Moment, moment_at};

@@ -3,7 +3,7 @@
 ghost use Rattle.std.specs.Prelude.{◌≡◌, ◌<◌, ◌+◌, [], ◌^◌, ℕ, length, if◌then◌else◌, Some, IfOk, OnOk, IfErr};
 ghost use Rattle.ga_causal.specs.Dependence.{cause_touches};
 ghost use Rattle.ga_grid.specs.Grid.{neighbour_of};
-ghost use Rattle.ga_race_detector.specs.kept.Writers.{AreLeft, IsLeftBehind, IsFilled};
+ghost use Rattle.ga_race_detector.specs.inner.Writers.{AreLeft, IsLeftBehind, IsFilled};
 
 use crate::adding::add;
 use crate::writers::Writers;
@@ -35,7 +35,7 @@ impl Depths {
     ghost use Rattle.ga_grid.specs.Grid.{neighbour_of};
     ghost use Rattle.ga_event.specs.Touches.{neighbours, seen_by};
     ghost use Rattle.ga_causal.specs.Dependence.{cause_touches};
-    ghost use Rattle.ga_race_detector.specs.kept.Writers.{greatest, greater_with, depth};
+    ghost use Rattle.ga_race_detector.specs.inner.Writers.{greatest, greater_with, depth};
 
     /// Where nothing was made.
     pub(crate) fn none() -> Self
@@ -160,7 +160,7 @@ pub(crate) struct LeftOf {
 
 impl LeftOf {
     ghost use Rattle.std.specs.Prelude.{◌≡◌, ◌<◌, ◌+◌, [], ◌^◌, OnOk, IfOk, IfErr};
-    ghost use Rattle.ga_race_detector.specs.kept.Writers.{IsFilled, IsTaken};
+    ghost use Rattle.ga_race_detector.specs.inner.Writers.{IsFilled, IsTaken};
 
     /// Where there was no event.
     pub(crate) fn none(alloc: Global, node: NodeId) -> Self
@@ -269,7 +269,7 @@ impl LeftBeside {
     ghost use Rattle.ga_event.specs.declared.event.Cause.{Cause};
     ghost use Rattle.ga_causal.specs.Dependence.{rewound_list};
     ghost use Rattle.ga_causal.specs.Steps.{touching};
-    ghost use Rattle.ga_race_detector.specs.kept.Writers.{left_over, IsLeftBeside};
+    ghost use Rattle.ga_race_detector.specs.inner.Writers.{left_over, IsLeftBeside};
 
     /// Those of the neighbours that ever waited to write to the node, if there are two. Takes memory for these, and time by the events
     /// for each.

@@ -1,7 +1,7 @@
 //! What was before each of the kept events.
 
 ghost use Rattle.std.specs.Prelude.{◌≡◌, ◌<◌, length, slice_index_or, IfOk, IfErr};
-ghost use Rattle.ga_race_detector.specs.kept.Glances.{first_part, last_part, no_moment};
+ghost use Rattle.ga_race_detector.specs.inner.Glances.{first_part, last_part, no_moment};
 
 use crate::adding::add;
 use ga_event::Event;

@@ -10,7 +10,7 @@ ghost use Rattle.ga_event.specs.Apply.{replay, reads_from};
 ghost use Rattle.ga_causal.specs.Dependence.{rewound_list};
 ghost use Rattle.ga_causal.specs.Steps.{touching};
 ghost use Rattle.ga_race_detector.specs.Races.{offered, given};
-ghost use Rattle.ga_race_detector.specs.kept.Writers.{posted, word_between};
+ghost use Rattle.ga_race_detector.specs.inner.Writers.{posted, word_between};
 
 use ga_event::{is_reading, is_writing};
 use ga_grid::{NodeId, neighbour};

@@ -5,7 +5,7 @@ ghost use Rattle.ga_grid.specs.Chip.{records_of};
 ghost use Rattle.ga_lab.specs.Machine.{State, chip_of, causes_of, stands};
 ghost use Rattle.std.specs.List.{All};
 ghost use Rattle.ga_race_detector.specs.Readings.{IsTold, NoneMissed};
-ghost use Rattle.ga_race_detector.specs.kept.Writers.{IsBeside};
+ghost use Rattle.ga_race_detector.specs.inner.Writers.{IsBeside};
 ghost use Rattle.ga_race_detector.specs.Races.{race_from, races_over, races_around, races_told, races_of, races_below, races_asked, has_look, looks_next, has_next_look, has_looks, first_ready};
 
 use crate::adding::add;

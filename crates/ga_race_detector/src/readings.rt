@@ -12,7 +12,7 @@ ghost use Rattle.ga_lab.specs.Machine.{chip_of, causes_of, earlier, rewound};
 ghost use Rattle.ga_race_detector.specs.declared.glances.Glance.{Glance};
 ghost use Rattle.ga_race_detector.specs.Races.{has_look};
 ghost use Rattle.ga_race_detector.specs.Readings.{IsOtherwise, IsTold, NoneMissed};
-ghost use Rattle.ga_race_detector.specs.kept.Glances.{IsAtNear, IsAround, AreAround, taken_of, IsGlance, IsGlanced, IsAroundOf, HasStep, AreKnown, IsOtherWord, AreRead};
+ghost use Rattle.ga_race_detector.specs.inner.Glances.{IsAtNear, IsAround, AreAround, taken_of, IsGlance, IsGlanced, IsAroundOf, HasStep, AreKnown, IsOtherWord, AreRead};
 
 use crate::acts::{acts_of, shown_by};
 use crate::adding::add;

@@ -8,7 +8,7 @@ ghost use Rattle.ga_event.specs.Told.{steps_of};
 ghost use Rattle.ga_grid.specs.Grid.{neighbour_of};
 ghost use Rattle.ga_lab.specs.Machine.{chip_of, rewound, stands};
 ghost use Rattle.ga_race_detector.specs.Races.{offered};
-ghost use Rattle.ga_race_detector.specs.kept.Writers.{at_side, NeverOffers, AreSilent};
+ghost use Rattle.ga_race_detector.specs.inner.Writers.{at_side, NeverOffers, AreSilent};
 
 use ga_event::{is_reading, is_writing};
 use ga_grid::{NodeId, neighbour};

@@ -16,7 +16,7 @@ use Rattle.ga_races.specs.declared.act.Sides.{Sides}
 use Rattle.ga_races.specs.declared.near.Near.{Near}
 use Rattle.ga_races.specs.HappensBefore.{Action, action_at, is_shown, are_bound, directly, AreNear}
 use Rattle.ga_races.specs.Acts.{side_leads_to, shown_by, action_in, actions_in, is_own_of, is_look_of, IsNearLook}
-use Rattle.ga_races.specs.kept.{has_looked, IsMore, OfPair, OfLook, OfChange, OverSide, OverSides, AtPlace, BelowPlace, LooksAreMarked}
+use Rattle.ga_races.specs.inner.{has_looked, IsMore, OfPair, OfLook, OfChange, OverSide, OverSides, AtPlace, BelowPlace, LooksAreMarked}
 use Rattle.ga_races.proofs.Reaching.{or4_cases, and_both, bound_by_node, bound_by_look, bound_by_change}
 
 -- ---- parts

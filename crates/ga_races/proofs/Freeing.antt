@@ -13,7 +13,7 @@ use Rattle.ga_grid.specs.Chip.{record_at}
 use Rattle.ga_event.specs.Apply.{writes_to, reads_from}
 use Rattle.ga_causal.specs.Dependence.{is_marked}
 use Rattle.ga_races.specs.Acts.{AreStuck, awaits, IsSubset}
-use Rattle.ga_races.specs.kept.{frees, is_freed_on, is_freed, MarksHalted, IsSettled}
+use Rattle.ga_races.specs.inner.{frees, is_freed_on, is_freed, MarksHalted, IsSettled}
 use Rattle.ga_event.proofs.Nexts.{neighbour_of-within as neighbour_within}
 
 abbrev pub how_many : List Bool → ℕ

@@ -9,12 +9,12 @@ use Rattle.ga_event.specs.declared.event.Event.{Event}
 use Rattle.ga_event.specs.declared.event.Event.TheVariants.{Own, Pass}
 use Rattle.ga_event.specs.Touches.{nodes_of, touches}
 use Rattle.ga_event.specs.Apply.{is_number}
-use Rattle.ga_causal.specs.kept.{any_of}
+use Rattle.ga_causal.specs.inner.{any_of}
 use Rattle.ga_races.specs.declared.act.EventAccess.{EventAccess}
 use Rattle.ga_races.specs.declared.act.Sides.{Sides}
 use Rattle.ga_races.specs.HappensBefore.{Action, no_action, action_at, is_shown, are_bound, IsBound, HappensBefore, directly, through}
 use Rattle.ga_races.specs.Acts.{side_leads_to, shown_by, action_in, actions_in}
-use Rattle.ga_races.specs.kept.{shows_marked, has_touched, has_shown, has_looked, is_shown_to, is_met, IsOnward, AreMarked, AreReached}
+use Rattle.ga_races.specs.inner.{shows_marked, has_touched, has_shown, has_looked, is_shown_to, is_met, IsOnward, AreMarked, AreReached}
 use Rattle.ga_races.proofs.Frees.{any_at}
 use Rattle.ga_races.proofs.Frees as Frees
 use Rattle.ga_races.proofs.Moves.{before_within}

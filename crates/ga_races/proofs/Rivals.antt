@@ -6,7 +6,7 @@ use Rattle.ga_event.specs.declared.event.Event.TheVariants.{Own, Pass}
 use Rattle.ga_event.specs.declared.event.Cause.{Cause}
 use Rattle.ga_event.specs.Touches.{nodes_of, touches}
 use Rattle.ga_races.specs.HappensBefore.{Action, action_at, is_shown, are_bound, IsBound, HappensBefore, directly, through, AreNear}
-use Rattle.ga_races.specs.kept.{AreAlike}
+use Rattle.ga_races.specs.inner.{AreAlike}
 use Rattle.std.proofs.lemmas.Bool.{or_cases, both_ways, and_parts, eqb-true}
 use Rattle.std.proofs.lemmas.Option.{same_Some}
 use Rattle.ga_ports.specs.declared.side.Side.{Side}

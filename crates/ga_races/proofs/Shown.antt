@@ -20,7 +20,7 @@ use Rattle.ga_races.specs.declared.act.Sides.{Sides}
 use Rattle.ga_races.specs.Orders.{CanBe}
 use Rattle.ga_races.specs.HappensBefore.{action_of}
 use Rattle.ga_races.specs.Acts.{side_leads_to, shown_by}
-use Rattle.ga_races.specs.kept.{shown_as, is_changed, HasChangedSides}
+use Rattle.ga_races.specs.inner.{shown_as, is_changed, HasChangedSides}
 use Rattle.ga_races.proofs.Frees.{stays}
 use Rattle.ga_races.proofs.Reaching.{or4_cases, or4_from}
 use Rattle.ga_races.proofs.Rivals.{number_of as number_is}

@@ -3,4 +3,4 @@ pub mod Rounds
 pub mod HappensBefore
 pub mod Acts
 pub mod Kahn
-pub mod kept
+pub mod inner

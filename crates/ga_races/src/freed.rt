@@ -4,7 +4,7 @@ ghost use Rattle.std.specs.Prelude.{◌≡◌, ◌<◌, ℕ, Bool, true, false, 
 ghost use Rattle.ga_grid.specs.Chip.{records_of};
 ghost use Rattle.ga_causal.specs.Dependence.{is_marked};
 ghost use Rattle.ga_races.specs.Acts.{AreStuck, awaits, IsSubset};
-ghost use Rattle.ga_races.specs.kept.{is_freed_on, is_freed, MarksHalted, IsSettled};
+ghost use Rattle.ga_races.specs.inner.{is_freed_on, is_freed, MarksHalted, IsSettled};
 
 use ga_event::{is_reading, is_writing};
 use ga_grid::{Chip, NodeId, neighbour};

@@ -8,7 +8,7 @@ ghost use Rattle.ga_event.specs.Apply.{is_number};
 ghost use Rattle.ga_races.specs.declared.near.Near.{Near};
 ghost use Rattle.ga_races.specs.HappensBefore.{action_at, AreNear};
 ghost use Rattle.ga_races.specs.Acts.{side_leads_to, action_in, actions_in, is_own_of, is_look_of, IsNearLook};
-ghost use Rattle.ga_races.specs.kept.{IsMore, OfPair, OfLook, OfChange, OverSide, OverSides, AtPlace, LooksAreMarked};
+ghost use Rattle.ga_races.specs.inner.{IsMore, OfPair, OfLook, OfChange, OverSide, OverSides, AtPlace, LooksAreMarked};
 
 use crate::act::{EventAccess, Sides};
 use ga_causal::Nodes;

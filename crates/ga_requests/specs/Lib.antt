@@ -6,4 +6,4 @@ pub mod Moving
 pub mod Configuring
 pub mod Slices
 pub mod Requests
-pub mod kept
+pub mod inner

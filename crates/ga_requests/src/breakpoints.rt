@@ -6,7 +6,7 @@ ghost use Rattle.serde_json.specs.View.{view};
 ghost use Rattle.serde_json.specs.declared.value.Value.{Value as AValue};
 ghost use Rattle.ga_requests.specs.Placing.{Places};
 ghost use Rattle.ga_requests.specs.Breakpoints.{left_by, breakpoints_body, elsewhere, is_own_file, is_text, is_filter, IsSetTo, SetsFiltersIf, SetsFilters, SetsLines, SetsPoints};
-ghost use Rattle.ga_requests.specs.kept.{placement_of};
+ghost use Rattle.ga_requests.specs.inner.{placement_of};
 ghost use Rattle.ga_responses.specs.Arguments.{member_values};
 ghost use Rattle.ga_responses.specs.Sending.{Sends, Message, answered};
 

@@ -4,7 +4,7 @@ ghost use Rattle.std.specs.Prelude.{◌≡◌, ◌+◌, ◌%◌, ◌^◌, ◌++�
 ghost use Rattle.serde_json.specs.View.{view};
 ghost use Rattle.ga_requests.specs.declared.finding.FoundPlace.{FoundPlace as APlace};
 ghost use Rattle.ga_requests.specs.Placing.{Placement, IsPlaceOf, unverified_object, verified_object, lined_object, verified_on, told_placed, set_by, placed_next, PlacesOne, Places};
-ghost use Rattle.ga_requests.specs.kept.{placement_of};
+ghost use Rattle.ga_requests.specs.inner.{placement_of};
 
 use crate::configuration::{Family, SetBy};
 use crate::finding::{FoundPlace, Unplaced, asked_at, found, unplaced_reason};

@@ -2,7 +2,7 @@
 use Rattle.std.proofs.Common.{◌≡◌, ◌<◌, ℕ, refl, arith}
 use Rattle.ga_responses.specs.declared.request_name.RequestName.{RequestName}
 use Rattle.ga_responses.specs.declared.request_name.RequestName.TheVariants as the
-use Rattle.ga_responses.specs.kept.{command_at}
+use Rattle.ga_responses.specs.inner.{command_at}
 
 pub at_place : (command : RequestName) → (k : ℕ) × (k < 25) × (command_at k ≡ command)
 at_place the.Initialize = (0, omega arith, refl)

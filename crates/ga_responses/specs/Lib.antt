@@ -8,4 +8,4 @@ pub mod Readings
 pub mod Evaluating
 pub mod Disassembling
 pub mod Watching
-pub mod kept
+pub mod inner

@@ -3,7 +3,7 @@
 ghost use Rattle.std.specs.Prelude.{◌≡◌, ◌≢◌, ◌<◌, IfSome, IfNone};
 ghost use Rattle.ga_responses.specs.declared.request_name.RequestName.{RequestName as ACommand};
 ghost use Rattle.ga_responses.specs.Commands.{command_name};
-ghost use Rattle.ga_responses.specs.kept.{command_at};
+ghost use Rattle.ga_responses.specs.inner.{command_at};
 
 /// A request of the client.
 #[derive(Clone, Copy, PartialEq, Eq, Debug)]

@@ -13,7 +13,7 @@ use Rattle.ga_journal.specs.Histories.{Past, past, deed, history, no_histories, 
 use Rattle.ga_journal.specs.Logs.{Stamped, built, IsLog}
 use Rattle.ga_journal.specs.Marks.{is_counted}
 use Rattle.ga_journal.proofs.Logs.{history-no_histories, length-built}
-use Rattle.ga_rollback.specs.kept.{staying, counted_in, counted_of, one_counted}
+use Rattle.ga_rollback.specs.inner.{staying, counted_in, counted_of, one_counted}
 
 -- ---- sums over all nodes
 

@@ -8,15 +8,15 @@ use Rattle.ga_journal.specs.Histories.{one_more, Past, Book, history}
 use Rattle.ga_journal.specs.Events.{kept_of, causes_in_book, events_of}
 use Rattle.ga_event.specs.Told.{steps_of, events_in}
 use Rattle.ga_journal.specs.Logs.{Stamped, built, IsLog, IsWhole}
-use Rattle.ga_journal.specs.kept.Histories.{older_causes}
+use Rattle.ga_journal.specs.inner.Histories.{older_causes}
 use Rattle.ga_journal.specs.Marks.{AreMarks, mark_of, going_of, waits, counted_at, raised, IsAtRest}
-use Rattle.ga_journal.specs.kept.Marks.{to_go}
+use Rattle.ga_journal.specs.inner.Marks.{to_go}
 use Rattle.ga_journal.proofs.Logs.{steps_log, length-built}
 use Rattle.ga_causal.specs.Dependence.{rewound_list}
 use Rattle.ga_causal.proofs.Places.{touching_in}
 use Rattle.ga_rollback.specs.Rolled.{left}
 use Rattle.ga_rollback.specs.Rewound.{WouldGo}
-use Rattle.ga_rollback.specs.kept.{staying, IsMarked, IsUnseen, counted_in, counted_of, counted_staying, one_counted, IsRaising, AreCounted}
+use Rattle.ga_rollback.specs.inner.{staying, IsMarked, IsUnseen, counted_in, counted_of, counted_staying, one_counted, IsRaising, AreCounted}
 use Rattle.ga_rollback.proofs.Counted.{sum_none, counted_next, counted_fewer, counted_log}
 use Rattle.ga_rollback.proofs.Lowering.{staying_lost, length-staying, staying_at, staying_set, staying_none, node_within}
 use Rattle.ga_rollback.proofs.Link.{gone, left_cut, left_log}

@@ -6,7 +6,7 @@ use Rattle.ga_ports.specs.declared.side.Side.{Side}
 use Rattle.ga_ports.specs.declared.side.Side.TheVariants.{Right, Down, Left, Up}
 use Rattle.ga_grid.specs.Grid.{neighbour_of}
 use Rattle.ga_rollback.specs.declared.links.TheConstants.{BESIDE}
-use Rattle.ga_rollback.specs.kept.{is_number, is_link, place_of}
+use Rattle.ga_rollback.specs.inner.{is_number, is_link, place_of}
 
 both : (a b : Bool) → (a && b) ≡ true → (a ≡ true) × (b ≡ true)
 both true b e = (refl, e)

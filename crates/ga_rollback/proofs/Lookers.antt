@@ -9,9 +9,9 @@ use Rattle.ga_grid.proofs.NodeIds.{neighbour_of-other}
 use Rattle.ga_journal.specs.Histories.{one_more, one_in_vain, Past, Book}
 use Rattle.ga_journal.specs.Events.{has_looked_in}
 use Rattle.ga_journal.specs.Marks.{entry_at, mark_of, going_of, entries, ticked, ticked_in_vain, lowered, AreMarks}
-use Rattle.ga_journal.specs.kept.Marks.{to_go}
+use Rattle.ga_journal.specs.inner.Marks.{to_go}
 use Rattle.ga_journal.specs.Looks.{IsLookToGo, SawNoneToGo, IsSought, Never, Once}
-use Rattle.ga_rollback.specs.kept.{stamp_at, IsDue, Saw, AreLowered, Same, Further, Vain, AreLoweredBy, IsMarking, IsUnseen, IsDone}
+use Rattle.ga_rollback.specs.inner.{stamp_at, IsDue, Saw, AreLowered, Same, Further, Vain, AreLoweredBy, IsMarking, IsUnseen, IsDone}
 use Rattle.ga_rollback.proofs.Lowering.{lowered_sound, lowered_other, lowered_go, lowered_line, line_grows, one_lowered, sound_with, marked_with, saw_lowered}
 use Rattle.ga_rollback.proofs.Marking.{go_under, marking_fewer, marking_vain, marking_lowered, done_lowered}
 

@@ -10,10 +10,10 @@ use Rattle.ga_journal.specs.declared.entry.Act.{Act}
 use Rattle.ga_journal.specs.declared.entry.Act.TheVariants.{Own, Sent, Took}
 use Rattle.ga_journal.specs.Histories.{Work, Past, Book, history}
 use Rattle.ga_journal.specs.Marks.{partner_of, entry_at, mark_of, going_of, waits, lowered, AreMarks}
-use Rattle.ga_journal.specs.kept.Marks.{to_go, in_line}
+use Rattle.ga_journal.specs.inner.Marks.{to_go, in_line}
 use Rattle.ga_journal.specs.Events.{has_looked_in}
 use Rattle.ga_journal.specs.Looks.{SawNoneToGo, HasLook}
-use Rattle.ga_rollback.specs.kept.{stamp_at, IsDue, Start, Later, Other, Saw, IsMarked, staying, IsUnseen}
+use Rattle.ga_rollback.specs.inner.{stamp_at, IsDue, Start, Later, Other, Saw, IsMarked, staying, IsUnseen}
 use Rattle.ga_rollback.specs.Rewound.{looks_in, looks_of}
 
 -- ---- how many looks there are, and how many of them stay

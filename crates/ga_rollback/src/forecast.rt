@@ -7,9 +7,9 @@ ghost use Rattle.ga_journal.specs.Histories.{history};
 ghost use Rattle.ga_journal.specs.Events.{events_of};
 ghost use Rattle.ga_journal.specs.Logs.{IsWhole};
 ghost use Rattle.ga_journal.specs.Marks.{AreMarks, IsAtRest, mark_of, going_of, counted_at, raised, entries};
-ghost use Rattle.ga_journal.specs.kept.Marks.{to_go};
+ghost use Rattle.ga_journal.specs.inner.Marks.{to_go};
 ghost use Rattle.ga_rollback.specs.Rewound.{WouldGo};
-ghost use Rattle.ga_rollback.specs.kept.{counted_of, one_counted, IsRaising};
+ghost use Rattle.ga_rollback.specs.inner.{counted_of, one_counted, IsRaising};
 
 use crate::rollback::{RollbackFault, mark};
 use crate::visited::Visited;

@@ -2,7 +2,7 @@
 
 ghost use Rattle.std.specs.Prelude.{◌≡◌, ◌<◌, true, Some, IfSome};
 ghost use Rattle.ga_grid.specs.Grid.{neighbour_of, number_where_any};
-ghost use Rattle.ga_rollback.specs.kept.{is_link, place_of};
+ghost use Rattle.ga_rollback.specs.inner.{is_link, place_of};
 
 use ga_grid::NodeId;
 use ga_ports::Side;

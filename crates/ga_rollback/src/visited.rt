@@ -15,7 +15,7 @@ pub struct Visited {
 
 impl Model for Visited {
     ghost use Rattle.std.specs.Prelude.{ℕ, List};
-    ghost use Rattle.ga_rollback.specs.kept.{IsWindow};
+    ghost use Rattle.ga_rollback.specs.inner.{IsWindow};
 
     ghost Value = { List ℕ };
 

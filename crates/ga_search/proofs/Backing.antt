@@ -12,7 +12,7 @@ use Rattle.ga_search.specs.declared.condition.Condition.{Condition}
 use Rattle.ga_search.specs.Conditions.{holds, first_held, is_step_of}
 use Rattle.ga_search.specs.Running.{held_told}
 use Rattle.ga_search.specs.Backward.{held_behind, is_among, is_asked_held, newest_before, IsNewestHeld, undone_often, newest_held, number_of_step, gone_from}
-use Rattle.ga_search.specs.kept.{held_one, is_held, held_upto, all_upto, newest_place}
+use Rattle.ga_search.specs.inner.{held_one, is_held, held_upto, all_upto, newest_place}
 use Rattle.ga_search.proofs.Newest.{undone_earlier, whole_earlier, of_made, ToldAt, told_at}
 use Rattle.std.specs.Result.{result_ok}
 use Rattle.ga_event.specs.declared.event.Event.{Event}

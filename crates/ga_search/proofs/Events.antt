@@ -13,7 +13,7 @@ use Rattle.ga_search.specs.declared.schedule.Schedule.{Schedule}
 use Rattle.ga_search.specs.Schedules.{passed_on}
 use Rattle.ga_search.specs.Conditions.{first_held}
 use Rattle.ga_search.specs.Running.{Running, running, chosen, told_by_step, told, moved_by, run_moved, after_events, AreMade, held_told, held_next, NeverHolds, IsHalted, HasEnded}
-use Rattle.ga_search.specs.kept.{IsOver, events_at}
+use Rattle.ga_search.specs.inner.{IsOver, events_at}
 use Rattle.ga_search.specs.declared.watched.WatchedEnd.{WatchedEnd}
 use Rattle.ga_search.specs.declared.watched.WatchedEnd.TheVariants as watched_end
 use Rattle.ga_races.specs.Orders.{can_go}

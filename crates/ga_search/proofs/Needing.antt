@@ -16,7 +16,7 @@ use Rattle.ga_grid.specs.declared.node_id.NodeId.{NodeId}
 use Rattle.ga_grid.specs.Chip.{record_at}
 use Rattle.ga_search.specs.declared.condition.Condition.TheVariants.{Never, Passes, PassesNumber, Steps, Stops, StopsAt, WaitsAt, Holds, ComesTo, Reaches, Writes}
 use Rattle.ga_search.specs.declared.watching.Needs.{Needs}
-use Rattle.ga_search.specs.kept.{AreCounted, is_one_of, may_fetch, lacks, Covers, IsNeeded}
+use Rattle.ga_search.specs.inner.{AreCounted, is_one_of, may_fetch, lacks, Covers, IsNeeded}
 
 -- ---- which of some conditions holds first, and which are asked for
 

@@ -17,7 +17,7 @@ use Rattle.ga_event.specs.declared.made.Made.TheVariants as made
 use Rattle.ga_lab.specs.Machine.{State, step_answer, stepped, told_of_kept, earlier, told_by, history_of, Standing, standing, chip_of, undone, word_at}
 use Rattle.ga_lab.proofs.Stepping.{told_later}
 use Rattle.ga_search.specs.Conditions.{is_step_of, is_own_at, is_word_asked, fetches_at, stores_in, node_before, holds}
-use Rattle.ga_search.specs.kept.{newest_told, counted, counted_by, asked_node}
+use Rattle.ga_search.specs.inner.{newest_told, counted, counted_by, asked_node}
 use Rattle.ga_search.proofs.WordCounts.{kept_told, behind, history_behind, other_writer, counted_on}
 use Rattle.ga_search.proofs.Stepping.{StepIs, step_is, stepped_is}
 use Rattle.ga_node.specs.Record.{NodeRecord, NodeState, record_of}

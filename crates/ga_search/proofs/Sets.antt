@@ -6,7 +6,7 @@ use Rattle.std.proofs.lemmas.Bool.{cases_lt, cases_eq, cases_Bool}
 use Rattle.std.proofs.lemmas.Nat.{and_le_l}
 use Rattle.std.proofs.lemmas.Nat.Bits.{bit_at_and, bit_at-lt, bit_at-zero, bit_at_mask_inside, bit_at_mask_below, ones_shl, bit_at-trailing_zeros}
 use Rattle.ga_search.specs.declared.numbers.Numbers.{Numbers}
-use Rattle.ga_search.specs.kept.{has}
+use Rattle.ga_search.specs.inner.{has}
 
 -- ---- the lowest 1 of a word from a place on
 

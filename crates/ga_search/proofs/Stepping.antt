@@ -18,7 +18,7 @@ use Rattle.ga_event.specs.Next.{next}
 use Rattle.ga_event.specs.declared.made.Made.{Made}
 use Rattle.ga_event.specs.declared.made.Made.TheVariants as made
 use Rattle.ga_search.specs.declared.numbers.Numbers.{Numbers}
-use Rattle.ga_search.specs.kept.{has, IsRight, HoldsReady, StaysRight, IsRightAround, IsRefreshed}
+use Rattle.ga_search.specs.inner.{has, IsRight, HoldsReady, StaysRight, IsRightAround, IsRefreshed}
 use Rattle.ga_races.specs.Orders.{can_go, first_in}
 use Rattle.ga_races.proofs.Nexts.{near_or_same, runs_on}
 use Rattle.ga_journal.proofs.Parts.{two_touched as pass_touched}

@@ -20,7 +20,7 @@ use Rattle.ga_event.proofs.Nexts.{next_can}
 use Rattle.ga_causal.proofs.Consistent.{made_of}
 use Rattle.ga_rollback.proofs.Rewinding.{run_snoc}
 use Rattle.ga_lab.proofs.Called.{Runs, runs_of, chip_is, told_is}
-use Rattle.ga_search.specs.kept.{counted_link, count_over, counted, more_over, counted_by, AreCounted, WereCounted}
+use Rattle.ga_search.specs.inner.{counted_link, count_over, counted, more_over, counted_by, AreCounted, WereCounted}
 use Rattle.ga_search.specs.declared.condition.Condition.{Condition}
 use Rattle.ga_search.proofs.Stepping.{StepIs, step_is, stepped_is}
 use Rattle.ga_lab.proofs.Stepping.{told_after as told_last}

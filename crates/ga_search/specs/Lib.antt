@@ -5,5 +5,5 @@ pub mod Watched
 pub mod Backward
 pub mod Effects
 pub mod Words
-pub mod kept
+pub mod inner
 pub mod Idle

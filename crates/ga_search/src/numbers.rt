@@ -41,7 +41,7 @@ fn with_bit(word: u64, place: u32, is_one: bool) -> u64
 
 impl Numbers {
     ghost use Rattle.std.specs.Prelude.{◌≡◌, ◌≢◌, ◌<◌, ◌≤◌, ℕ, true, false, IfSome, IfNone};
-    ghost use Rattle.ga_search.specs.kept.{has};
+    ghost use Rattle.ga_search.specs.inner.{has};
 
     /// The set of nothing.
     #[tactic(auto, using(crate::proofs::Sets::has_no_bit))]
@@ -63,7 +63,7 @@ impl Numbers {
     }
 
     /// Whether a number is in the set.
-    #[tactic(auto, unfolding(crate::specs::kept::has))]
+    #[tactic(auto, unfolding(crate::specs::inner::has))]
     pub fn has(&self, number: u8) -> bool
         requires { number < 192 }
         ensures { result ≡ has self.now number }

@@ -3,7 +3,7 @@
 ghost use Rattle.std.specs.Prelude.{◌≡◌, ◌<◌, ◌≤◌, ℕ, true, false, Some, IfSome, IfNone};
 ghost use Rattle.ga_grid.specs.Chip.{records_of};
 ghost use Rattle.ga_grid.specs.Grid.{neighbour_of};
-ghost use Rattle.ga_search.specs.kept.{has, IsRight, HoldsReady, StaysRight, IsRightAround, IsRefreshed, IsAlone};
+ghost use Rattle.ga_search.specs.inner.{has, IsRight, HoldsReady, StaysRight, IsRightAround, IsRefreshed, IsAlone};
 ghost use Rattle.ga_races.specs.Orders.{first_in};
 
 use crate::numbers::Numbers;

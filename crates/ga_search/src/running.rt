@@ -4,7 +4,7 @@ ghost use Rattle.std.specs.Prelude.{◌≡◌, ◌≤◌, ◌+◌, ℕ, length, 
 ghost use Rattle.ga_event.specs.Apply.{replay};
 ghost use Rattle.ga_lab.specs.Machine.{chip_of, step_answer, stepped};
 ghost use Rattle.ga_search.specs.Words.{one_over, word_count};
-ghost use Rattle.ga_search.specs.kept.{HoldsReady, IsAlone, AreCounted, newest_told, IsNeeded, IsOver, events_at};
+ghost use Rattle.ga_search.specs.inner.{HoldsReady, IsAlone, AreCounted, newest_told, IsNeeded, IsOver, events_at};
 ghost use Rattle.ga_search.specs.Schedules.{passed_on};
 ghost use Rattle.ga_search.specs.Running.{running, told, run_moved, held_next, after_events, AreMade, IsRefusedFor, HasEnded};
 

@@ -5,7 +5,7 @@ ghost use Rattle.ga_event.specs.Apply.{replay};
 ghost use Rattle.ga_lab.specs.Machine.{chip_of};
 ghost use Rattle.ga_search.specs.declared.condition.Condition.TheVariants.{Writes};
 ghost use Rattle.ga_search.specs.Conditions.{holds};
-ghost use Rattle.ga_search.specs.kept.{HoldsReady, IsAlone};
+ghost use Rattle.ga_search.specs.inner.{HoldsReady, IsAlone};
 ghost use Rattle.ga_search.specs.Running.{running};
 ghost use Rattle.ga_search.specs.Watched.{IsNewestMade, chosen_first, told_first, first_moved, after_first, AreMadeFirst, watching, watch_after, IsHaltedFirst, IsNewestSeen, HasEndedWatched};
 

@@ -3,7 +3,7 @@
 
 ghost use Rattle.std.specs.Prelude.{◌≡◌, ◌≤◌, length, Some};
 ghost use Rattle.ga_search.specs.Conditions.{first_held, conditions_asked};
-ghost use Rattle.ga_search.specs.kept.{AreCounted, WereCounted, newest_told, IsNeeded};
+ghost use Rattle.ga_search.specs.inner.{AreCounted, WereCounted, newest_told, IsNeeded};
 
 use crate::condition::Condition;
 use ga_grid::NodeId;
@@ -36,7 +36,7 @@ impl Needs {
     ghost use Rattle.std.specs.Prelude.{◌≡◌, ◌≤◌, ◌&&◌, not, true};
     ghost use Rattle.ga_grid.specs.Chip.{record_at};
     ghost use Rattle.ga_lab.specs.Machine.{chip_of};
-    ghost use Rattle.ga_search.specs.kept.{is_one_of, may_fetch, lacks, Covers};
+    ghost use Rattle.ga_search.specs.inner.{is_one_of, may_fetch, lacks, Covers};
 
     // The same, and what this condition needs.
     fn with(self, condition: &Condition) -> Self

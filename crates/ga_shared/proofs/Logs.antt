@@ -21,7 +21,7 @@ use Rattle.ga_shared.specs.declared.call.Receipt.{Receipt}
 use Rattle.ga_shared.specs.declared.closing.Closed.{Closed}
 use Rattle.ga_node.specs.Record.{NodeRecord}
 use Rattle.ga_shared.specs.Close.{IsSoundLog, IsOpenedOn}
-use Rattle.ga_shared.specs.kept.{IsDone}
+use Rattle.ga_shared.specs.inner.{IsDone}
 
 -- ---- What a call leaves of the machine: its load, its limit, and how many events were made
 

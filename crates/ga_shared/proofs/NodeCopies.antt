@@ -7,7 +7,7 @@ use Rattle.ga_stacks.specs.Ring.{Ring, listed}
 use Rattle.ga_node.specs.Record.{NodeState, record_of}
 use Rattle.ga_grid.specs.Chip.{nowhere, node_at, records_of, record_at}
 use Rattle.ga_grid.proofs.Chips.{record_at-records_of}
-use Rattle.ga_shared.specs.kept.{with_registers}
+use Rattle.ga_shared.specs.inner.{with_registers}
 
 -- a carry by its number
 pub carry_back : (b : Bool) → (from_bool b == 1) ≡ b

@@ -1,3 +1,3 @@
 pub mod Log
 pub mod Close
-pub mod kept
+pub mod inner

@@ -2,7 +2,7 @@
 
 ghost use Rattle.std.specs.Prelude.{◌≡◌, ◌<◌, ◌≤◌, ◌^◌, All, map, IfOk, OnOk, vec_len};
 ghost use Rattle.ga_grid.specs.Chip.{records_of};
-ghost use Rattle.ga_shared.specs.kept.{IsDone, IsReady, AreReady, AreBack};
+ghost use Rattle.ga_shared.specs.inner.{IsDone, IsReady, AreReady, AreBack};
 ghost use Rattle.ga_shared.specs.Log.{Raced};
 
 use crate::call::{Call, SharedFault};
@@ -46,7 +46,7 @@ struct WorksThrough {
 
 impl<L: Ledger> Promise<Worked<L>> for WorksThrough {
     ghost use Rattle.std.specs.Prelude.{◌≡◌, OnOk, map};
-    ghost use Rattle.ga_shared.specs.kept.{IsDone};
+    ghost use Rattle.ga_shared.specs.inner.{IsDone};
 
     ghost kept_by = { λ p r. (r.0.number ≡ p.worker) × OnOk r.1 (IsDone (map (λ l. l.items) p.lists.value.items) r.0) };
 }

@@ -3,7 +3,7 @@ use Rattle.std.proofs.Common.{◌≡◌, ◌∙◌, ℕ, zero, suc, inl, inr, �
 use Rattle.std.proofs.lemmas.List.{get_or-map, take-map, drop-map, drop_all}
 use Rattle.ga_source.specs.declared.program.Program.{Program}
 use Rattle.ga_parser.specs.declared.scan.Token.{Token}
-use Rattle.ga_parser.specs.kept.Drafting.{texts_of}
+use Rattle.ga_parser.specs.inner.Drafting.{texts_of}
 use Rattle.std.specs.Prelude.{codes, map}
 use Rattle.std.proofs.lemmas.Bool.{cases_Bool}
 use Rattle.ga_grid.specs.Grid.{node_number}
@@ -12,7 +12,7 @@ use Rattle.ga_source.specs.Programs.{IsOf, AreOf, said_body, said_bodies, AsksFo
 use Rattle.ga_parser.specs.Saying.{said_in, all_said, Said, next_line}
 use Rattle.ga_parser.proofs.Hearing.{same_text}
 use Rattle.ga_parser.proofs.PlainAsked.{map_map}
-use Rattle.ga_source.specs.kept.{AreOfFirst, AreAskedFirst}
+use Rattle.ga_source.specs.inner.{AreOfFirst, AreAskedFirst}
 use Rattle.ga_parser.specs.declared.fault.Fault.{Fault}
 use Rattle.ga_source.specs.Mending.{place_of_token, first_gone, back, without_at, with_line, with_numbers, mended, without_token}
 

@@ -13,7 +13,7 @@ use Rattle.ga_source.specs.declared.packing.Packer.{Packer}
 use Rattle.ga_source.specs.declared.group.Spot.{Spot}
 use Rattle.ga_source.specs.Reading.{begin_at, behind, fits}
 use Rattle.ga_source.specs.Made.{address_behind, cell_at, cells_from, cell_of, AreDistinctCells, IsMemoryAddress}
-use Rattle.ga_source.specs.kept.{IsClosed, requests_of, IsPlainRequest, ArePlain, address_after, IsCellGroup, AreCellGroups, IsPackedPlain, AreWords}
+use Rattle.ga_source.specs.inner.{IsClosed, requests_of, IsPlainRequest, ArePlain, address_after, IsCellGroup, AreCellGroups, IsPackedPlain, AreWords}
 
 -- from the k-th on, no cell is given
 abbrev pub AreOpen : List (Option ℕ) → List (ℕ × ℕ) → ℕ → Type 0

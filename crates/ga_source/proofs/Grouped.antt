@@ -17,7 +17,7 @@ use Rattle.ga_source.specs.declared.packing.Packer.{Packer}
 use Rattle.ga_source.specs.declared.group.Spot.{Spot}
 use Rattle.ga_source.specs.Reading.{begin_at, after_request}
 use Rattle.ga_source.specs.Cells.{Placed, placed_at, placed_by, placed_from, Laid, up_to_next, laid_of, cells_among, groups_of, laid_by}
-use Rattle.ga_source.specs.kept.{after_all, Extends, IsInCell, IsWalked, IsClosed, IsFilling, places_in, group_places, HasLines, packer_places, IsGrouped, IsPutting, IsGathered}
+use Rattle.ga_source.specs.inner.{after_all, Extends, IsInCell, IsWalked, IsClosed, IsFilling, places_in, group_places, HasLines, packer_places, IsGrouped, IsPutting, IsGathered}
 use Rattle.ga_source.proofs.Marking.{label_extends}
 
 -- ---- places

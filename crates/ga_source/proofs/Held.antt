@@ -18,7 +18,7 @@ use Rattle.ga_parser.specs.declared.item.Operand.TheVariants.{Label}
 use Rattle.ga_source.specs.declared.group.Spot.{Spot}
 use Rattle.ga_source.specs.Reading.{begin_at, behind, resolved, are_both, word_in, has_op, leads, item_stands, is_filled, ends_cell}
 use Rattle.ga_source.specs.Cells.{is_at, takes, KeepsElsewhere}
-use Rattle.ga_source.specs.kept.{nothing, behind_all, Stand, taken, spot_in, IsFit, IsRead, takes_group, are_taken, KeepsRest, HasItem, HasRest, HoldsRest, Holds, Keeps, MayEnd, IsWordOf, IsWriting, IsLoadedGroup}
+use Rattle.ga_source.specs.inner.{nothing, behind_all, Stand, taken, spot_in, IsFit, IsRead, takes_group, are_taken, KeepsRest, HasItem, HasRest, HoldsRest, Holds, Keeps, MayEnd, IsWordOf, IsWriting, IsLoadedGroup}
 use Rattle.ga_source.proofs.Laying.{behind-same, behind-slot, Stand-push, taken-pop, empty_reads, step_spot, last_ends}
 
 -- what is left of a cell is `.`

@@ -9,7 +9,7 @@ use Rattle.ga_parser.specs.declared.item.Asked.{Asked}
 use Rattle.ga_source.specs.declared.group.Spot.{Spot}
 use Rattle.ga_source.specs.Reading.{begin_at, next_cell, behind, ends_cell, p_behind, moves_p, item_stands, is_filled, fits, spot_of, reaches, is_met, after_request, follows, resolved, are_both}
 use Rattle.ga_source.specs.Cells.{takes, asks_for, is_asked}
-use Rattle.ga_source.specs.kept.{behind_all, Stand, taken, IsReadAt, IsFit, after_all, AreMet, Extends, IsKnown, op_in, nothing, spot_in, Leads, HasItem, MayEnd, IsWordOf}
+use Rattle.ga_source.specs.inner.{behind_all, Stand, taken, IsReadAt, IsFit, after_all, AreMet, Extends, IsKnown, op_in, nothing, spot_in, Leads, HasItem, MayEnd, IsWordOf}
 use Rattle.std.proofs.lemmas.List.{take_more}
 use Rattle.ga_slots.specs.Codes.{code_of}
 use Rattle.ga_slots.specs.Slots.{opcode, target}

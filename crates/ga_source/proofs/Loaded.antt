@@ -11,7 +11,7 @@ use Rattle.ga_grid.proofs.Chips.{node_at-default_chip, length-default_chip, node
 use Rattle.ga_source.specs.declared.program.Program.{Program}
 use Rattle.ga_source.specs.Cells.{IsUnasked, IsEmptyElsewhere}
 use Rattle.ga_source.specs.Programs.{IsLoaded, IsUnnamed, IsAssembled, given_of, value_or, has_cells, at_load, KeepsState, HasProgram}
-use Rattle.ga_source.specs.kept.{HasBegun, AreLoaded}
+use Rattle.ga_source.specs.inner.{HasBegun, AreLoaded}
 
 -- each word of a memory at load is 0
 word_at_load : (k : ℕ) → slice_index (replicate 64 0) k ≡ 0

@@ -8,7 +8,7 @@ use Rattle.ga_slots.specs.Slots.{opcode, opcode_mask, field_size, target}
 use Rattle.ga_slots.specs.declared.op.Op.{Op}
 use Rattle.ga_slots.specs.declared.op.Op.TheVariants.{Return}
 use Rattle.ga_parser.specs.declared.item.Item.{Item}
-use Rattle.ga_source.specs.kept.{op_in, nothing, IsCell, KeepsRest, Holds, Keeps, requests_of, IsPlainRequest, ArePlain}
+use Rattle.ga_source.specs.inner.{op_in, nothing, IsCell, KeepsRest, Holds, Keeps, requests_of, IsPlainRequest, ArePlain}
 use Rattle.ga_source.specs.Reading.{reaches, word_of_target, word_in, begin_at, are_both, is_met, after_request, follows}
 use Rattle.std.proofs.lemmas.List.{get_or-set_same, get_or-set_other, length-set}
 use Rattle.ga_ports.specs.declared.address.Target.TheVariants.{Ram as RamOf, Rom as RomOf, Ram as TargetRam, Rom as TargetRom, Io, Ports, Bad}

@@ -18,7 +18,7 @@ use Rattle.ga_source.specs.declared.packing.Packer.{Packer}
 use Rattle.ga_source.specs.declared.group.Spot.{Spot}
 use Rattle.ga_source.specs.Reading.{begin_at, next_cell, behind, resolved, are_both, item_stands, is_filled, fits, is_met, after_request}
 use Rattle.ga_source.specs.Cells.{takes}
-use Rattle.ga_source.specs.kept.{behind_all, Stand, taken, IsFit, IsRead, IsFitGroup, are_taken, after_all, AreMet, Extends, IsInCell, IsWalked, IsPending, IsClosed, IsFilling, IsLaidOut}
+use Rattle.ga_source.specs.inner.{behind_all, Stand, taken, IsFit, IsRead, IsFitGroup, are_taken, after_all, AreMet, Extends, IsInCell, IsWalked, IsPending, IsClosed, IsFilling, IsLaidOut}
 use Rattle.ga_source.proofs.Laying.{empty_fits, is_asked-before, follows-met, None≢Some}
 use Rattle.ga_source.proofs.Walking.{named_more, met_more, walk_more, begun, none_taken, next_spot, filled_here, settled}
 

@@ -29,7 +29,7 @@ use Rattle.ga_source.specs.Cells.{is_asked, IsEmptyElsewhere}
 use Rattle.ga_source.specs.Reading.{begin_at, resolved}
 use Rattle.ga_parser.specs.Plain.{Plain, no_request, by_number, only_if, is_cell, may_be, with_two_words, plain_from, plain_of, value_in, asked_by, words_in, bodies_in, yxx_in, texts_in}
 use Rattle.ga_source.specs.Made.{with_cell, with_asked, address_behind, with_requests, number_or, plain_node, IsNode, HasPlain, IsChipOfSource, IsSoundSource}
-use Rattle.ga_source.specs.kept.{requests_of, ArePlain, IsNumber, AreNumbers, KeepsRest}
+use Rattle.ga_source.specs.inner.{requests_of, ArePlain, IsNumber, AreNumbers, KeepsRest}
 use Rattle.ga_source.proofs.Loaded.{of_each_at_load, assembled_empty}
 use Rattle.ga_parser.proofs.Hearing.{some_same, no_some, allowed, number_asks}
 use Rattle.ga_source.proofs.Making.{Stays, with_cell_ram, with_cell_rom, one_plain_more, requests_made}

@@ -11,8 +11,8 @@ use Rattle.ga_parser.specs.Saying.{is_word, is_word_kind, said_in, all_said}
 use Rattle.ga_grid.specs.Grid.{node_number}
 use Rattle.ga_parser.specs.Plain.{Plain, is_node, body_in, bodies_in, yxx_in, words_in, plain_of}
 use Rattle.ga_source.specs.Made.{cells_from, AreDistinctCells, IsSoundBody, IsSoundSource}
-use Rattle.ga_parser.specs.kept.Drafting.{texts_of}
-use Rattle.ga_source.specs.kept.{AreSound, IsSoundFrom}
+use Rattle.ga_parser.specs.inner.Drafting.{texts_of}
+use Rattle.ga_source.specs.inner.{AreSound, IsSoundFrom}
 use Rattle.ga_source.proofs.Bodies.{no_number, drop_twice, words_told}
 
 -- ---- the node that comes first

@@ -15,7 +15,7 @@ use Rattle.ga_source.specs.declared.packing.Packer.{Packer}
 use Rattle.ga_source.specs.declared.group.Spot.{Spot}
 use Rattle.ga_source.specs.Reading.{begin_at, next_cell, behind, item_stands, is_filled, fits, spot_of, is_met, after_request}
 use Rattle.ga_source.specs.Cells.{takes, asks_for, is_asked}
-use Rattle.ga_source.specs.kept.{nothing, behind_all, Stand, taken, IsReadAt, spot_in, IsFit, IsRead, IsFitGroup, takes_group, are_taken, after_all, AreMet, Extends, IsKnown, IsInCell, IsWalked, IsPending, IsClosed}
+use Rattle.ga_source.specs.inner.{nothing, behind_all, Stand, taken, IsReadAt, spot_in, IsFit, IsRead, IsFitGroup, takes_group, are_taken, after_all, AreMet, Extends, IsKnown, IsInCell, IsWalked, IsPending, IsClosed}
 use Rattle.ga_source.proofs.Laying.{behind_all-push, Stand-pop, taken-pop, empty_reads, empty_fits, behind-same, behind-begins, behind-slot, next-begins, begin_fits, fits-extends, here-fits, next-fits, after_all-push, AreMet-push, is_asked-before, is_asked-last}
 
 -- ---- closing

@@ -1,7 +1,7 @@
 //! A place in the cells of a node, and the items of a cell.
 
 ghost use Rattle.std.specs.Prelude.{◌≡◌, slice_index};
-ghost use Rattle.ga_source.specs.kept.{is_data as is_data_of};
+ghost use Rattle.ga_source.specs.inner.{is_data as is_data_of};
 
 use arrayvec::ArrayVec;
 use ga_parser::Item;

@@ -5,7 +5,7 @@ ghost use Rattle.ga_node.specs.State.{with_value, HasMemory};
 ghost use Rattle.ga_slots.specs.Codes.{code_of};
 ghost use Rattle.ga_slots.specs.Slots.{opcode as opcode_of, target as target_of};
 ghost use Rattle.ga_source.specs.Reading.{begin_at as begin_of, ends_cell, follows as follows_of, reaches as reaches_to, resolved, word_in};
-ghost use Rattle.ga_source.specs.kept.{IsFitGroup, IsLaidOut, takes_group, HasItem, HasRest, Holds, HoldsRest, IsLoadedGroup, IsMemory, IsWordOf, Keeps, Leads, MayEnd, IsCell, KeepsRest, op_in, nothing, IsCellGroup, AreCellGroups, AreWords};
+ghost use Rattle.ga_source.specs.inner.{IsFitGroup, IsLaidOut, takes_group, HasItem, HasRest, Holds, HoldsRest, IsLoadedGroup, IsMemory, IsWordOf, Keeps, Leads, MayEnd, IsCell, KeepsRest, op_in, nothing, IsCellGroup, AreCellGroups, AreWords};
 ghost use Rattle.ga_parser.specs.declared.item.Operand.{Operand as ValueOf};
 ghost use Rattle.ga_source.specs.Made.{IsMemoryAddress, AreDistinctCells};
 ghost use Rattle.ga_source.specs.Cells.{KeepsElsewhere, is_asked, is_at, takes};

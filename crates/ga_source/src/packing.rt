@@ -8,7 +8,7 @@ ghost use Rattle.ga_parser.specs.declared.item.Operand.TheVariants.{Number};
 ghost use Rattle.ga_parser.specs.declared.item.Request.{Request as RequestOf};
 ghost use Rattle.ga_source.specs.Made.{cells_from};
 ghost use Rattle.ga_source.specs.Cells.{laid_by, groups_of};
-ghost use Rattle.ga_source.specs.kept.{IsGathered, IsGrouped, IsPutting, IsClosed, IsFilling, IsInCell, IsKnown, IsLaidOut, IsPending, IsWalked, TakesOn, requests_of, IsPlainRequest, ArePlain, AreCellGroups, IsPackedPlain};
+ghost use Rattle.ga_source.specs.inner.{IsGathered, IsGrouped, IsPutting, IsClosed, IsFilling, IsInCell, IsKnown, IsLaidOut, IsPending, IsWalked, TakesOn, requests_of, IsPlainRequest, ArePlain, AreCellGroups, IsPackedPlain};
 
 use super::group::{Group, Spot};
 use super::reading::{begin_at, behind, fits, next_cell};

@@ -11,8 +11,8 @@ ghost use Rattle.ga_parser.specs.Saying.{all_said, said_in, Said};
 ghost use Rattle.ga_source.specs.Made.{IsChipOfSource, AreDistinctCells, cells_from, IsSoundSource};
 ghost use Rattle.ga_parser.specs.declared.fault.SourceCause.TheVariants.{Memory};
 ghost use Rattle.ga_parser.specs.declared.scan.TokenKind.TheVariants.{Word};
-ghost use Rattle.ga_source.specs.kept.{IsSoundFrom, IsNumber, AreNumbers, AreLoaded, AreOfFirst, AreAskedFirst};
-ghost use Rattle.ga_parser.specs.kept.Drafting.{texts_of};
+ghost use Rattle.ga_source.specs.inner.{IsSoundFrom, IsNumber, AreNumbers, AreLoaded, AreOfFirst, AreAskedFirst};
+ghost use Rattle.ga_parser.specs.inner.Drafting.{texts_of};
 
 use super::group::Group;
 use super::loading::load;

@@ -1,7 +1,7 @@
 -- Numbers in decimal digits, some digits at a time; the number of a cell by its two digits; what stands in the tables of digits.
 use Rattle.std.proofs.Common.{◌≡◌, ℕ, ◌+◌, ◌<◌, ◌≤◌, ◌^◌, ◌/◌, ◌%◌, [], ◌∷◌, ◌++◌, decimal, length, length-append, ap, ◌∙◌, arith, List, refl, ◌≢◌, ◌*◌, Bool, true, false, cond, Option, Some, None, Result, Ok, Err, zero, suc, get_or, subst, inl, inr, eq-zero-or-pos, ◌-◌}
 use Rattle.std.proofs.lemmas.Fmt.{decimal_step, decimal_digit, length-decimal-le}
-use Rattle.ga_text.specs.kept.{four_digits}
+use Rattle.ga_text.specs.inner.{four_digits}
 use Rattle.std.specs.Prelude.{MatchResult, ◌==◌, slice_index, ◌&&◌}
 use Rattle.std.specs.Option.{option_and_then}
 use Rattle.std.proofs.lemmas.Bool.{ne_eqb, eqb-false}

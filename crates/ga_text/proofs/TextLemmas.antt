@@ -7,7 +7,7 @@ use Rattle.ga_text.specs.Lines.{lines_of, with_byte, ends_line, HasNoFeed, ended
 use Rattle.ga_grid.specs.Grid.{yxx_of}
 use Rattle.ga_grid.specs.declared.node_id.NodeId.{NodeId}
 use Rattle.ga_text.specs.Digits.{name_of_node}
-use Rattle.ga_text.specs.kept.{two_digits}
+use Rattle.ga_text.specs.inner.{two_digits}
 use Rattle.std.proofs.lemmas.Grind.{flat_map-append}
 use Rattle.ga_text.specs.Image.{IsBodyLine, end_line, HasNoEnd}
 

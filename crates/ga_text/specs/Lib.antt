@@ -4,4 +4,4 @@ pub mod Parsing
 pub mod Output
 pub mod Image
 pub mod Input
-pub mod kept
+pub mod inner

@@ -2,7 +2,7 @@
 ghost use Rattle.std.specs.Prelude.{◌≡◌, ◌+◌, ◌≤◌, ◌<◌, ◌++◌, ◌∷◌, true, [], length, take, drop, slice_index, Some, IfSome, IfNone, IfOk, OnErr};
 ghost use Rattle.ga_text.specs.Lines.{Bytes, HasNoFeed};
 ghost use Rattle.ga_text.specs.Input.{Unread, IsWithin, block_size};
-ghost use Rattle.ga_text.specs.kept.{Fills, HasFilled, TakesPart, with_feed};
+ghost use Rattle.ga_text.specs.inner.{Fills, HasFilled, TakesPart, with_feed};
 
 use super::lines::{LineBuffer, keep};
 use std::alloc::AllocError;

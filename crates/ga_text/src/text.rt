@@ -4,7 +4,7 @@ ghost use Rattle.ga_grid.specs.declared.node_id.NodeId.{NodeId};
 ghost use Rattle.arrayvec.specs.ArrayVec.{array_vec_len};
 ghost use Rattle.ga_word.specs.Word.{hex6_of};
 ghost use Rattle.ga_text.specs.Digits.{decimal3_of, hex2_of, name_of_node, step_text};
-ghost use Rattle.ga_text.specs.kept.{two_digits, four_digits};
+ghost use Rattle.ga_text.specs.inner.{two_digits, four_digits};
 
 use arrayvec::ArrayVec;
 use ga_grid::NodeId;

@@ -6,7 +6,7 @@ ghost use Rattle.ga_node.specs.Record.{record_of};
 ghost use Rattle.ga_node.specs.Table.{due_of};
 ghost use Rattle.ga_event.specs.declared.flow.part.Part.TheVariants.{P};
 ghost use Rattle.ga_event.specs.Flow.{Same, From, SetI, SetP, StartAgain, IsPart, choice, target_of, moves_where, fetch_moves, execute_moves, multiply_moves, send_moves, take_moves, flow_where, own_flow, send_flow, take_flow, flow_of, AreSources, IsSource};
-ghost use Rattle.ga_event.specs.kept.{sought_of, At, before_all, read_before, write_before, count_before, IsSought};
+ghost use Rattle.ga_event.specs.inner.{sought_of, At, before_all, read_before, write_before, count_before, IsSought};
 
 use super::sought::Sought;
 use super::{Choice, Flow, Part, from_one, from_three, from_two};

@@ -15,7 +15,7 @@ impl Sought {
     ghost use Rattle.std.specs.Prelude.{◌≡◌, ◌∷◌, [], if◌then◌else◌};
     ghost use Rattle.ga_event.specs.Flow.{From, GoOn, Skip, StartAgain, SetWait, SetStop, jump_moves, top_return, IsPart, flow_of, AreSources};
     ghost use Rattle.ga_event.specs.Flow as move;
-    ghost use Rattle.ga_event.specs.kept.{sought_of, set_at, push_data, pop_data, push_return, pop_return, before, before_all, settled, IsSought};
+    ghost use Rattle.ga_event.specs.inner.{sought_of, set_at, push_data, pop_data, push_return, pop_return, before, before_all, settled, IsSought};
 
     /// Before a part got a word that comes from there.
     pub(crate) fn set(self, at: Part, flow: Flow) -> Sought

@@ -2,7 +2,7 @@
 
 ghost use Rattle.std.specs.Prelude.{◌≡◌, ◌≤◌, List, length};
 ghost use Rattle.ga_journal.specs.Histories.{Past, history};
-ghost use Rattle.ga_journal.specs.kept.Histories.{lists_of, AllRise, bound_of, IsLatest, cut, IsCutWithin};
+ghost use Rattle.ga_journal.specs.inner.Histories.{lists_of, AllRise, bound_of, IsLatest, cut, IsCutWithin};
 
 use super::Histories;
 use ga_grid::NodeId;

@@ -65,11 +65,11 @@ impl Histories {
     ghost use Rattle.ga_event.specs.Apply.{refusal_of, is_open};
     ghost use Rattle.ga_event.specs.Undo.{IsOfKind, own_effect};
     ghost use Rattle.ga_journal.specs.Histories.{past, has_room, has_pass_room, HasRoom, history, with_entry, appended};
-    ghost use Rattle.ga_journal.specs.kept.Histories.{past_of, lists_of, room_of, bound_of, IsTopmost, IsTakenOut};
+    ghost use Rattle.ga_journal.specs.inner.Histories.{past_of, lists_of, room_of, bound_of, IsTopmost, IsTakenOut};
     ghost use Rattle.ga_journal.specs.Logs.{Stamped, Records, IsWhole};
     ghost use Rattle.ga_journal.specs.Popped.{IsNewest, TakesBack};
-    ghost use Rattle.ga_journal.specs.kept.Stored.{act_with};
-    ghost use Rattle.ga_journal.specs.kept.Ends.{CanGoBack, IsGoneBack, IsAdded};
+    ghost use Rattle.ga_journal.specs.inner.Stored.{act_with};
+    ghost use Rattle.ga_journal.specs.inner.Ends.{CanGoBack, IsGoneBack, IsAdded};
 
     /// Adds an own event to one history.
     #[inline(always)]

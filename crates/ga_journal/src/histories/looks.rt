@@ -6,7 +6,7 @@ use ga_grid::NodeId;
 impl Histories {
     ghost use Rattle.std.specs.Prelude.{◌≡◌, ◌<◌, ◌≤◌, ◌^◌, ℕ, length, IfSome, IfNone};
     ghost use Rattle.std.specs.Bool.{OnTrue, OnFalse};
-    ghost use Rattle.ga_journal.specs.kept.Histories.{lists_of, AllRise};
+    ghost use Rattle.ga_journal.specs.inner.Histories.{lists_of, AllRise};
     ghost use Rattle.ga_journal.specs.Histories.{history};
     ghost use Rattle.ga_journal.specs.Looks.{HasLook, HasNoLook, IsLookAfter, HasNoLookAfter};
 

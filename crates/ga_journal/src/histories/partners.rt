@@ -31,10 +31,10 @@ fn counts(act: &Act) -> bool
 
 impl Histories {
     ghost use Rattle.std.specs.Prelude.{◌≡◌, ◌<◌, ℕ, Some, length, nat_lt, slice_index};
-    ghost use Rattle.ga_journal.specs.kept.Histories.{lists_of};
+    ghost use Rattle.ga_journal.specs.inner.Histories.{lists_of};
     ghost use Rattle.ga_journal.specs.Histories.{history};
     ghost use Rattle.ga_journal.specs.Marks.{partner_of, numbers_of_position, partner_at, counted_at};
-    ghost use Rattle.ga_journal.specs.kept.Marks.{has_partner};
+    ghost use Rattle.ga_journal.specs.inner.Marks.{has_partner};
 
     /// The other entry of the pass of the entry at a position.
     pub(crate) fn partner(&self, node: NodeId, at: u32) -> Option<(NodeId, u32)>

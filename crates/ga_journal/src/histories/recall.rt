@@ -58,7 +58,7 @@ pub(super) fn passed(
 
 impl Histories {
     ghost use Rattle.std.specs.Prelude.{◌≡◌, ◌-◌, ◌<◌, ◌≤◌, ◌^◌, ℕ, List, length, drop, slice_index, false, IfOk, IfErr, ◌+◌, [], ◌∷◌, ◌++◌, OnOk};
-    ghost use Rattle.ga_journal.specs.kept.Histories.{lists_of, bound_of, cut, older_causes, WalksBack, IsCutWithin, IsShorter, IsFirst, IsWalked, AreTold};
+    ghost use Rattle.ga_journal.specs.inner.Histories.{lists_of, bound_of, cut, older_causes, WalksBack, IsCutWithin, IsShorter, IsFirst, IsWalked, AreTold};
     ghost use Rattle.ga_journal.specs.Histories.{history};
     ghost use Rattle.ga_journal.specs.Logs.{Stamped, Records, IsSince};
     ghost use Rattle.std.specs.List.{All};

@@ -20,7 +20,7 @@ pub struct BackwardEvents<'j> {
 
 impl<'j> Model for BackwardEvents<'j> {
     ghost use Rattle.ga_journal.specs.Histories.{Untold, untold};
-    ghost use Rattle.ga_journal.specs.kept.Histories.{IsUntold};
+    ghost use Rattle.ga_journal.specs.inner.Histories.{IsUntold};
 
     ghost Value = { Untold };
 

@@ -15,8 +15,8 @@ pub struct Backward<'l> {
 
 impl<'l> Model for Backward<'l> {
     ghost use Rattle.ga_lab.specs.Machine.{Telling};
-    ghost use Rattle.ga_lab.specs.kept.Tied.{IsLab};
-    ghost use Rattle.ga_lab.specs.kept.Walking.{telling_of};
+    ghost use Rattle.ga_lab.specs.inner.Tied.{IsLab};
+    ghost use Rattle.ga_lab.specs.inner.Walking.{telling_of};
 
     ghost Value = { Telling };
 

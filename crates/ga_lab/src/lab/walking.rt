@@ -19,7 +19,7 @@ pub struct Walk<'l> {
 
 impl<'l> Model for Walk<'l> {
     ghost use Rattle.ga_lab.specs.Machine.{Standing};
-    ghost use Rattle.ga_lab.specs.kept.Walking.{standing_of, IsWalk};
+    ghost use Rattle.ga_lab.specs.inner.Walking.{standing_of, IsWalk};
 
     ghost Value = { Standing };
 

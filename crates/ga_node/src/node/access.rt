@@ -13,7 +13,7 @@ impl Node {
     ghost use Rattle.std.specs.Prelude.{◌≡◌, ◌≤◌, [], Ok, IfOk, IfErr, OnOk, length};
     ghost use Rattle.ga_ports.specs.Address.{classified};
     ghost use Rattle.ga_node.specs.Record.{record_of};
-    ghost use Rattle.ga_node.specs.kept.Saving.{IsMade, IsDone, IsEnded};
+    ghost use Rattle.ga_node.specs.inner.Saving.{IsMade, IsDone, IsEnded};
     ghost use Rattle.ga_node.specs.Table.{found, stored, posts, halts};
     ghost use Rattle.ga_node.specs.Ready.{IsRunning};
 

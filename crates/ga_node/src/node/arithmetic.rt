@@ -8,7 +8,7 @@ use ga_word::Word18;
 impl Node {
     ghost use Rattle.std.specs.Prelude.{◌≡◌, []};
     ghost use Rattle.ga_node.specs.Record.{record_of};
-    ghost use Rattle.ga_node.specs.kept.Saving.{IsDoneBy};
+    ghost use Rattle.ga_node.specs.inner.Saving.{IsDoneBy};
     ghost use Rattle.ga_node.specs.Table.{does};
 
     /// `+*`, multiply step: S is added to T where A is odd, and T and A are shifted right as one.

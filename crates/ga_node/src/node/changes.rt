@@ -2,7 +2,7 @@
 
 ghost use Rattle.std.specs.Prelude.{◌≡◌, ◌+◌, ◌≤◌, ◌++◌, length};
 ghost use Rattle.ga_stacks.specs.Stack.{AreStackChanges};
-ghost use Rattle.ga_node.specs.kept.Saving.{data_values, return_values};
+ghost use Rattle.ga_node.specs.inner.Saving.{data_values, return_values};
 
 use super::Node;
 use crate::place::Place;
@@ -42,7 +42,7 @@ impl Node {
     ghost use Rattle.ga_node.specs.State.{IsApart};
     ghost use Rattle.ga_node.specs.Record.{record_of};
     ghost use Rattle.ga_node.specs.Changes.{after_changes, changed, PushData, PopData, SetTop, PopTo, PushReturn, PopReturn, SetTopReturn, SetP, SetA, SetB, SetI, SetIo, SetCarry, SetRam, GoOn, Skip, StartAgain, SetWait, SetStop};
-    ghost use Rattle.ga_node.specs.kept.Saving.{Saves};
+    ghost use Rattle.ga_node.specs.inner.Saving.{Saves};
     ghost use Rattle.ga_node.specs.Ready.{IsRunning};
 
     /// P gets an address.

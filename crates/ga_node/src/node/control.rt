@@ -9,7 +9,7 @@ impl Node {
     ghost use Rattle.std.specs.Prelude.{◌≡◌, ◌+◌, ◌<◌, ◌≤◌, [], length};
     ghost use Rattle.ga_node.specs.Record.{record_of};
     ghost use Rattle.ga_node.specs.Changes.{after_changes};
-    ghost use Rattle.ga_node.specs.kept.Saving.{IsDoneBy, Saves, IsMade};
+    ghost use Rattle.ga_node.specs.inner.Saving.{IsDoneBy, Saves, IsMade};
     ghost use Rattle.ga_node.specs.Table.{does, jumps, jumps_where};
 
     /// P := the address that the slot names, and the rest of the word is passed over.

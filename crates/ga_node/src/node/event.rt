@@ -1,7 +1,7 @@
 //! The events of a node's own: a fetch, an opcode, a wait or a stop.
 
 ghost use Rattle.std.specs.Prelude.{◌≡◌};
-ghost use Rattle.ga_node.specs.kept.Saving.{kind_of};
+ghost use Rattle.ga_node.specs.inner.Saving.{kind_of};
 
 use super::Node;
 use crate::due::Due;
@@ -29,7 +29,7 @@ impl Node {
     ghost use Rattle.ga_node.specs.State.{IsApart};
     ghost use Rattle.ga_node.specs.Record.{record_of};
     ghost use Rattle.ga_node.specs.Saving.{Overwrites};
-    ghost use Rattle.ga_node.specs.kept.Saving.{IsDone, IsEnded};
+    ghost use Rattle.ga_node.specs.inner.Saving.{IsDone, IsEnded};
     ghost use Rattle.ga_node.specs.Table.{own, own_event, effect, fetched, looks, looks_by, reads_io, due_of, refusal};
     ghost use Rattle.ga_node.specs.Ready.{IsRunning, CanDo};
 

@@ -11,7 +11,7 @@ use ga_slots::Op;
 impl Node {
     ghost use Rattle.std.specs.Prelude.{◌≡◌, [], IfErr, OnOk};
     ghost use Rattle.ga_node.specs.Record.{record_of};
-    ghost use Rattle.ga_node.specs.kept.Saving.{IsDone, IsDoneBy, IsEnded, IsEndedBy};
+    ghost use Rattle.ga_node.specs.inner.Saving.{IsDone, IsDoneBy, IsEnded, IsEndedBy};
     ghost use Rattle.ga_node.specs.Table.{does, effect};
     ghost use Rattle.ga_node.specs.Ready.{IsRunning};
 

@@ -7,7 +7,7 @@ use ga_slots::Op;
 impl Node {
     ghost use Rattle.std.specs.Prelude.{◌≡◌, []};
     ghost use Rattle.ga_node.specs.Record.{record_of};
-    ghost use Rattle.ga_node.specs.kept.Saving.{IsDoneBy};
+    ghost use Rattle.ga_node.specs.inner.Saving.{IsDoneBy};
     ghost use Rattle.ga_node.specs.Table.{does};
 
     /// `drop`: the data stack is popped.

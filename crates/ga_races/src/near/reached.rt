@@ -3,11 +3,11 @@
 ghost use Rattle.std.specs.Prelude.{◌≡◌, ◌<◌, ◌&&◌, ◌||◌, ℕ, true, false, length};
 ghost use Rattle.ga_grid.specs.Grid.{neighbour_of};
 ghost use Rattle.ga_causal.specs.Dependence.{is_marked};
-ghost use Rattle.ga_causal.specs.kept.{any_of};
+ghost use Rattle.ga_causal.specs.inner.{any_of};
 ghost use Rattle.ga_event.specs.Apply.{is_number};
 ghost use Rattle.ga_races.specs.HappensBefore.{HappensBefore};
 ghost use Rattle.ga_races.specs.Acts.{side_leads_to, action_in, actions_in};
-ghost use Rattle.ga_races.specs.kept.{shows_marked, has_touched, has_shown, has_looked, is_shown_to, is_met};
+ghost use Rattle.ga_races.specs.inner.{shows_marked, has_touched, has_shown, has_looked, is_shown_to, is_met};
 
 use crate::act::{EventAccess, Sides};
 use ga_causal::Nodes;

@@ -1,7 +1,7 @@
 use Rattle.std.proofs.Common.{rules, ℕ, List, ◌++◌, [], refl, ap, arith}
 use Rattle.std.specs.Prelude.{flat_map}
 use Rattle.ga_text.proofs.SaidLemmas.{cut_here, said_pending}
-use Rattle.ga_answers.specs.kept.{cause_line}
+use Rattle.ga_answers.specs.inner.{cause_line}
 use Rattle.ga_answers.proofs.Saying.{line_said, line_cut, all_said, rest_lines, no_lines}
 use Rattle.ga_answers.proofs.saved_text.say_listed.Goals as goal
 

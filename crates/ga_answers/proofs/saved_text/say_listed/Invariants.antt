@@ -1,7 +1,7 @@
 use Rattle.std.proofs.Common.{◌≡◌, ℕ, List, drop}
 use Rattle.std.specs.Prelude.{flat_map}
 use Rattle.ga_text.specs.Output.{IsSaid}
-use Rattle.ga_answers.specs.kept.{cause_line}
+use Rattle.ga_answers.specs.inner.{cause_line}
 use Rattle.ga_answers.proofs.Saying.{IsSaidUpTo}
 use Rattle.ga_answers.proofs.saved_text.say_listed.Given as goal
 

@@ -4,7 +4,7 @@ use Rattle.ga_lab.specs.Machine.{State}
 use Rattle.ga_search.specs.Running.{Running, running, after_events}
 use Rattle.ga_search.proofs.Events.{after_none}
 use Rattle.std.specs.Prelude.{is_some}
-use Rattle.ga_breakpoints.specs.kept.Cells.{ends_by, halt_of, with_hits}
+use Rattle.ga_breakpoints.specs.inner.Cells.{ends_by, halt_of, with_hits}
 use Rattle.ga_breakpoints.specs.Going.{Course, HasGone, tally_on, going_on}
 use Rattle.ga_breakpoints.specs.declared.halts.Halting.{Halting}
 use Rattle.ga_breakpoints.proofs.Moving.{counted_so, went_so, BeginsKnown, halting_by, hits_after, go_alike}

@@ -1,7 +1,7 @@
 use Rattle.std.proofs.Common.{◌≡◌, ◌∙◌, ◌+◌, List, ◌∷◌, drop, sym, ap, arith}
 use Rattle.std.proofs.lemmas.List.{drop_more}
 use Rattle.ga_breakpoints.specs.declared.breakpoint.Breakpoint.{Breakpoint}
-use Rattle.ga_breakpoints.specs.kept.Cells.{Cells, cells_done, counted_by, cells_from}
+use Rattle.ga_breakpoints.specs.inner.Cells.{Cells, cells_done, counted_by, cells_from}
 use Rattle.ga_breakpoints.proofs.hits.count_hits.Goals as goal
 
 pub breakpoints-preserved : goal.breakpoints-preserved

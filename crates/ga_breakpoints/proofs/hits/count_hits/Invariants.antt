@@ -1,5 +1,5 @@
 use Rattle.std.proofs.Common.{◌≡◌, drop}
-use Rattle.ga_breakpoints.specs.kept.Cells.{counted_by, cells_from, tally_by, cells_behind}
+use Rattle.ga_breakpoints.specs.inner.Cells.{counted_by, cells_from, tally_by, cells_behind}
 use Rattle.ga_breakpoints.proofs.hits.count_hits.Given as goal
 
 abbrev pub invariant-breakpoints : goal.invariant-breakpoints

@@ -5,9 +5,9 @@ use Rattle.ga_grid.specs.declared.node_id.NodeId.{NodeId}
 use Rattle.ga_lab.specs.Machine.{State}
 use Rattle.ga_search.specs.Running.{Running, running}
 use Rattle.ga_search.specs.Watched.{after_first}
-use Rattle.ga_breakpoints.specs.kept.Cells.{ends_by, halt_of, with_hits}
+use Rattle.ga_breakpoints.specs.inner.Cells.{ends_by, halt_of, with_hits}
 use Rattle.ga_breakpoints.specs.Stepping.{step_seen, stepped_on}
-use Rattle.ga_breakpoints.specs.kept.Words.{word_seen, is_moved_by}
+use Rattle.ga_breakpoints.specs.inner.Words.{word_seen, is_moved_by}
 use Rattle.ga_breakpoints.specs.Going.{Course, HasGone, tally_on, stepping_on}
 use Rattle.ga_breakpoints.specs.declared.moves.Steps.{Steps}
 use Rattle.ga_breakpoints.proofs.Moving.{counted_so, went_so, BeginsWell, halting_by, goes_after, step_alike}

@@ -1,6 +1,6 @@
 use Rattle.std.proofs.Common.{◌≡◌, ℕ, ◌-◌, List, length, take, drop, length-drop, subst, arith}
 use Rattle.std.proofs.lemmas.List.{take_all}
-use Rattle.ga_console.specs.kept.Run.{IsNumberAhead}
+use Rattle.ga_console.specs.inner.Run.{IsNumberAhead}
 use Rattle.ga_console.proofs.AheadLemmas.{rewind_front}
 use Rattle.ga_console.proofs.ahead.rewind_ahead.Goals as goal
 

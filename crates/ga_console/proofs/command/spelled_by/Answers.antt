@@ -1,5 +1,5 @@
 use Rattle.std.proofs.Common.{ap, ◌∙◌}
-use Rattle.ga_console.specs.kept.Parsing.{command_by}
+use Rattle.ga_console.specs.inner.Parsing.{command_by}
 use Rattle.ga_console.proofs.Spelled.{told_some, told_only, told_none}
 use Rattle.ga_console.proofs.command.spelled_by.Goals as goal
 

@@ -1,7 +1,7 @@
 use Rattle.std.proofs.Common.{ℕ, ◌+◌, ◌-◌, ◌++◌, [], List, take, drop, length, length-take, refl, sym, ap, subst, ◌∙◌, arith}
 use Rattle.std.specs.Prelude.{Result, Ok}
 use Rattle.std.specs.Result.{IsErr}
-use Rattle.ga_console.specs.kept.Run.{IsAhead, IsLineAhead}
+use Rattle.ga_console.specs.inner.Run.{IsAhead, IsLineAhead}
 use Rattle.ga_console.specs.Session.{Answering, Serves, ServesCut}
 use Rattle.ga_display.specs.Texts.{no_input}
 use Rattle.ga_text.specs.declared.output.WriteFailed.{WriteFailed}

@@ -5,7 +5,7 @@ use Rattle.ga_lab.specs.Machine.{State}
 use Rattle.ga_display.specs.Texts.{no_long, no_syntax}
 use Rattle.ga_console.specs.Commands.{SpellsCommand}
 use Rattle.ga_console.specs.Replies.{LineAnswer, Does}
-use Rattle.ga_console.specs.kept.Run.{Turns, AnswersLine}
+use Rattle.ga_console.specs.inner.Run.{Turns, AnswersLine}
 use Rattle.ga_console.specs.Replies.LineAnswer.{long, command, syntax}
 use Rattle.ga_text.specs.declared.output.WriteFailed.{WriteFailed}
 use Rattle.ga_console.specs.declared.responder.Turn.{Turn}

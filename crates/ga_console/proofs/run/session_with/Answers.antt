@@ -2,7 +2,7 @@ use Rattle.std.proofs.Common.{◌≡◌, ℕ, List, [], ◌∷◌, ◌++◌, Som
 use Rattle.std.proofs.lemmas.List.{append-nil}
 use Rattle.ga_image.specs.FirstFault.{no_memory}
 use Rattle.ga_text.specs.Input.{Unread}
-use Rattle.ga_console.specs.kept.Run.{AfterImage}
+use Rattle.ga_console.specs.inner.Run.{AfterImage}
 use Rattle.ga_console.proofs.RunLemmas.{runs_refused, runs_full, runs_after, nothing_left}
 use Rattle.ga_console.proofs.run.session_with.Goals as goal
 

@@ -2,7 +2,7 @@ use Rattle.std.proofs.Common.{◌∙◌, ℕ, suc, List, [], ◌++◌, Some, ref
 use Rattle.std.proofs.lemmas.List.{append-nil}
 use Rattle.ga_protocol.specs.Sent.{SentMessages}
 use Rattle.ga_dap.specs.Client.{ServesFor, serving_from}
-use Rattle.ga_dap.specs.kept.Turning.{serving_at}
+use Rattle.ga_dap.specs.inner.Turning.{serving_at}
 use Rattle.ga_dap.proofs.Serves.{begins_so, serves_on, ends_so, pends, all_sent, written_all}
 use Rattle.ga_dap.proofs.serving.serve_client.Goals as goal
 

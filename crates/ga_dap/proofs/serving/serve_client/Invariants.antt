@@ -1,6 +1,6 @@
 use Rattle.std.proofs.Common.{◌≡◌, ℕ, List, [], ◌++◌, Some}
 use Rattle.ga_dap.specs.Client.{ServesFor, serving_from}
-use Rattle.ga_dap.specs.kept.Turning.{serving_at}
+use Rattle.ga_dap.specs.inner.Turning.{serving_at}
 use Rattle.ga_dap.proofs.serving.serve_client.Given as goal
 
 abbrev pub invariant-serving : goal.invariant-serving

@@ -1,6 +1,6 @@
 use Rattle.std.proofs.Common.{rules, ◌++◌, refl}
 use Rattle.ga_text.proofs.SaidLemmas.{cut_here}
-use Rattle.ga_explorer.specs.kept.{exploring}
+use Rattle.ga_explorer.specs.inner.{exploring}
 use Rattle.ga_explorer.proofs.LineAnswers.{explored_line, explored_err, debugged_turn}
 use Rattle.ga_explorer.proofs.explorer.answer_line.Goals as goal
 

@@ -2,7 +2,7 @@ use Rattle.std.proofs.Common.{◌∙◌, ◌+◌, ℕ, Some, ap, sym, arith}
 use Rattle.std.specs.Prelude.{map}
 use Rattle.std.proofs.lemmas.List.{drop_all}
 use Rattle.ga_explorer.specs.Forms.{place_from}
-use Rattle.ga_explorer.specs.kept.{entry_of}
+use Rattle.ga_explorer.specs.inner.{entry_of}
 use Rattle.ga_explorer.proofs.Finding.{place_here, place_behind}
 use Rattle.ga_explorer.proofs.forms.place_among.Goals as goal
 

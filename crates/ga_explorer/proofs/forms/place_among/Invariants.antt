@@ -1,7 +1,7 @@
 use Rattle.std.proofs.Common.{◌≡◌, drop}
 use Rattle.std.specs.Prelude.{map}
 use Rattle.ga_explorer.specs.Forms.{place_from}
-use Rattle.ga_explorer.specs.kept.{entry_of}
+use Rattle.ga_explorer.specs.inner.{entry_of}
 use Rattle.ga_explorer.proofs.forms.place_among.Given as goal
 
 abbrev pub invariant-rows : goal.invariant-rows

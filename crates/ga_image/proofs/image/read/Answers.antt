@@ -3,7 +3,7 @@ use Rattle.std.proofs.lemmas.Bool.{eqb-true}
 use Rattle.std.proofs.lemmas.List.{nil_from_length}
 use Rattle.ga_text.specs.Lines.{lines_of}
 use Rattle.ga_image.specs.Reading.{Progress, reading, start}
-use Rattle.ga_image.specs.kept.{progress_of, stage_of}
+use Rattle.ga_image.specs.inner.{progress_of, stage_of}
 use Rattle.ga_image.proofs.Room.{room, IsSized, line_less, start_room, reads_on, reads_fault, reads_end, reads_cut, still_open}
 use Rattle.ga_image.proofs.image.read.Goals as goal
 

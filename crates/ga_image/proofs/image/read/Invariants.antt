@@ -1,6 +1,6 @@
 use Rattle.std.proofs.Common.{◌≡◌, ◌+◌, ◌≤◌, length}
 use Rattle.ga_text.specs.Lines.{lines_of}
-use Rattle.ga_image.specs.kept.{progress_of}
+use Rattle.ga_image.specs.inner.{progress_of}
 use Rattle.ga_image.specs.Reading.{start, reading}
 use Rattle.ga_image.proofs.Room.{room, IsSized}
 use Rattle.ga_image.proofs.image.read.Given as goal

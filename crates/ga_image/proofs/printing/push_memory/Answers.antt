@@ -1,7 +1,7 @@
 use Rattle.std.proofs.Common.{ℕ, ◌≡◌, ◌*◌, ◌<◌, List, ◌++◌, take, flat_map, sym, ap, ◌∙◌, subst, arith}
 use Rattle.ga_node.specs.Record.{record_of}
 use Rattle.ga_image.specs.declared.field.Field.{Field}
-use Rattle.ga_image.specs.kept.{field_in, fields_text, words_in}
+use Rattle.ga_image.specs.inner.{field_in, fields_text, words_in}
 use Rattle.ga_image.specs.Printing.{AreWords, line_unless, row_of_words, row_cells}
 use Rattle.ga_image.proofs.Pieces.{lines_grown, rows_more, row_cell}
 use Rattle.ga_image.proofs.PrintedFields.{rows_words, memory_words}

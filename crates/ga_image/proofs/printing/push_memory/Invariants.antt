@@ -1,6 +1,6 @@
 use Rattle.std.proofs.Common.{◌≡◌, ◌*◌, ◌<◌, ◌++◌, length, take, flat_map}
 use Rattle.ga_node.specs.Record.{record_of}
-use Rattle.ga_image.specs.kept.{field_in, fields_text, words_in}
+use Rattle.ga_image.specs.inner.{field_in, fields_text, words_in}
 use Rattle.ga_image.specs.Printing.{AreWords, line_unless, row_of_words, row_cells}
 use Rattle.ga_image.proofs.printing.push_memory.Given as goal
 

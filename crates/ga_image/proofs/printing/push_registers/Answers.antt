@@ -4,7 +4,7 @@ use Rattle.ga_stacks.specs.Ring.{fresh_word}
 use Rattle.ga_node.specs.Record.{record_of}
 use Rattle.ga_grid.specs.Grid.{load_p_of}
 use Rattle.ga_image.specs.declared.field.Field.TheVariants.{A, B, P, I, Io}
-use Rattle.ga_image.specs.kept.{fields_text}
+use Rattle.ga_image.specs.inner.{fields_text}
 use Rattle.ga_image.specs.Printing.{word_unless}
 use Rattle.ga_image.proofs.Pieces.{lines_grown, word_grown}
 use Rattle.ga_image.proofs.printing.push_registers.Goals as goal

@@ -1,7 +1,7 @@
 use Rattle.std.proofs.Common.{◌≡◌, ◌<◌, ◌≤◌, length, get_or, take, drop, sym, ◌∙◌, arith, length-drop}
 use Rattle.std.proofs.lemmas.List.{get_or-take, get_or-drop, length-take-le}
 use Rattle.ga_node.specs.Record.{record_of}
-use Rattle.ga_image.specs.kept.{words_in, size_in}
+use Rattle.ga_image.specs.inner.{words_in, size_in}
 use Rattle.ga_image.proofs.Pieces.{filled_more, filled_whole, words_push}
 use Rattle.ga_image.proofs.printing.row.Goals as goal
 

@@ -1,7 +1,7 @@
 use Rattle.std.proofs.Common.{◌≡◌, ◌<◌, length, take, drop}
 use Rattle.ga_node.specs.Record.{record_of}
 use Rattle.ga_image.specs.Printing.{AreWords}
-use Rattle.ga_image.specs.kept.{words_in, size_in}
+use Rattle.ga_image.specs.inner.{words_in, size_in}
 use Rattle.ga_image.proofs.Pieces.{IsFilled}
 use Rattle.ga_image.proofs.printing.row.Given as goal
 

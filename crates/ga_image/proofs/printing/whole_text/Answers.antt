@@ -3,7 +3,7 @@ use Rattle.std.proofs.lemmas.List.{length-map}
 use Rattle.ga_node.specs.Record.{NodeRecord, record_of}
 use Rattle.ga_grid.specs.Chip.{nowhere, node_at, records_of, record_at}
 use Rattle.ga_grid.proofs.Chips.{record_at-records_of}
-use Rattle.ga_image.specs.kept.{blocks_text}
+use Rattle.ga_image.specs.inner.{blocks_text}
 use Rattle.ga_image.specs.Printing.{block_unless, lines_at, IsSoundRecord}
 use Rattle.ga_image.proofs.Pieces.{next_block, finished}
 use Rattle.ga_image.proofs.PrintedFields.{all_more, all_whole}

@@ -2,7 +2,7 @@ use Rattle.std.proofs.Common.{◌≡◌, ◌<◌, length, ◌++◌, take, drop}
 use Rattle.std.specs.Prelude.{codes}
 use Rattle.std.specs.List.{AllByRecursion}
 use Rattle.ga_grid.specs.Chip.{records_of}
-use Rattle.ga_image.specs.kept.{blocks_text}
+use Rattle.ga_image.specs.inner.{blocks_text}
 use Rattle.ga_image.specs.Printing.{blocks_from, IsSoundRecord}
 use Rattle.ga_image.proofs.printing.whole_text.Given as goal
 

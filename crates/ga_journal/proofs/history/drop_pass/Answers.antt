@@ -1,7 +1,7 @@
 use Rattle.std.proofs.Common.{◌<◌, ◌≤◌, ◌-◌, ◌∙◌, ◌++◌, ap, sym, subst, arith, length, vec_len}
 use Rattle.std.specs.Prelude.{option_to_list, slice_index_or}
 use Rattle.ga_journal.specs.declared.entry.Part.{Part}
-use Rattle.ga_journal.specs.kept.Stored.{no_pass, passes_in, IsDropped}
+use Rattle.ga_journal.specs.inner.Stored.{no_pass, passes_in, IsDropped}
 use Rattle.ga_journal.proofs.history.drop_pass.Goals as goal
 
 pub returns-in-Passed : goal.returns-in-Passed

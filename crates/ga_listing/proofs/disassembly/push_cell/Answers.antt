@@ -1,5 +1,5 @@
 use Rattle.std.proofs.Common.{◌∙◌, ◌++◌, ℕ, List, ap, codes, ◌∷◌, [], arith}
-use Rattle.ga_listing.specs.kept.{hex_of, number_word}
+use Rattle.ga_listing.specs.inner.{hex_of, number_word}
 use Rattle.ga_listing.proofs.Telling.{grown}
 use Rattle.ga_listing.proofs.SourceLines.{cell_added}
 use Rattle.ga_listing.proofs.disassembly.push_cell.Goals as goal

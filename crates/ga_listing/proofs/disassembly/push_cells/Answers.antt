@@ -1,5 +1,5 @@
 use Rattle.std.proofs.Common.{ℕ, subst}
-use Rattle.ga_listing.specs.kept.{Adds, cells_words, next_behind}
+use Rattle.ga_listing.specs.inner.{Adds, cells_words, next_behind}
 use Rattle.ga_listing.proofs.SourceLines.{both_added}
 use Rattle.ga_listing.proofs.disassembly.push_cells.Goals as goal
 

@@ -1,7 +1,7 @@
 use Rattle.std.proofs.Common.{◌≡◌, ◌∙◌, ◌∷◌, [], length, take, ap, codes, arith, ℕ}
 use Rattle.ga_grid.specs.Grid.{yxx_of}
 use Rattle.ga_text.specs.Digits.{decimal3_of}
-use Rattle.ga_listing.specs.kept.{node_words}
+use Rattle.ga_listing.specs.inner.{node_words}
 use Rattle.ga_listing.proofs.NodeTexts.{program_none, program_some, node_added}
 use Rattle.ga_listing.proofs.disassembly.push_program.Goals as goal
 

@@ -1,5 +1,5 @@
 use Rattle.std.proofs.Common.{◌++◌, codes, ◌∷◌, []}
-use Rattle.ga_listing.specs.kept.{hex_of}
+use Rattle.ga_listing.specs.inner.{hex_of}
 use Rattle.ga_listing.proofs.Telling.{grown}
 use Rattle.ga_listing.proofs.SourceLines.{register_added, register_usual}
 use Rattle.ga_listing.proofs.disassembly.push_register.Goals as goal

@@ -1,5 +1,5 @@
 use Rattle.std.proofs.Common.{◌++◌, codes, refl}
-use Rattle.ga_listing.specs.kept.{register_words, usual_p}
+use Rattle.ga_listing.specs.inner.{register_words, usual_p}
 use Rattle.ga_listing.proofs.NodeTexts.{registers_fit}
 use Rattle.ga_listing.proofs.SourceLines.{both_added, register_same}
 use Rattle.ga_listing.proofs.disassembly.push_registers.Goals as goal

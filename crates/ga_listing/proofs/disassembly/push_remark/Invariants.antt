@@ -1,4 +1,4 @@
-use Rattle.ga_listing.specs.kept.{AddsRemark}
+use Rattle.ga_listing.specs.inner.{AddsRemark}
 use Rattle.ga_listing.proofs.disassembly.push_remark.Given as goal
 
 abbrev pub invariant-loop-byte : goal.invariant-loop-byte

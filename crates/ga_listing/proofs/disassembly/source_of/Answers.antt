@@ -1,6 +1,6 @@
 use Rattle.std.proofs.Common.{◌∙◌, ℕ, subst, ap, arith}
 use Rattle.ga_grid.specs.Chip.{node_at}
-use Rattle.ga_listing.specs.kept.{Adds, node_words, named_words}
+use Rattle.ga_listing.specs.inner.{Adds, node_words, named_words}
 use Rattle.ga_listing.proofs.NodeTexts.{said_none, said_more, said_all, said_size, said_fit}
 use Rattle.ga_listing.proofs.disassembly.source_of.Goals as goal
 

@@ -1,6 +1,6 @@
 use Rattle.std.proofs.Common.{List, ℕ, [], Some, inl, refl, sym, ap, subst, ◌∙◌}
 use Rattle.std.proofs.lemmas.List.{append-nil}
-use Rattle.ga_listing.specs.kept.{IsListed}
+use Rattle.ga_listing.specs.inner.{IsListed}
 use Rattle.ga_listing.proofs.Sources.{lists, lists_nothing}
 use Rattle.ga_listing.proofs.listing.list_source.Goals as goal
 

@@ -1,5 +1,5 @@
 use Rattle.std.proofs.Common.{◌≡◌, ◌≤◌, ◌++◌}
-use Rattle.ga_listing.specs.kept.{hex_of}
+use Rattle.ga_listing.specs.inner.{hex_of}
 use Rattle.ga_listing.proofs.listing.push_hex.Given as goal
 
 abbrev pub invariant-loop-left : goal.invariant-loop-left

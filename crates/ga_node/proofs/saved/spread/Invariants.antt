@@ -1,5 +1,5 @@
 use Rattle.std.proofs.Common.{◌≡◌, ◌+◌, ◌^◌, ◌++◌, drop, length}
-use Rattle.ga_node.specs.kept.Packed.{with_spare}
+use Rattle.ga_node.specs.inner.Packed.{with_spare}
 use Rattle.ga_node.proofs.saved.spread.Given as goal
 
 abbrev pub invariant-loop-old : goal.invariant-loop-old

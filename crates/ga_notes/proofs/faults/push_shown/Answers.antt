@@ -1,6 +1,6 @@
 use Rattle.std.proofs.Common.{ℕ, List, ◌∙◌, ◌++◌, ap, arith, refl}
 use Rattle.std.specs.Prelude.{slice_index}
-use Rattle.ga_notes.specs.kept.{shown_byte}
+use Rattle.ga_notes.specs.inner.{shown_byte}
 use Rattle.ga_text.proofs.SaidLemmas.{listed_none, listed_more, listed_all}
 use Rattle.ga_notes.proofs.faults.push_shown.Goals as goal
 

@@ -1,6 +1,6 @@
 use Rattle.std.proofs.Common.{◌≡◌, ◌≤◌, ◌+◌, ◌*◌, ◌++◌, take}
 use Rattle.arrayvec.specs.ArrayVec.{array_vec_len}
-use Rattle.ga_notes.specs.kept.{shown}
+use Rattle.ga_notes.specs.inner.{shown}
 use Rattle.ga_notes.proofs.faults.push_shown.Given as goal
 
 abbrev pub invariant-loop-byte : goal.invariant-loop-byte

@@ -1,5 +1,5 @@
 use Rattle.std.proofs.Common.{◌≤◌}
-use Rattle.ga_origin.specs.kept.{AreHeld}
+use Rattle.ga_origin.specs.inner.{AreHeld}
 use Rattle.ga_origin.proofs.kept.registers_at.Given as goal
 
 abbrev pub invariant-going : goal.invariant-going

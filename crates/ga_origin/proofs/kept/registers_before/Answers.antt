@@ -1,7 +1,7 @@
 use Rattle.std.proofs.Common.{sym, ◌∙◌, arith}
 use Rattle.std.proofs.lemmas.Bool.{and_parts}
 use Rattle.ga_origin.specs.declared.kept.Kept.TheVariants.{A, B}
-use Rattle.ga_origin.specs.kept.{rests}
+use Rattle.ga_origin.specs.inner.{rests}
 use Rattle.ga_origin.proofs.Resting.{word_rests}
 use Rattle.ga_origin.proofs.kept.registers_before.Goals as goal
 

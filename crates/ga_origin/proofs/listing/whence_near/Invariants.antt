@@ -2,7 +2,7 @@ use Rattle.std.proofs.Common.{◌≡◌, ◌+◌, ◌-◌, ◌*◌, ◌≤◌, l
 use Rattle.std.specs.List.{All}
 use Rattle.ga_lab.specs.Machine.{standing}
 use Rattle.ga_origin.specs.Rows.{row_at}
-use Rattle.ga_origin.specs.kept.{IsOpen}
+use Rattle.ga_origin.specs.inner.{IsOpen}
 use Rattle.ga_origin.proofs.Rows.{Tells}
 use Rattle.ga_origin.proofs.listing.whence_near.Given as goal
 

@@ -1,7 +1,7 @@
 use Rattle.std.proofs.Common.{◌≡◌, ◌≤◌, true}
 use Rattle.ga_event.specs.Flow.{IsPart}
 use Rattle.ga_origin.specs.Origins.{origin_of}
-use Rattle.ga_origin.specs.kept.{AreHeld}
+use Rattle.ga_origin.specs.inner.{AreHeld}
 use Rattle.ga_origin.proofs.trail.follow.Given as goal
 
 abbrev pub invariant-telling : goal.invariant-telling

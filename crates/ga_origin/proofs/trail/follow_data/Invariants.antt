@@ -1,7 +1,7 @@
 use Rattle.std.proofs.Common.{◌≡◌, ◌≤◌, ◌<◌, true}
 use Rattle.ga_event.specs.declared.flow.part.Part.TheVariants.{Data}
 use Rattle.ga_origin.specs.Origins.{origin_from, origin_of}
-use Rattle.ga_origin.specs.kept.{AreHeld}
+use Rattle.ga_origin.specs.inner.{AreHeld}
 use Rattle.ga_origin.proofs.trail.follow_data.Given as goal
 
 abbrev pub invariant-telling : goal.invariant-telling

@@ -2,7 +2,7 @@ use Rattle.std.proofs.Common.{◌≡◌, ◌≤◌, ◌<◌, ◌^◌}
 use Rattle.std.specs.Prelude.{slice_index}
 use Rattle.ga_origin.specs.Origins.{node_after}
 use Rattle.ga_origin.specs.Writes.{newest_written}
-use Rattle.ga_origin.specs.kept.{AreHeld}
+use Rattle.ga_origin.specs.inner.{AreHeld}
 use Rattle.ga_origin.proofs.writes.back_to_store.Given as goal
 
 -- no step so far ran a store

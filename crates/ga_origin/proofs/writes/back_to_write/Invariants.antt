@@ -1,6 +1,6 @@
 use Rattle.std.proofs.Common.{◌≡◌, ◌≤◌}
 use Rattle.ga_origin.specs.Writes.{newest_written}
-use Rattle.ga_origin.specs.kept.{IsReached}
+use Rattle.ga_origin.specs.inner.{IsReached}
 use Rattle.ga_origin.proofs.writes.back_to_write.Given as goal
 
 abbrev pub invariant-missing : goal.invariant-missing

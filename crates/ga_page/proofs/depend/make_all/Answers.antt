@@ -1,6 +1,6 @@
 use Rattle.std.proofs.Common.{[], ◌+◌, take, refl, sym, subst, ◌≡◌, ℕ, ◌<◌, List, ◌∷◌, ◌++◌, length, get_or, ◌∙◌, ap}
 use Rattle.ga_grid.specs.Chip.{records_of}
-use Rattle.ga_page.specs.kept.{MakesAll, none, Makes, more}
+use Rattle.ga_page.specs.inner.{MakesAll, none, Makes, more}
 use Rattle.std.proofs.lemmas.List.{take_more}
 use Rattle.ga_node.specs.Record.{NodeRecord}
 use Rattle.ga_event.specs.declared.event.Cause.{Cause}

@@ -1,6 +1,6 @@
 use Rattle.std.proofs.Common.{take}
 use Rattle.ga_grid.specs.Chip.{records_of}
-use Rattle.ga_page.specs.kept.{MakesAll}
+use Rattle.ga_page.specs.inner.{MakesAll}
 use Rattle.ga_page.proofs.depend.make_all.Given as goal
 
 -- the nodes so far have made their events

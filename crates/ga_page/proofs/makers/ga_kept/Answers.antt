@@ -2,7 +2,7 @@ use Rattle.std.proofs.Common.{[], Some, ap, ◌≡◌, ◌++◌, ℕ, List, leng
 use Rattle.ga_lab.specs.Machine.{State}
 use Rattle.ga_explorer.specs.Opening.{Exploring}
 use Rattle.ga_picture.specs.Following.{FollowsTo}
-use Rattle.ga_page.specs.kept.{makers_of}
+use Rattle.ga_page.specs.inner.{makers_of}
 use Rattle.ga_page.proofs.makers.ga_kept.Goals as goal
 
 -- What was told, of the machine that was reached.

@@ -2,7 +2,7 @@ use Rattle.std.proofs.Common.{◌∙◌, ◌≡◌, sym, inl, inr, rules}
 use Rattle.std.specs.Prelude.{Err}
 use Rattle.std.proofs.lemmas.List.{drop_all}
 use Rattle.ga_parser.specs.Requests.{word_refusal}
-use Rattle.ga_parser.specs.kept.Drafting.{asking_of}
+use Rattle.ga_parser.specs.inner.Drafting.{asking_of}
 use Rattle.ga_parser.proofs.Asking.{one_heard, one_refused, none_left}
 use Rattle.ga_parser.proofs.draft.read_node.Goals as goal
 

@@ -1,6 +1,6 @@
 use Rattle.std.proofs.Common.{◌≡◌, drop}
 use Rattle.ga_parser.specs.Asking.{asked_from, asked_by_words}
-use Rattle.ga_parser.specs.kept.Drafting.{asking_of}
+use Rattle.ga_parser.specs.inner.Drafting.{asking_of}
 use Rattle.ga_parser.specs.Saying.{all_said}
 use Rattle.ga_parser.proofs.draft.read_node.Given as goal
 

@@ -1,6 +1,6 @@
 use Rattle.std.specs.Prelude.{Err}
 use Rattle.std.proofs.Common.{refl, rules, ◌≡◌}
-use Rattle.ga_parser.specs.kept.Drafting.{asking_of}
+use Rattle.ga_parser.specs.inner.Drafting.{asking_of}
 use Rattle.ga_parser.proofs.draft.read_requests.Goals as goal
 
 pub returns-clause-asked : goal.returns-clause-asked

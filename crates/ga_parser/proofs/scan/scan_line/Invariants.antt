@@ -1,6 +1,6 @@
 use Rattle.std.proofs.Common.{◌≡◌, ◌≤◌, ◌+◌, ◌-◌, ◌++◌, false, length}
 use Rattle.ga_parser.specs.Saying.{parted, is_blank, all_said, columns_spoken, columns_of}
-use Rattle.ga_parser.specs.kept.Drafting.{IsTold}
+use Rattle.ga_parser.specs.inner.Drafting.{IsTold}
 use Rattle.ga_parser.proofs.scan.scan_line.Given as goal
 
 abbrev pub invariant-loop-rest : goal.invariant-loop-rest

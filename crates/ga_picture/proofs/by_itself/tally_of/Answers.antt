@@ -3,7 +3,7 @@ use Rattle.std.specs.List.{range_with_len}
 use Rattle.std.proofs.lemmas.List.FromFn.{map-range_with_len_more}
 use Rattle.ga_picture.specs.declared.item.PictureItem.{PictureItem}
 use Rattle.ga_picture.specs.Items.{item_at}
-use Rattle.ga_picture.specs.kept.{known_in, AreTallied, HasFew}
+use Rattle.ga_picture.specs.inner.{known_in, AreTallied, HasFew}
 use Rattle.ga_picture.proofs.by_itself.tally_of.Goals as goal
 
 pub events-init : goal.events-init

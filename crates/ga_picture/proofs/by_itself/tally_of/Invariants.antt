@@ -1,7 +1,7 @@
 use Rattle.std.proofs.Common.{◌≡◌, ℕ, ◌-◌, ◌<◌, Bool, false, length, map, get_or}
 use Rattle.std.specs.List.{range_with_len}
 use Rattle.ga_picture.specs.Items.{item_at, is_plain_at}
-use Rattle.ga_picture.specs.kept.{known_in, AreTallied, HasFew}
+use Rattle.ga_picture.specs.inner.{known_in, AreTallied, HasFew}
 use Rattle.ga_picture.proofs.by_itself.tally_of.Given as goal
 
 abbrev pub invariant-events : goal.invariant-events

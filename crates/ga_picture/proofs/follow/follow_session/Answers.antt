@@ -2,7 +2,7 @@ use Rattle.std.proofs.Common.{ℕ, ◌-◌, List, ◌++◌, Some, sym, ap, subst
 use Rattle.std.proofs.lemmas.List.{append-nil}
 use Rattle.ga_explorer.specs.Opening.{IsFront}
 use Rattle.ga_picture.specs.Following.Unreached.{unbegun}
-use Rattle.ga_picture.specs.kept.{Goes}
+use Rattle.ga_picture.specs.inner.{Goes}
 use Rattle.ga_picture.proofs.Following.{reaches_after}
 use Rattle.ga_picture.proofs.follow.follow_session.Goals as goal
 

@@ -6,7 +6,7 @@ use Rattle.ga_causal.specs.Dependence.{is_marked}
 use Rattle.ga_picture.specs.declared.item.PictureItem.{PictureItem}
 use Rattle.ga_picture.specs.Items.{item_at}
 use Rattle.ga_picture.specs.Drawing.{without_nodes}
-use Rattle.ga_picture.specs.kept.{known_in}
+use Rattle.ga_picture.specs.inner.{known_in}
 use Rattle.ga_picture.proofs.item.items.Goals as goal
 
 pub events-init : goal.events-init

@@ -3,7 +3,7 @@ use Rattle.std.specs.List.{range_with_len}
 use Rattle.ga_causal.specs.Dependence.{is_marked}
 use Rattle.ga_picture.specs.Items.{item_at, is_plain_at}
 use Rattle.ga_picture.specs.Drawing.{without_nodes}
-use Rattle.ga_picture.specs.kept.{known_in}
+use Rattle.ga_picture.specs.inner.{known_in}
 use Rattle.ga_picture.proofs.item.items.Given as goal
 
 abbrev pub invariant-events : goal.invariant-events

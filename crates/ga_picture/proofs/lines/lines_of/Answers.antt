@@ -1,7 +1,7 @@
 use Rattle.std.proofs.Common.{◌≡◌, ◌+◌, List, [], ◌∷◌, ◌++◌, Vec, Global, length, set, replicate, sym, ◌∙◌, ap, subst, arith}
 use Rattle.ga_grid.specs.declared.node_id.NodeId.{NodeId}
 use Rattle.ga_causal.specs.Dependence.{is_marked}
-use Rattle.ga_picture.specs.kept.{AreLines}
+use Rattle.ga_picture.specs.inner.{AreLines}
 use Rattle.ga_picture.proofs.Shaded.{lines_none, lines_same, lines_more}
 use Rattle.ga_picture.proofs.lines.lines_of.Goals as goal
 use Rattle.ga_picture.proofs.lines.lines_of.Goals.{then-has+in_ok-push, else-has}

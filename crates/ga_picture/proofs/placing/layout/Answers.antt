@@ -5,7 +5,7 @@ use Rattle.ga_picture.specs.declared.item.PictureItem.{PictureItem}
 use Rattle.ga_picture.specs.declared.placing.PictureRow.{PictureRow}
 use Rattle.ga_picture.specs.Drawing.{IsShape, IsRow}
 use Rattle.ga_picture.specs.Items.{actor, at_place, no_item, IsSimple, run_before, before_at, behind_at, steps_at, rows_below}
-use Rattle.ga_picture.specs.kept.{count_in}
+use Rattle.ga_picture.specs.inner.{count_in}
 use Rattle.ga_picture.proofs.Listed.{touched_below}
 use Rattle.ga_picture.proofs.Running.{before_first, before_more, behind_few, count_few}
 use Rattle.ga_picture.proofs.Laid.{AreLaid, laid_none, laid_more, laid_same, steps_are, row_is, is_in, steps_shown}

@@ -1,7 +1,7 @@
 use Rattle.std.proofs.Common.{◌≡◌, ◌+◌, ◌-◌, ◌<◌, length, ap, sym, ◌∙◌, subst, set, arith}
 use Rattle.std.proofs.lemmas.List.{get_or_default, length-replicate}
 use Rattle.ga_picture.specs.Items.{at_place, no_item, IsSimple}
-use Rattle.ga_picture.specs.kept.{count_in}
+use Rattle.ga_picture.specs.inner.{count_in}
 use Rattle.ga_picture.proofs.Running.{AreBehind, behind_first, behind_more}
 use Rattle.ga_picture.proofs.runs.runs_behind.Goals as goal
 

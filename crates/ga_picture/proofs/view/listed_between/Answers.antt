@@ -1,5 +1,5 @@
 use Rattle.ga_causal.specs.Dependence.{is_marked}
-use Rattle.ga_picture.specs.kept.{known_in}
+use Rattle.ga_picture.specs.inner.{known_in}
 use Rattle.ga_picture.proofs.Listed.{items_held}
 use Rattle.ga_picture.proofs.view.listed_between.Goals as goal
 

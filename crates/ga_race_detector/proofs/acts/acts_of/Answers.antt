@@ -3,7 +3,7 @@ use Rattle.std.proofs.lemmas.List.{length-set}
 use Rattle.ga_lab.specs.Machine.{chip_of}
 use Rattle.ga_race_detector.proofs.Acting.{plain_causes, plain_size, acts_next, causes_next, all_alike, is_at, cause_at, stood_from, whole_list, none_made, moments_none, moments_next, moments_all}
 use Rattle.ga_event.specs.declared.event.Cause.{Cause}
-use Rattle.ga_race_detector.specs.kept.Glances.{IsMoment}
+use Rattle.ga_race_detector.specs.inner.Glances.{IsMoment}
 use Rattle.ga_race_detector.proofs.acts.acts_of.Goals as goal
 
 pub back-init : goal.back-init

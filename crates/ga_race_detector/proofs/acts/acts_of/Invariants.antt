@@ -1,5 +1,5 @@
 use Rattle.std.proofs.Common.{◌≡◌, ◌≤◌, length}
-use Rattle.ga_race_detector.specs.kept.Glances.{AllStood, AreMomentsFrom}
+use Rattle.ga_race_detector.specs.inner.Glances.{AllStood, AreMomentsFrom}
 use Rattle.ga_race_detector.proofs.Acting.{AreActsFrom, HaveCauses}
 use Rattle.ga_race_detector.proofs.acts.acts_of.Given as goal
 

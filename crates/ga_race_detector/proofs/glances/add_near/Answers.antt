@@ -2,7 +2,7 @@ use Rattle.std.proofs.Common.{List, [], ◌∷◌, Contains, sym, subst}
 use Rattle.std.specs.List.{All}
 use Rattle.std.proofs.lemmas.List.Elements.{All-push, Contains-push, Contains-append_left}
 use Rattle.ga_race_detector.specs.declared.glances.Glance.{Glance}
-use Rattle.ga_race_detector.specs.kept.Glances.{IsGlanced}
+use Rattle.ga_race_detector.specs.inner.Glances.{IsGlanced}
 use Rattle.std.proofs.lemmas.Result.{on_ok_weaker}
 use Rattle.ga_race_detector.proofs.Glancing.{not_shown}
 use Rattle.ga_race_detector.proofs.NearReadings.{look_there, asked_of}

@@ -4,7 +4,7 @@ use Rattle.std.proofs.lemmas.List.{take_all, get_or_default}
 use Rattle.std.proofs.lemmas.List.Elements.{All-nil}
 use Rattle.ga_races.specs.declared.near.Near.{Near}
 use Rattle.ga_race_detector.specs.declared.glances.Glance.{Glance}
-use Rattle.ga_race_detector.specs.kept.Glances.{IsGlanced, AreGlanced}
+use Rattle.ga_race_detector.specs.inner.Glances.{IsGlanced, AreGlanced}
 use Rattle.ga_race_detector.proofs.NearReadings.{glanced_first, glanced_next}
 use Rattle.ga_race_detector.proofs.glances.glances_of.Goals as goal
 

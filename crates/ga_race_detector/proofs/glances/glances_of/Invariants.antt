@@ -1,6 +1,6 @@
 use Rattle.std.proofs.Common.{take}
 use Rattle.std.specs.List.{All}
-use Rattle.ga_race_detector.specs.kept.Glances.{IsGlanced, AreGlanced}
+use Rattle.ga_race_detector.specs.inner.Glances.{IsGlanced, AreGlanced}
 use Rattle.ga_race_detector.proofs.glances.glances_of.Given as goal
 
 abbrev pub invariant-nears : goal.invariant-nears

@@ -1,7 +1,7 @@
 use Rattle.std.proofs.Common.{◌+◌, ◌∙◌, ◌<◌, ℕ, cond, length, refl, drop, get_or, sym, ap, subst, arith}
 use Rattle.ga_causal.specs.Dependence.{cause_touches}
 use Rattle.ga_grid.specs.declared.node_id.NodeId.{NodeId}
-use Rattle.ga_race_detector.specs.kept.Writers.{IsTaken}
+use Rattle.ga_race_detector.specs.inner.Writers.{IsTaken}
 use Rattle.ga_race_detector.proofs.Depths.{going_taken, IsGoing}
 use Rattle.ga_race_detector.proofs.Lefts.{going_none, going_end, touching_next, behind_here, one_most, if_ok}
 use Rattle.ga_race_detector.proofs.left.steps_left.Goals as goal

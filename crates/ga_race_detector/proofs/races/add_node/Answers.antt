@@ -5,7 +5,7 @@ use Rattle.ga_race_detector.specs.declared.races.Race.{Race}
 use Rattle.ga_event.specs.Told.{steps_of}
 use Rattle.ga_lab.specs.Machine.{State, history_of}
 use Rattle.ga_race_detector.specs.Races.{races_told, races_before}
-use Rattle.ga_race_detector.specs.kept.Writers.{IsBeside}
+use Rattle.ga_race_detector.specs.inner.Writers.{IsBeside}
 use Rattle.ga_race_detector.proofs.Behind.{stands_within}
 use Rattle.ga_race_detector.proofs.Racing.{one_more, none_before, told_there}
 use Rattle.ga_race_detector.proofs.races.add_node.Goals as goal

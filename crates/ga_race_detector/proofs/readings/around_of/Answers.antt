@@ -4,7 +4,7 @@ use Rattle.std.proofs.lemmas.List.Elements.{All-get_or}
 use Rattle.ga_causal.specs.Steps.{touching}
 use Rattle.ga_grid.specs.declared.node_id.NodeId.{NodeId}
 use Rattle.ga_race_detector.specs.declared.glances.Glance.{Glance}
-use Rattle.ga_race_detector.specs.kept.Glances.{AreAround, IsAround, HasStep, IsAroundOf, taken_of}
+use Rattle.ga_race_detector.specs.inner.Glances.{AreAround, IsAround, HasStep, IsAroundOf, taken_of}
 use Rattle.ga_race_detector.proofs.readings.around_of.Goals as goal
 
 pub returns-in-Some-clause-around : goal.returns-in-Some-clause-around

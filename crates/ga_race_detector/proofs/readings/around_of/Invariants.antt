@@ -1,5 +1,5 @@
 use Rattle.std.proofs.Common.{◌≡◌, length}
-use Rattle.ga_race_detector.specs.kept.Glances.{AreKnown}
+use Rattle.ga_race_detector.specs.inner.Glances.{AreKnown}
 use Rattle.ga_race_detector.proofs.readings.around_of.Given as goal
 
 abbrev pub invariant-others : goal.invariant-others

@@ -1,7 +1,7 @@
 use Rattle.std.proofs.Common.{◌≡◌, ◌<◌, ◌≤◌, ℕ, sym, subst}
 use Rattle.ga_causal.specs.Steps.{touching}
 use Rattle.ga_grid.specs.declared.node_id.NodeId.{NodeId}
-use Rattle.ga_race_detector.specs.kept.Glances.{IsAround, taken_of, IsAroundOf}
+use Rattle.ga_race_detector.specs.inner.Glances.{IsAround, taken_of, IsAroundOf}
 use Rattle.ga_race_detector.proofs.Lefts.{hang_around, known_next}
 use Rattle.ga_race_detector.proofs.readings.note.Goals as goal
 

@@ -4,7 +4,7 @@ use Rattle.ga_event.specs.Told.{steps_of}
 use Rattle.ga_causal.specs.Dependence.{rewound_list}
 use Rattle.ga_causal.proofs.Places.{touching_in}
 use Rattle.ga_lab.specs.Machine.{chip_of, causes_of, rewound}
-use Rattle.ga_race_detector.specs.kept.Glances.{taken_of}
+use Rattle.ga_race_detector.specs.inner.Glances.{taken_of}
 use Rattle.ga_race_detector.proofs.Glancing.{looks_again}
 use Rattle.ga_race_detector.proofs.readings.other_word.Goals as goal
 

@@ -4,7 +4,7 @@ use Rattle.std.proofs.lemmas.List.Elements.{All-nil, All-get_or}
 use Rattle.ga_event.specs.declared.event.Cause.{Cause}
 use Rattle.ga_race_detector.specs.Readings.{IsTold}
 use Rattle.ga_race_detector.specs.declared.readings.Reading.{Reading}
-use Rattle.ga_race_detector.specs.kept.Glances.{IsGlanced, IsAroundOf}
+use Rattle.ga_race_detector.specs.inner.Glances.{IsGlanced, IsAroundOf}
 use Rattle.ga_race_detector.proofs.Glancing.{all_steps}
 use Rattle.ga_race_detector.proofs.Lefts.{known_none}
 use Rattle.ga_race_detector.proofs.NearReadings.{read_first, read_next, read_all}

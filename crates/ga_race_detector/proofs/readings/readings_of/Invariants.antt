@@ -1,7 +1,7 @@
 use Rattle.std.proofs.Common.{◌≡◌, length}
 use Rattle.std.specs.List.{All}
 use Rattle.ga_race_detector.specs.Readings.{IsTold}
-use Rattle.ga_race_detector.specs.kept.Glances.{AreKnown}
+use Rattle.ga_race_detector.specs.inner.Glances.{AreKnown}
 use Rattle.ga_race_detector.proofs.NearReadings.{AreReadUpto}
 use Rattle.ga_race_detector.proofs.readings.readings_of.Given as goal
 

@@ -1,7 +1,7 @@
 use Rattle.std.proofs.Common.{◌≡◌, ℕ, ◌<◌, true, false}
 use Rattle.ga_grid.specs.Chip.{records_of}
 use Rattle.ga_causal.specs.Dependence.{is_marked}
-use Rattle.ga_races.specs.kept.{is_freed}
+use Rattle.ga_races.specs.inner.{is_freed}
 use Rattle.ga_races.proofs.freed.first_freed.Given as goal
 
 abbrev pub invariant-loop-number : goal.invariant-loop-number

@@ -1,5 +1,5 @@
 use Rattle.std.proofs.Common.{◌≤◌}
-use Rattle.ga_races.specs.kept.{IsMore, OfLook}
+use Rattle.ga_races.specs.inner.{IsMore, OfLook}
 use Rattle.ga_races.proofs.near.add_changes.Given as goal
 
 abbrev pub invariant-back : goal.invariant-back

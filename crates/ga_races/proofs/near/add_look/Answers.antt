@@ -4,7 +4,7 @@ use Rattle.std.proofs.lemmas.Result.{on_ok_weaker}
 use Rattle.ga_races.specs.declared.near.Near.{Near}
 use Rattle.ga_races.specs.HappensBefore.{action_at}
 use Rattle.ga_races.specs.Acts.{actions_in, is_look_of}
-use Rattle.ga_races.specs.kept.{IsMore, OfPair, OfChange}
+use Rattle.ga_races.specs.inner.{IsMore, OfPair, OfChange}
 use Rattle.ga_races.proofs.Asking.{look_found, look_hidden, look_none}
 use Rattle.ga_races.proofs.near.add_look.Goals as goal
 

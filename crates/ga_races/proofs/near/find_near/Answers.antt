@@ -1,7 +1,7 @@
 use Rattle.std.proofs.Common.{◌≡◌, List, [], subst, arith}
 use Rattle.ga_causal.specs.Dependence.{is_marked}
 use Rattle.ga_races.specs.declared.near.Near.{Near}
-use Rattle.ga_races.specs.kept.{IsMore, BelowPlace}
+use Rattle.ga_races.specs.inner.{IsMore, BelowPlace}
 use Rattle.ga_races.proofs.Asking.{none_first, place_next, marks_next, all_found}
 use Rattle.ga_races.proofs.near.find_near.Goals as goal
 

@@ -1,6 +1,6 @@
 use Rattle.std.proofs.Common.{[]}
 use Rattle.ga_causal.specs.Dependence.{is_marked}
-use Rattle.ga_races.specs.kept.{IsMore, BelowPlace, LooksAreMarked}
+use Rattle.ga_races.specs.inner.{IsMore, BelowPlace, LooksAreMarked}
 use Rattle.ga_races.proofs.near.find_near.Given as goal
 
 abbrev pub invariant-acts : goal.invariant-acts

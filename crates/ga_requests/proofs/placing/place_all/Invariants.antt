@@ -1,7 +1,7 @@
 use Rattle.std.proofs.Common.{drop, map}
 use Rattle.serde_json.specs.View.{view}
 use Rattle.ga_requests.specs.Placing.{Placement, Places}
-use Rattle.ga_requests.specs.kept.{placement_of}
+use Rattle.ga_requests.specs.inner.{placement_of}
 use Rattle.ga_requests.proofs.placing.place_all.Given as goal
 
 abbrev pub invariant-asked : goal.invariant-asked

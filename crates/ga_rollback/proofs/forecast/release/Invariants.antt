@@ -1,7 +1,7 @@
 use Rattle.std.proofs.Common.{◌≡◌, ℕ, ◌<◌, ◌≤◌}
 use Rattle.ga_journal.specs.Marks.{going_of}
-use Rattle.ga_journal.specs.kept.Marks.{to_go}
-use Rattle.ga_rollback.specs.kept.{IsRaising}
+use Rattle.ga_journal.specs.inner.Marks.{to_go}
+use Rattle.ga_rollback.specs.inner.{IsRaising}
 use Rattle.ga_rollback.proofs.forecast.release.Given as goal
 
 abbrev pub invariant-nodes : goal.invariant-nodes

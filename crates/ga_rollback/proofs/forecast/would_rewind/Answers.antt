@@ -2,7 +2,7 @@ use Rattle.std.proofs.Common.{refl, inl, inr, ⊎_elim, ◌≡◌, ◌<◌, ap, 
 use Rattle.ga_journal.specs.Histories.{Book}
 use Rattle.ga_journal.specs.Events.{kept_of}
 use Rattle.ga_journal.specs.Marks.{mark_of, going_of}
-use Rattle.ga_rollback.specs.kept.{counted_of}
+use Rattle.ga_rollback.specs.inner.{counted_of}
 use Rattle.ga_rollback.proofs.Rewinding.{back_fits}
 use Rattle.ga_rollback.proofs.Foretold.{counted_all, would_go, as_before, forecast_ticks, steps_whole}
 use Rattle.ga_rollback.proofs.forecast.would_rewind.Goals as goal

@@ -3,7 +3,7 @@ use Rattle.std.proofs.lemmas.Option.{same_Some}
 use Rattle.ga_journal.specs.Histories.{Book}
 use Rattle.ga_journal.specs.Marks.{mark_of, lowered}
 use Rattle.ga_journal.specs.Looks.{SawNoneToGo}
-use Rattle.ga_rollback.specs.kept.{Same, Further}
+use Rattle.ga_rollback.specs.inner.{Same, Further}
 use Rattle.ga_rollback.proofs.Lowering.{lowered_same}
 use Rattle.ga_rollback.proofs.Lookers.{after_lowered, searched, still_saw, ticks_fit}
 use Rattle.ga_rollback.proofs.rollback.lower_looker.Goals as goal

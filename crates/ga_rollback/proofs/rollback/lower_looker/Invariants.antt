@@ -1,5 +1,5 @@
 use Rattle.ga_journal.specs.Marks.{mark_of}
-use Rattle.ga_rollback.specs.kept.{AreLowered}
+use Rattle.ga_rollback.specs.inner.{AreLowered}
 use Rattle.ga_rollback.proofs.rollback.lower_looker.Given as goal
 
 abbrev pub invariant-finding : goal.invariant-finding

@@ -3,7 +3,7 @@ use Rattle.ga_node.specs.Record.{record_of}
 use Rattle.ga_event.specs.Told.{steps_of}
 use Rattle.ga_lab.specs.Machine.{State, standing, earlier}
 use Rattle.ga_search.specs.declared.condition.Condition.{Condition}
-use Rattle.ga_search.specs.kept.{asked_node}
+use Rattle.ga_search.specs.inner.{asked_node}
 use Rattle.ga_search.proofs.Newest.{stands_at, holds_here, comes_here, reaches_here, writes_here}
 use Rattle.ga_search.proofs.going_back.held.Goals as goal
 

@@ -1,5 +1,5 @@
 use Rattle.std.proofs.Common.{◌≡◌, ◌≤◌, max, drop, length}
-use Rattle.ga_search.specs.kept.{all_upto}
+use Rattle.ga_search.specs.inner.{all_upto}
 use Rattle.ga_search.proofs.going_back.newest_held.Given as goal
 
 abbrev pub invariant-conditions : goal.invariant-conditions

@@ -4,7 +4,7 @@ use Rattle.ga_grid.specs.declared.node_id.NodeId.{NodeId}
 use Rattle.ga_event.specs.Apply.{replay}
 use Rattle.ga_event.specs.Told.{steps_of, made_in}
 use Rattle.ga_lab.specs.Machine.{State, Standing, earlier, told_of_kept, Telling, telling, told_before}
-use Rattle.ga_search.specs.kept.{counted, counted_by, asked_node, held_upto, is_held}
+use Rattle.ga_search.specs.inner.{counted, counted_by, asked_node, held_upto, is_held}
 use Rattle.ga_search.proofs.Newest.{whole_earlier, fewer_before, counted_back}
 use Rattle.ga_search.proofs.Backing.{told_prev, below, found, ended, steps_whole, stands_now}
 use Rattle.ga_search.proofs.going_back.search_back.Goals as goal

@@ -1,7 +1,7 @@
 use Rattle.std.proofs.Common.{◌≡◌, ◌≤◌, max, take, length}
 use Rattle.ga_event.specs.Told.{steps_of}
 use Rattle.ga_lab.specs.Machine.{earlier, telling}
-use Rattle.ga_search.specs.kept.{counted, asked_node, held_upto}
+use Rattle.ga_search.specs.inner.{counted, asked_node, held_upto}
 use Rattle.ga_search.proofs.going_back.search_back.Given as goal
 
 abbrev pub invariant-loop-place : goal.invariant-loop-place

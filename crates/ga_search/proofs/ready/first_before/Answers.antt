@@ -1,5 +1,5 @@
 use Rattle.std.proofs.Common.{Some, None, arith}
-use Rattle.ga_search.specs.kept.{has}
+use Rattle.ga_search.specs.inner.{has}
 use Rattle.ga_races.proofs.Ready.{behind_is, none_other}
 use Rattle.ga_search.proofs.ready.first_before.Goals as goal
 

@@ -1,4 +1,4 @@
-use Rattle.ga_search.specs.kept.{has}
+use Rattle.ga_search.specs.inner.{has}
 use Rattle.ga_races.proofs.Ready.{ahead_is}
 use Rattle.ga_search.proofs.ready.first_behind.Goals as goal
 

@@ -1,7 +1,7 @@
 use Rattle.std.proofs.Common.{◌∙◌, sym, subst, Option}
 use Rattle.std.specs.Prelude.{IfSome}
 use Rattle.ga_grid.specs.declared.node_id.NodeId.{NodeId}
-use Rattle.ga_search.specs.kept.{has, IsAlone}
+use Rattle.ga_search.specs.inner.{has, IsAlone}
 use Rattle.ga_races.proofs.Ready.{alone_is, turn_is}
 use Rattle.ga_search.proofs.ready.next_from.Goals as goal
 

@@ -1,6 +1,6 @@
 use Rattle.std.proofs.Common.{ℕ, ◌<◌, ◌≤◌}
 use Rattle.ga_grid.specs.Chip.{records_of}
-use Rattle.ga_search.specs.kept.{IsRight}
+use Rattle.ga_search.specs.inner.{IsRight}
 use Rattle.ga_search.proofs.ready.ready_nodes.Given as goal
 
 abbrev pub invariant-loop-number : goal.invariant-loop-number

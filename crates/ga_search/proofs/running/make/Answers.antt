@@ -2,7 +2,7 @@ use Rattle.std.proofs.Common.{◌≡◌, ◌∙◌, ℕ, ◌+◌, ap, sym, subst
 use Rattle.std.specs.Prelude.{is_some}
 use Rattle.ga_grid.specs.Chip.{records_of}
 use Rattle.ga_lab.specs.Machine.{chip_of, stepped, step_answer}
-use Rattle.ga_search.specs.kept.{HoldsReady, StaysRight, IsRefreshed, newest_told}
+use Rattle.ga_search.specs.inner.{HoldsReady, StaysRight, IsRefreshed, newest_told}
 use Rattle.ga_search.specs.Words.{one_over, word_count}
 use Rattle.ga_search.proofs.WordCounts.{counted_step}
 use Rattle.ga_search.proofs.Newest.{newest_step}

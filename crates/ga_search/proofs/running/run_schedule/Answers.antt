@@ -1,6 +1,6 @@
 use Rattle.std.proofs.Common.{◌∙◌, refl, sym, ap, arith, subst}
 use Rattle.std.specs.Prelude.{is_some}
-use Rattle.ga_search.specs.kept.{HoldsReady}
+use Rattle.ga_search.specs.inner.{HoldsReady}
 use Rattle.ga_search.specs.Running.{Running, running, after_events, AreMade, HasEnded}
 use Rattle.ga_search.proofs.Events.{gone_on, never_more, made_one, over_state, over_made, over_end, over_most}
 use Rattle.ga_search.proofs.running.run_schedule.Goals as goal

@@ -2,7 +2,7 @@ use Rattle.std.proofs.Common.{◌≡◌, ◌-◌, ◌≤◌, length}
 use Rattle.std.specs.Prelude.{IsSome, IfSome}
 use Rattle.ga_event.specs.Apply.{replay}
 use Rattle.ga_lab.specs.Machine.{chip_of}
-use Rattle.ga_search.specs.kept.{HoldsReady, IsAlone, AreCounted}
+use Rattle.ga_search.specs.inner.{HoldsReady, IsAlone, AreCounted}
 use Rattle.ga_search.specs.Running.{running, after_events, AreMade, NeverHolds}
 use Rattle.ga_search.proofs.running.run_schedule.Given as goal
 

@@ -1,6 +1,6 @@
 use Rattle.std.proofs.Common.{◌≡◌, ◌∙◌, true, false, refl, ap, arith, subst}
 use Rattle.std.specs.Prelude.{is_some}
-use Rattle.ga_search.specs.kept.{HoldsReady}
+use Rattle.ga_search.specs.inner.{HoldsReady}
 use Rattle.ga_search.specs.Running.{Running, running}
 use Rattle.ga_search.specs.Watched.{watching, ends_behind}
 use Rattle.ga_search.proofs.Events.{gone_on_first, made_more_first, seen_more, ends_is, never_more_first, ended_seen, ended_halted_first}

@@ -2,7 +2,7 @@ use Rattle.std.proofs.Common.{◌≡◌, ◌-◌, ◌≤◌}
 use Rattle.std.specs.Prelude.{IsSome, IfSome}
 use Rattle.ga_event.specs.Apply.{replay}
 use Rattle.ga_lab.specs.Machine.{chip_of}
-use Rattle.ga_search.specs.kept.{HoldsReady, IsAlone}
+use Rattle.ga_search.specs.inner.{HoldsReady, IsAlone}
 use Rattle.ga_search.specs.Running.{running}
 use Rattle.ga_search.specs.Watched.{after_first, AreMadeFirst, watching, watch_after, NeverEnds}
 use Rattle.ga_search.proofs.watched.run_watched.Given as goal

@@ -1,7 +1,7 @@
 use Rattle.std.proofs.Common.{◌≡◌, ℕ, ◌<◌, Some, length}
 use Rattle.std.specs.Prelude.{slice_get, slice_index}
 use Rattle.ga_search.specs.declared.condition.Condition.{Condition}
-use Rattle.ga_search.specs.kept.{counted}
+use Rattle.ga_search.specs.inner.{counted}
 use Rattle.ga_search.proofs.watching.count_all.Given as goal
 
 abbrev pub invariant-loop-place : goal.invariant-loop-place

@@ -1,7 +1,7 @@
 use Rattle.std.proofs.Common.{◌≡◌, ℕ, ◌+◌, ◌<◌, ◌≤◌, Some, length}
 use Rattle.std.specs.Prelude.{slice_get, slice_index}
 use Rattle.ga_search.specs.declared.condition.Condition.{Condition}
-use Rattle.ga_search.specs.kept.{counted, counted_by}
+use Rattle.ga_search.specs.inner.{counted, counted_by}
 use Rattle.ga_search.proofs.watching.count_on.Given as goal
 
 abbrev pub invariant-loop-place : goal.invariant-loop-place

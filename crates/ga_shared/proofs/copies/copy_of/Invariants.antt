@@ -1,7 +1,7 @@
 use Rattle.std.proofs.Common.{◌≡◌, ◌<◌, ◌≤◌, ℕ, length}
 use Rattle.ga_node.specs.Record.{record_of}
 use Rattle.ga_grid.specs.Chip.{node_at}
-use Rattle.ga_shared.specs.kept.{IsFresh}
+use Rattle.ga_shared.specs.inner.{IsFresh}
 use Rattle.ga_shared.proofs.copies.copy_of.Given as goal
 
 abbrev pub invariant-loop-number : goal.invariant-loop-number

@@ -1,7 +1,7 @@
 use Rattle.std.proofs.Common.{◌≡◌, ◌+◌, [], ◌∷◌, ◌++◌, length, Some, arith, sym, ap, ◌∙◌, subst, vec_len, map, true≢false}
 use Rattle.std.specs.Prelude.{slice_get}
 use Rattle.ga_shared.specs.Log.{Worker, fresh_worker}
-use Rattle.ga_shared.specs.kept.{IsDone}
+use Rattle.ga_shared.specs.inner.{IsDone}
 use Rattle.ga_shared.proofs.Places.{Each-push, Each-front, Each-last, Each-along, on_ok, slice_get-last, slice_get-front}
 use Rattle.ga_shared.proofs.racing.run_all.Goals as goal
 use Rattle.ga_shared.proofs.racing.run_all.Goals.{then-is_err, else-is_err}

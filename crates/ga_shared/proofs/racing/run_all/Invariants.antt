@@ -1,7 +1,7 @@
 use Rattle.std.proofs.Common.{◌≡◌, ◌+◌, ◌<◌, ◌≤◌, ℕ, vec_len, map, true, Some}
 use Rattle.std.specs.Prelude.{slice_get, vec_capacity}
 use Rattle.ga_shared.specs.Log.{Worker, fresh_worker}
-use Rattle.ga_shared.specs.kept.{IsDone}
+use Rattle.ga_shared.specs.inner.{IsDone}
 use Rattle.ga_shared.proofs.racing.run_all.Given as goal
 
 abbrev pub invariant-loop-seat : goal.invariant-loop-seat

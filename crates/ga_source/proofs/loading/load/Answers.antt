@@ -2,7 +2,7 @@ use Rattle.std.proofs.Common.{rules, refl, ◌≡◌, ◌<◌, ◌≤◌, length
 use Rattle.std.specs.Prelude.{Err}
 use Rattle.ga_source.specs.declared.group.Group.{Group}
 use Rattle.ga_source.specs.Cells.{KeepsElsewhere}
-use Rattle.ga_source.specs.kept.{takes_group, IsLoadedGroup}
+use Rattle.ga_source.specs.inner.{takes_group, IsLoadedGroup}
 use Rattle.ga_source.proofs.CellGroups.{all_open, open_more, never_twice}
 use Rattle.ga_source.proofs.Held.{rest_both, elsewhere_more, loaded_more, all_read}
 use Rattle.ga_source.proofs.loading.load.Goals as goal

@@ -1,7 +1,7 @@
 use Rattle.std.proofs.Common.{ℕ, ◌≡◌, List, length, take}
 use Rattle.std.specs.List.{All}
 use Rattle.ga_source.specs.Cells.{KeepsElsewhere}
-use Rattle.ga_source.specs.kept.{are_taken, IsLoadedGroup, KeepsRest, AreCellGroups}
+use Rattle.ga_source.specs.inner.{are_taken, IsLoadedGroup, KeepsRest, AreCellGroups}
 use Rattle.ga_source.specs.Made.{AreDistinctCells}
 use Rattle.ga_source.proofs.CellGroups.{AreOpen}
 use Rattle.ga_source.proofs.loading.load.Given as goal

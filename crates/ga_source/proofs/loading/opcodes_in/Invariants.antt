@@ -1,6 +1,6 @@
 use Rattle.std.proofs.Common.{◌≡◌, ℕ, ◌<◌, ◌≤◌, length, slice_index_or}
 use Rattle.ga_slots.specs.declared.op.Op.TheVariants.{Return, Nop}
-use Rattle.ga_source.specs.kept.{op_in, nothing}
+use Rattle.ga_source.specs.inner.{op_in, nothing}
 use Rattle.ga_source.proofs.loading.opcodes_in.Given as goal
 
 abbrev pub invariant-loop-slot : goal.invariant-loop-slot

@@ -1,7 +1,7 @@
 use Rattle.std.proofs.Common.{◌<◌, List, length, sym, subst}
 use Rattle.std.specs.Prelude.{IfSome}
 use Rattle.ga_parser.specs.declared.item.Item.{Item}
-use Rattle.ga_source.specs.kept.{IsFit, IsWordOf}
+use Rattle.ga_source.specs.inner.{IsFit, IsWordOf}
 use Rattle.ga_source.proofs.Laying.{four_codes, word_found}
 use Rattle.ga_source.proofs.loading.word_of.Goals as goal
 

@@ -1,6 +1,6 @@
 use Rattle.std.proofs.Common.{rules, ◌≡◌, ◌∙◌, ℕ, Option, ◌<◌, ◌≤◌, None, ap, subst, List, length, slice_index_or}
 use Rattle.ga_parser.specs.declared.item.Item.{Item}
-use Rattle.ga_source.specs.kept.{nothing}
+use Rattle.ga_source.specs.inner.{nothing}
 use Rattle.ga_parser.specs.declared.item.Operand.TheVariants.{Number}
 use Rattle.ga_source.proofs.CellGroups.{given_set, cell_item}
 use Rattle.ga_source.proofs.Walking.{nil_of}

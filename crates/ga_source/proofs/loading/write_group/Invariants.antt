@@ -1,5 +1,5 @@
 use Rattle.std.proofs.Common.{ℕ, ◌≡◌, ◌≢◌, ◌%◌, None, slice_index_or}
-use Rattle.ga_source.specs.kept.{IsWriting, IsCellGroup}
+use Rattle.ga_source.specs.inner.{IsWriting, IsCellGroup}
 use Rattle.ga_source.proofs.loading.write_group.Given as goal
 
 abbrev pub invariant-loop-i : goal.invariant-loop-i

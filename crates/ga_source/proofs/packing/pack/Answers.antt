@@ -1,7 +1,7 @@
 use Rattle.std.proofs.Common.{rules, ◌≡◌, List, arith, ◌<◌, length, take, sym, subst, refl}
 use Rattle.std.specs.Prelude.{Err}
 use Rattle.std.proofs.lemmas.List.{take_all, take_more, map-append}
-use Rattle.ga_source.specs.kept.{IsWalked, IsGrouped, requests_of, IsPackedPlain}
+use Rattle.ga_source.specs.inner.{IsWalked, IsGrouped, requests_of, IsPackedPlain}
 use Rattle.ga_parser.specs.declared.item.Asked.{Asked}
 use Rattle.ga_source.proofs.CellGroups.{none_packed, one_plain}
 use Rattle.ga_source.proofs.Marking.{walked_none, laid_out}

@@ -1,5 +1,5 @@
 use Rattle.std.proofs.Common.{take}
-use Rattle.ga_source.specs.kept.{IsInCell, IsWalked, IsGrouped, requests_of, ArePlain, IsPackedPlain}
+use Rattle.ga_source.specs.inner.{IsInCell, IsWalked, IsGrouped, requests_of, ArePlain, IsPackedPlain}
 use Rattle.ga_source.proofs.packing.pack.Given as goal
 
 abbrev pub invariant-loop-one : goal.invariant-loop-one

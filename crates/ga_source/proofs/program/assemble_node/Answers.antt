@@ -5,8 +5,8 @@ use Rattle.ga_parser.specs.declared.item.Request.{Request}
 use Rattle.ga_parser.specs.declared.item.Registers.{Registers}
 use Rattle.ga_parser.specs.Plain.{Plain, value_in}
 use Rattle.ga_source.specs.Made.{cells_from, AreDistinctCells}
-use Rattle.ga_parser.specs.kept.Drafting.{texts_of}
-use Rattle.ga_source.specs.kept.{requests_of, ArePlain, AreNumbers}
+use Rattle.ga_parser.specs.inner.Drafting.{texts_of}
+use Rattle.ga_source.specs.inner.{requests_of, ArePlain, AreNumbers}
 use Rattle.ga_source.proofs.CellGroups.{plain_words}
 use Rattle.ga_source.proofs.PlainNodes.{plain_requests, plain_registers}
 use Rattle.ga_parser.proofs.PlainAsked.{plain_told, plain_untold}

@@ -1,6 +1,6 @@
 use Rattle.std.proofs.Common.{◌≡◌, ℕ, ◌<◌, get_or, [], false}
 use Rattle.ga_parser.specs.Plain.{is_node}
-use Rattle.ga_parser.specs.kept.Drafting.{texts_of}
+use Rattle.ga_parser.specs.inner.Drafting.{texts_of}
 use Rattle.ga_source.proofs.program.body_length.Given as goal
 
 abbrev pub invariant-loop-i : goal.invariant-loop-i

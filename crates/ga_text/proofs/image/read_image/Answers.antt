@@ -2,7 +2,7 @@ use Rattle.std.proofs.Common.{◌≡◌, ℕ, ◌-◌, Bool, true, false, List, 
 use Rattle.ga_text.proofs.Taking.{where_err}
 use Rattle.std.proofs.lemmas.Bool.{false≢true}
 use Rattle.ga_text.specs.Lines.{ended}
-use Rattle.ga_text.specs.kept.{TakesPart, with_feed}
+use Rattle.ga_text.specs.inner.{TakesPart, with_feed}
 use Rattle.ga_text.specs.Input.{Unread}
 use Rattle.ga_text.specs.Image.{end_line}
 use Rattle.ga_text.proofs.TextLemmas.{Body, body_more, body_line, line_range, no_end, over_piece, over_all, ended_piece}

@@ -2,7 +2,7 @@ use Rattle.std.proofs.Common.{rules, ◌≡◌, ℕ, Bool, true, false, ◌++◌
 use Rattle.std.specs.Prelude.{flat_map}
 use Rattle.ga_text.proofs.SaidLemmas.{cut_here, cut_within}
 use Rattle.ga_answers.specs.Trees.{tree_row_text, head_text, rows_by}
-use Rattle.ga_answers.specs.kept.{is_first}
+use Rattle.ga_answers.specs.inner.{is_first}
 use Rattle.ga_answers.proofs.Saying.{joined_said}
 use Rattle.ga_answers.proofs.tail_text.Outlook.say_rows.Goals as goal
 

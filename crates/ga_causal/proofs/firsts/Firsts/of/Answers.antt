@@ -1,5 +1,5 @@
 use Rattle.std.proofs.Common.{◌≡◌, ◌<◌, ◌+◌, length, ◌∙◌, sym, subst, arith}
-use Rattle.ga_causal.specs.kept.{first_at, IsFirsts}
+use Rattle.ga_causal.specs.inner.{first_at, IsFirsts}
 use Rattle.ga_causal.proofs.Oldest.{noted_first, noted_more, noted_none}
 use Rattle.ga_causal.proofs.firsts.Firsts.of.Goals as goal
 use Rattle.ga_causal.proofs.firsts.Firsts.of.Goals.{then-oldest-to, else-oldest-to}

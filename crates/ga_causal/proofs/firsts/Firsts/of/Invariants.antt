@@ -1,5 +1,5 @@
 use Rattle.std.proofs.Common.{◌≡◌}
-use Rattle.ga_causal.specs.kept.{first_at, IsFirsts}
+use Rattle.ga_causal.specs.inner.{first_at, IsFirsts}
 use Rattle.ga_causal.proofs.firsts.Firsts.of.Given as goal
 
 -- the events so far are noted

@@ -1,5 +1,5 @@
 use Rattle.std.proofs.Common.{◌∙◌, ap}
-use Rattle.ga_event.specs.kept.{settled}
+use Rattle.ga_event.specs.inner.{settled}
 use Rattle.ga_event.proofs.Following.{send_found}
 use Rattle.ga_event.proofs.flow.flows.send_flow.Goals as goal
 

@@ -1,8 +1,8 @@
 use Rattle.std.proofs.Common.{rules, subst}
-use Rattle.ga_console.specs.kept.Run.{Turns}
+use Rattle.ga_console.specs.inner.Run.{Turns}
 use Rattle.ga_explorer.specs.Answers.{Explores}
 use Rattle.ga_explorer.specs.Opening.{Exploring}
-use Rattle.ga_explorer.specs.kept.{exploring}
+use Rattle.ga_explorer.specs.inner.{exploring}
 use Rattle.ga_explorer.proofs.explorer.ExplorerResponder.answer.Goals as goal
 
 pub returns : goal.returns

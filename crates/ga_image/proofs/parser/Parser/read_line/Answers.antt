@@ -1,6 +1,6 @@
 use Rattle.std.proofs.Common.{◌≡◌, Some, sym, ◌∙◌, ap, subst, arith}
 use Rattle.ga_image.specs.Spelling.{form, Words}
-use Rattle.ga_image.specs.kept.{form_of, AreCodes}
+use Rattle.ga_image.specs.inner.{form_of, AreCodes}
 use Rattle.ga_image.proofs.Spelled.{form_spelled}
 use Rattle.ga_image.proofs.Spellings.{codes_spelled, behind}
 use Rattle.ga_image.proofs.parser.Parser.read_line.Goals as goal

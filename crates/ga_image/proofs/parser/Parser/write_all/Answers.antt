@@ -1,6 +1,6 @@
 use Rattle.std.proofs.Common.{◌≡◌, ℕ, ◌-◌, false, length, sym, ◌∙◌, ap, get_or, arith}
 use Rattle.ga_image.specs.Fields.{goes_past, is_too_great}
-use Rattle.ga_image.specs.kept.{progress_of, stage_of}
+use Rattle.ga_image.specs.inner.{progress_of, stage_of}
 use Rattle.ga_image.specs.Reading.{node_of_stage}
 use Rattle.ga_image.proofs.LineCauses.{next_fits, next_greatest, repeats_here, repeated_field, repeats_later, written_later, next_codes}
 use Rattle.ga_image.proofs.parser.Parser.write_all.Goals as goal

@@ -1,6 +1,6 @@
 use Rattle.std.proofs.Common.{◌≡◌, ◌-◌, false, length, drop}
 use Rattle.ga_image.specs.Fields.{goes_past, greatest, repeats, writes}
-use Rattle.ga_image.specs.kept.{AreCodes, progress_of}
+use Rattle.ga_image.specs.inner.{AreCodes, progress_of}
 use Rattle.ga_image.specs.Reading.{with_writes}
 use Rattle.ga_image.proofs.parser.Parser.write_all.Given as goal
 

@@ -1,7 +1,7 @@
 use Rattle.std.proofs.Common.{◌∙◌, ◌++◌, ◌∷◌, [], ap, sym, map, drop, take, subst, arith, rules, add-one}
 use Rattle.std.specs.Prelude.{reverse}
 use Rattle.std.proofs.lemmas.List.{length-map, take_all}
-use Rattle.ga_journal.specs.kept.Histories.{lists_of, pasts_of, WalksBack}
+use Rattle.ga_journal.specs.inner.Histories.{lists_of, pasts_of, WalksBack}
 use Rattle.ga_journal.proofs.Recalling.{cause_at, walk_whole, walked_drop, first_drop, turned}
 use Rattle.ga_journal.proofs.histories.Histories.all_causes.Goals as goal
 

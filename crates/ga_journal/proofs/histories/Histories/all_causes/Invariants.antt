@@ -1,6 +1,6 @@
 use Rattle.std.proofs.Common.{◌≡◌, ◌≤◌, List, length, drop, take, map, vec_len}
 use Rattle.std.specs.Prelude.{vec_capacity}
-use Rattle.ga_journal.specs.kept.Histories.{lists_of, WalksBack}
+use Rattle.ga_journal.specs.inner.Histories.{lists_of, WalksBack}
 use Rattle.ga_journal.specs.Logs.{Stamped, Records}
 use Rattle.ga_journal.proofs.Recalling.{cause_at}
 use Rattle.ga_journal.proofs.histories.Histories.all_causes.Given as goal

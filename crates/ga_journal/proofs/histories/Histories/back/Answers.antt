@@ -1,6 +1,6 @@
 use Rattle.std.proofs.Common.{◌+◌, ◌∙◌, refl, sym, ap}
 use Rattle.std.specs.Prelude.{slice_index}
-use Rattle.ga_journal.specs.kept.Histories.{lists_of, bound_of, IsTopmost, cut}
+use Rattle.ga_journal.specs.inner.Histories.{lists_of, bound_of, IsTopmost, cut}
 use Rattle.ga_journal.specs.Histories.{history}
 use Rattle.ga_journal.proofs.Heads.{bound-push}
 use Rattle.ga_journal.proofs.Keeping.{newest_is}

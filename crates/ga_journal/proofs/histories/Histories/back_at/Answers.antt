@@ -1,6 +1,6 @@
 use Rattle.std.proofs.Common.{◌-◌, refl, arith, length-set}
 use Rattle.std.specs.Prelude.{slice_index}
-use Rattle.ga_journal.specs.kept.Histories.{lists_of}
+use Rattle.ga_journal.specs.inner.Histories.{lists_of}
 use Rattle.ga_journal.proofs.Cutting.{read_at, found_at, less_one, cut_some, cut_within, less_last, less_others, less_fits, less_count}
 use Rattle.ga_journal.proofs.histories.Histories.back_at.Goals as goal
 

@@ -1,5 +1,5 @@
 use Rattle.std.proofs.Common.{◌≡◌, ◌+◌, ◌-◌, suc, drop, subst, arith}
-use Rattle.ga_journal.specs.kept.Histories.{lists_of, WalksBack}
+use Rattle.ga_journal.specs.inner.Histories.{lists_of, WalksBack}
 use Rattle.ga_journal.proofs.Recalling.{walked_drop}
 use Rattle.ga_journal.proofs.histories.Histories.back_over.Goals as goal
 

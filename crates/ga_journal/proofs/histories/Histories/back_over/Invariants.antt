@@ -1,5 +1,5 @@
 use Rattle.std.proofs.Common.{◌≤◌, ◌-◌, List, length, drop}
-use Rattle.ga_journal.specs.kept.Histories.{lists_of, WalksBack}
+use Rattle.ga_journal.specs.inner.Histories.{lists_of, WalksBack}
 use Rattle.ga_journal.specs.Logs.{Stamped}
 use Rattle.ga_journal.proofs.histories.Histories.back_over.Given as goal
 

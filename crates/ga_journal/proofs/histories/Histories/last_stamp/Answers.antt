@@ -1,5 +1,5 @@
 use Rattle.std.proofs.Common.{◌∙◌, ap}
-use Rattle.ga_journal.specs.kept.Histories.{bound_of}
+use Rattle.ga_journal.specs.inner.Histories.{bound_of}
 use Rattle.ga_journal.proofs.Cutting.{history_read}
 use Rattle.ga_journal.proofs.histories.Histories.last_stamp.Goals as goal
 

@@ -1,7 +1,7 @@
 use Rattle.std.proofs.Common.{◌∙◌, length, ap, sym, set, arith, ⊎_elim, get_or-set_same, get_or-set_other, length-set}
 use Rattle.std.specs.Prelude.{slice_index}
 use Rattle.std.proofs.lemmas.Bool.{cases_eq}
-use Rattle.ga_journal.specs.kept.Histories.{lists_of}
+use Rattle.ga_journal.specs.inner.Histories.{lists_of}
 use Rattle.ga_journal.specs.Histories.{history}
 use Rattle.ga_journal.proofs.histories.Histories.lengths_of.Goals as goal
 

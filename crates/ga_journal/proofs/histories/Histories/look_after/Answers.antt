@@ -1,5 +1,5 @@
 use Rattle.std.proofs.Common.{◌<◌, ◌≤◌, sym, subst, arith}
-use Rattle.ga_journal.specs.kept.Histories.{lists_of, Rises}
+use Rattle.ga_journal.specs.inner.Histories.{lists_of, Rises}
 use Rattle.ga_journal.specs.Histories.{history}
 use Rattle.ga_journal.specs.Looks.{IsLookAfter, HasNoLookAfter}
 use Rattle.ga_journal.proofs.Cutting.{history_read}

@@ -1,8 +1,8 @@
 use Rattle.std.proofs.Common.{◌≡◌, ◌∙◌, Some, length, sym, ap, subst, arith}
 use Rattle.std.specs.Prelude.{slice_get}
-use Rattle.ga_journal.specs.kept.Histories.{lists_of}
+use Rattle.ga_journal.specs.inner.Histories.{lists_of}
 use Rattle.ga_journal.specs.Histories.{history}
-use Rattle.ga_journal.specs.kept.Marks.{AtsWithin, at_of, entries_made, entry_made}
+use Rattle.ga_journal.specs.inner.Marks.{AtsWithin, at_of, entries_made, entry_made}
 use Rattle.ga_journal.proofs.Cutting.{history_read}
 use Rattle.ga_journal.proofs.Telling.{at_read, entry_picked, none_past}
 use Rattle.ga_journal.proofs.histories.Histories.made_of.Goals as goal

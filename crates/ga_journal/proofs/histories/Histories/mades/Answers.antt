@@ -1,8 +1,8 @@
 use Rattle.std.proofs.Common.{◌≡◌, ◌∙◌, ◌++◌, ◌∷◌, [], length, take, sym, ap, subst, arith}
 use Rattle.std.proofs.lemmas.List.{take_all}
-use Rattle.ga_journal.specs.kept.Histories.{lists_of}
+use Rattle.ga_journal.specs.inner.Histories.{lists_of}
 use Rattle.ga_journal.specs.Histories.{history}
-use Rattle.ga_journal.specs.kept.Marks.{AtsWithin, at_of, entries_made, entry_made}
+use Rattle.ga_journal.specs.inner.Marks.{AtsWithin, at_of, entries_made, entry_made}
 use Rattle.ga_journal.proofs.Cutting.{history_read}
 use Rattle.ga_journal.proofs.Telling.{at_read, entries_made-more}
 use Rattle.ga_journal.proofs.histories.Histories.mades.Goals as goal

@@ -1,6 +1,6 @@
 use Rattle.std.proofs.Common.{◌≡◌, ◌≤◌, take, vec_len}
 use Rattle.std.specs.Prelude.{vec_capacity}
-use Rattle.ga_journal.specs.kept.Marks.{entries_made}
+use Rattle.ga_journal.specs.inner.Marks.{entries_made}
 use Rattle.ga_journal.proofs.histories.Histories.mades.Given as goal
 
 abbrev pub invariant-loop-place : goal.invariant-loop-place

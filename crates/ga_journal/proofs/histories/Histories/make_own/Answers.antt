@@ -4,8 +4,8 @@ use Rattle.ga_event.specs.declared.event.Event.TheVariants as event
 use Rattle.ga_event.specs.Undo.{own_effect}
 use Rattle.ga_event.specs.declared.made.Made.{Made}
 use Rattle.ga_event.specs.declared.made.Made.TheVariants as made
-use Rattle.ga_journal.specs.kept.Histories.{lists_of}
-use Rattle.ga_journal.specs.kept.Ends.{made_over}
+use Rattle.ga_journal.specs.inner.Histories.{lists_of}
+use Rattle.ga_journal.specs.inner.Ends.{made_over}
 use Rattle.ga_journal.proofs.Heads.{appended_own, told_own}
 use Rattle.ga_journal.proofs.Cutting.{lists_pushed}
 use Rattle.ga_journal.proofs.histories.Histories.make_own.Goals as goal

@@ -1,6 +1,6 @@
 use Rattle.std.proofs.Common.{◌≡◌, ◌≤◌, [], length, vec_len, replicate}
 use Rattle.std.specs.Prelude.{vec_capacity}
-use Rattle.ga_journal.specs.kept.Histories.{lists_of}
+use Rattle.ga_journal.specs.inner.Histories.{lists_of}
 use Rattle.ga_journal.proofs.histories.Histories.new.Given as goal
 
 abbrev pub invariant-loop : goal.invariant-loop

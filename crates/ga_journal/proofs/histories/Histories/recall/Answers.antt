@@ -1,6 +1,6 @@
 use Rattle.std.proofs.Common.{◌∙◌}
 use Rattle.std.proofs.lemmas.List.{length-map}
-use Rattle.ga_journal.specs.kept.Histories.{lists_of, pasts_of}
+use Rattle.ga_journal.specs.inner.Histories.{lists_of, pasts_of}
 use Rattle.ga_journal.proofs.Recalling.{walk_whole}
 use Rattle.ga_journal.proofs.histories.Histories.recall.Goals as goal
 

@@ -2,7 +2,7 @@ use Rattle.std.proofs.Common.{◌≡◌, ◌∙◌, ◌+◌, ◌-◌, ◌<◌, �
 use Rattle.std.specs.Prelude.{reverse}
 use Rattle.std.proofs.lemmas.List.{length-map}
 use Rattle.ga_event.specs.declared.made.Made.{Made}
-use Rattle.ga_journal.specs.kept.Histories.{lists_of, pasts_of, WalksBack, AreTold}
+use Rattle.ga_journal.specs.inner.Histories.{lists_of, pasts_of, WalksBack, AreTold}
 use Rattle.ga_journal.proofs.Down.{left_long, walked_on, told_on, told_none, told_more}
 use Rattle.ga_journal.proofs.Recalling.{walk_whole}
 use Rattle.ga_journal.proofs.histories.Histories.recall_all.Goals as goal

@@ -1,6 +1,6 @@
 use Rattle.std.proofs.Common.{◌≡◌, ◌+◌, ◌-◌, ◌<◌, ◌≤◌, List, length, drop, get_or, vec_len}
 use Rattle.std.specs.Prelude.{reverse, vec_capacity}
-use Rattle.ga_journal.specs.kept.Histories.{lists_of, WalksBack, AreTold}
+use Rattle.ga_journal.specs.inner.Histories.{lists_of, WalksBack, AreTold}
 use Rattle.ga_journal.specs.Logs.{Stamped, Records}
 use Rattle.ga_journal.proofs.histories.Histories.recall_all.Given as goal
 

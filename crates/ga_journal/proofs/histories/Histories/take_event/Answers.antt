@@ -3,7 +3,7 @@ use Rattle.ga_event.specs.declared.event.Effect.{Effect}
 use Rattle.ga_event.specs.declared.event.Event.{Event}
 use Rattle.ga_event.specs.declared.event.Event.TheVariants as event
 use Rattle.ga_journal.specs.Popped.{IsNewest}
-use Rattle.ga_journal.specs.kept.Histories.{lists_of, past_of}
+use Rattle.ga_journal.specs.inner.Histories.{lists_of, past_of}
 use Rattle.ga_journal.specs.Logs.{IsWhole}
 use Rattle.ga_journal.proofs.Popping.{own_newest, sent_left, sent_more, sent_newest, took_left, took_more, took_newest}
 use Rattle.ga_journal.proofs.histories.Histories.take_event.Goals as goal

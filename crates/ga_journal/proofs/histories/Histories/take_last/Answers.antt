@@ -1,5 +1,5 @@
 use Rattle.std.proofs.Common.{◌<◌, subst, sym}
-use Rattle.ga_journal.specs.kept.Histories.{bound_of}
+use Rattle.ga_journal.specs.inner.Histories.{bound_of}
 use Rattle.ga_journal.proofs.Cutting.{history_read, popped_last, popped_others}
 use Rattle.ga_journal.proofs.histories.Histories.take_last.Goals as goal
 

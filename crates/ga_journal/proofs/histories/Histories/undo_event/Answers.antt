@@ -1,7 +1,7 @@
 use Rattle.std.proofs.Common.{◌∙◌, ap, refl}
 use Rattle.ga_event.specs.Undo.{own_effect, restored_at}
 use Rattle.ga_event.specs.declared.event.Effect.TheVariants as effect
-use Rattle.ga_journal.specs.kept.Histories.{lists_of}
+use Rattle.ga_journal.specs.inner.Histories.{lists_of}
 use Rattle.ga_journal.specs.Popped.{TakesBack}
 use Rattle.ga_journal.proofs.Popping.{own_newest, sent_left, sent_more, sent_newest, took_left, took_more, took_newest, back_own, can_first, either_order, sent_apart, sent_back, took_back}
 use Rattle.ga_journal.proofs.histories.Histories.undo_event.Goals as goal

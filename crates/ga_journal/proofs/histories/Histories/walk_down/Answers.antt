@@ -1,7 +1,7 @@
 use Rattle.std.proofs.Common.{◌≡◌, ◌+◌, ◌-◌, ◌∙◌, ◌<◌, ◌++◌, ◌∷◌, [], Bool, true, cond, not, suc, length, drop, ap, subst, arith}
 use Rattle.std.specs.Prelude.{is_ok, slice_index}
 use Rattle.std.proofs.lemmas.List.{length-map, length_push, length-reverse}
-use Rattle.ga_journal.specs.kept.Histories.{lists_of, pasts_of}
+use Rattle.ga_journal.specs.inner.Histories.{lists_of, pasts_of}
 use Rattle.ga_journal.proofs.Down.{IsDown, tested, tested_not, some_of, down_within, down_some, down_first, down_more, down_last}
 use Rattle.ga_journal.proofs.histories.Histories.walk_down.Goals as goal
 

@@ -1,5 +1,5 @@
 use Rattle.std.proofs.Common.{◌≡◌, ◌<◌, ◌≤◌, ℕ}
-use Rattle.ga_journal.specs.kept.Histories.{bound_of}
+use Rattle.ga_journal.specs.inner.Histories.{bound_of}
 use Rattle.ga_journal.specs.Histories.{history}
 use Rattle.ga_journal.proofs.histories.bounds.scan.Given as goal
 

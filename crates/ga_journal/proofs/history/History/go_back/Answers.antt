@@ -1,6 +1,6 @@
 use Rattle.std.proofs.Common.{◌<◌, ◌-◌, ◌∙◌, ◌++◌, ◌∷◌, [], map, take, sym, ap, subst, vec_len}
-use Rattle.ga_journal.specs.kept.Histories.{Held, bound_of}
-use Rattle.ga_journal.specs.kept.Stored.{IsHistory, past_in}
+use Rattle.ga_journal.specs.inner.Histories.{Held, bound_of}
+use Rattle.ga_journal.specs.inner.Stored.{IsHistory, past_in}
 use Rattle.ga_journal.proofs.Storing.{ended, pasts_own, last_is_below, last_counts, dropped_pasts}
 use Rattle.ga_journal.proofs.Looking.{one_less}
 use Rattle.ga_journal.proofs.history.History.go_back.Goals as goal

@@ -2,9 +2,9 @@ use Rattle.std.proofs.Common.{◌≡◌, ◌+◌, length, map, nat_eq, not, ap, 
 use Rattle.std.specs.Prelude.{slice_get}
 use Rattle.std.specs.Bool.{OnTrue, OnFalse}
 use Rattle.std.proofs.lemmas.List.{length-map}
-use Rattle.ga_journal.specs.kept.Histories.{Held, IsPastNewest}
+use Rattle.ga_journal.specs.inner.Histories.{Held, IsPastNewest}
 use Rattle.ga_journal.specs.Looks.{HasLook, HasNoLook}
-use Rattle.ga_journal.specs.kept.Stored.{past_in}
+use Rattle.ga_journal.specs.inner.Stored.{past_in}
 use Rattle.ga_journal.proofs.Looking.{past_end, none_first, some_looked, none_looked}
 use Rattle.ga_journal.proofs.history.History.has_looked.Goals as goal
 

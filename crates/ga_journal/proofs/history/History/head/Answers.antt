@@ -1,8 +1,8 @@
 use Rattle.std.proofs.Common.{◌<◌, ◌∙◌, length, refl, sym, ap, subst}
 use Rattle.std.specs.Prelude.{slice_get}
 use Rattle.std.proofs.lemmas.List.{length-map}
-use Rattle.ga_journal.specs.kept.Histories.{Held}
-use Rattle.ga_journal.specs.kept.Stored.{past_in}
+use Rattle.ga_journal.specs.inner.Histories.{Held}
+use Rattle.ga_journal.specs.inner.Stored.{past_in}
 use Rattle.ga_journal.proofs.Storing.{numbered_below, pasts_at}
 use Rattle.ga_journal.proofs.history.History.head.Goals as goal
 

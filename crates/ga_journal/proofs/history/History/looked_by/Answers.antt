@@ -1,8 +1,8 @@
 use Rattle.std.proofs.Common.{◌≡◌, ◌+◌, ◌∙◌, length, map, sym, ap, subst, arith}
 use Rattle.std.specs.Prelude.{slice_get}
 use Rattle.std.proofs.lemmas.List.{length-map}
-use Rattle.ga_journal.specs.kept.Histories.{Held, IsPastNewest}
-use Rattle.ga_journal.specs.kept.Stored.{past_in, looked_in}
+use Rattle.ga_journal.specs.inner.Histories.{Held, IsPastNewest}
+use Rattle.ga_journal.specs.inner.Stored.{past_in, looked_in}
 use Rattle.ga_journal.proofs.Storing.{numbered_below}
 use Rattle.ga_journal.proofs.Looking.{past_at, past_end, none_first}
 use Rattle.ga_journal.proofs.history.History.looked_by.Goals as goal

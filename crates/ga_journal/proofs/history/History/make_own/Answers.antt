@@ -1,9 +1,9 @@
 use Rattle.std.proofs.Common.{◌≡◌, ◌+◌, ◌-◌, ◌∙◌, ◌++◌, ◌∷◌, [], length, map, sym, ap, subst, arith, length-append}
 use Rattle.ga_journal.specs.declared.entry.Entry.{Entry}
 use Rattle.ga_journal.specs.declared.entry.Act.TheVariants as act
-use Rattle.ga_journal.specs.kept.Histories.{Held}
+use Rattle.ga_journal.specs.inner.Histories.{Held}
 use Rattle.ga_journal.specs.Histories.{past}
-use Rattle.ga_journal.specs.kept.Stored.{IsHistory, past_in, looked_after, own_part}
+use Rattle.ga_journal.specs.inner.Stored.{IsHistory, past_in, looked_after, own_part}
 use Rattle.ga_journal.proofs.Looking.{own_more}
 use Rattle.ga_journal.proofs.Storing.{pasts_deed, read_last, set_last}
 use Rattle.ga_journal.proofs.history.History.make_own.Goals as goal

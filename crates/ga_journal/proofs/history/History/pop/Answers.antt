@@ -1,7 +1,7 @@
 use Rattle.std.proofs.Common.{◌∙◌, ◌++◌, ◌∷◌, [], map, sym, ap, subst}
-use Rattle.ga_journal.specs.kept.Histories.{Held}
+use Rattle.ga_journal.specs.inner.Histories.{Held}
 use Rattle.ga_journal.specs.Histories.{past}
-use Rattle.ga_journal.specs.kept.Stored.{IsHistory, past_in}
+use Rattle.ga_journal.specs.inner.Stored.{IsHistory, past_in}
 use Rattle.ga_journal.proofs.Storing.{last_is_below, last_counts, dropped_pasts}
 use Rattle.ga_journal.proofs.Looking.{one_less}
 use Rattle.ga_journal.proofs.history.History.pop.Goals as goal

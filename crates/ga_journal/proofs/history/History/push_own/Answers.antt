@@ -1,9 +1,9 @@
 use Rattle.std.proofs.Common.{◌∙◌, ◌++◌, ◌∷◌, [], length, map, refl, sym, ap, subst}
 use Rattle.ga_journal.specs.declared.entry.Entry.{Entry}
 use Rattle.ga_journal.specs.declared.entry.Act.TheVariants as act
-use Rattle.ga_journal.specs.kept.Histories.{Held}
+use Rattle.ga_journal.specs.inner.Histories.{Held}
 use Rattle.ga_journal.specs.Histories.{past}
-use Rattle.ga_journal.specs.kept.Stored.{IsHistory, past_in, looked_after}
+use Rattle.ga_journal.specs.inner.Stored.{IsHistory, past_in, looked_after}
 use Rattle.ga_journal.proofs.Looking.{own_more}
 use Rattle.ga_journal.proofs.Storing.{pasts_deed}
 use Rattle.ga_journal.proofs.history.History.push_own.Goals as goal

@@ -1,8 +1,8 @@
 use Rattle.std.proofs.Common.{◌≡◌, ◌∙◌, ◌++◌, ◌∷◌, [], length, map, refl, sym, ap, subst, arith}
 use Rattle.std.proofs.lemmas.List.{length-map}
-use Rattle.ga_journal.specs.kept.Histories.{Held}
+use Rattle.ga_journal.specs.inner.Histories.{Held}
 use Rattle.ga_journal.specs.Histories.{past}
-use Rattle.ga_journal.specs.kept.Stored.{IsHistory, past_in, act_with}
+use Rattle.ga_journal.specs.inner.Stored.{IsHistory, past_in, act_with}
 use Rattle.ga_journal.proofs.Looking.{pass_more}
 use Rattle.ga_journal.proofs.Storing.{numbered_long, pasts_passed, with_looked, same_act}
 use Rattle.ga_journal.proofs.history.History.push_pass.Goals as goal

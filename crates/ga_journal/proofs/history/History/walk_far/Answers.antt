@@ -6,8 +6,8 @@ use Rattle.ga_node.specs.State.{restored, AreFit, IsApart}
 use Rattle.ga_event.specs.Undo.{CanRestore}
 use Rattle.ga_journal.specs.declared.entry.Entry.{Entry}
 use Rattle.ga_journal.specs.Histories.{Past}
-use Rattle.ga_journal.specs.kept.Histories.{Held}
-use Rattle.ga_journal.specs.kept.Stored.{past_in}
+use Rattle.ga_journal.specs.inner.Histories.{Held}
+use Rattle.ga_journal.specs.inner.Stored.{past_in}
 use Rattle.ga_journal.specs.Walked.{walked}
 use Rattle.ga_journal.proofs.Storing.{slice_length, longer, left_before, read_last_left}
 use Rattle.ga_journal.proofs.Walks.{walked_one, can_one, can_later, walked_apart}

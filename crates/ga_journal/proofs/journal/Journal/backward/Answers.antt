@@ -1,6 +1,6 @@
 use Rattle.std.proofs.Common.{◌≡◌, ◌∙◌, length, sym, ap, subst}
 use Rattle.ga_journal.specs.Histories.{Book}
-use Rattle.ga_journal.specs.kept.Histories.{lists_of, Keeps}
+use Rattle.ga_journal.specs.inner.Histories.{lists_of, Keeps}
 use Rattle.ga_journal.specs.Events.{kept_of}
 use Rattle.ga_journal.proofs.Keeping.{fits}
 use Rattle.ga_journal.proofs.Down.{none_told}

@@ -1,6 +1,6 @@
 use Rattle.std.proofs.Common.{◌≡◌, ◌≤◌, length, sym, ◌∙◌, ap, subst}
 use Rattle.ga_journal.specs.Histories.{Book, history}
-use Rattle.ga_journal.specs.kept.Histories.{lists_of}
+use Rattle.ga_journal.specs.inner.Histories.{lists_of}
 use Rattle.ga_journal.specs.Events.{causes_in_book, events_of}
 use Rattle.ga_event.specs.Told.{steps_of}
 use Rattle.ga_journal.specs.Logs.{IsWhole}

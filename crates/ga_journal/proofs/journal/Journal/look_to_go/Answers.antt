@@ -1,6 +1,6 @@
 use Rattle.std.proofs.Common.{◌∙◌, length, refl, ap, subst}
 use Rattle.ga_journal.specs.Histories.{Book, history}
-use Rattle.ga_journal.specs.kept.Histories.{lists_of, room_of}
+use Rattle.ga_journal.specs.inner.Histories.{lists_of, room_of}
 use Rattle.ga_journal.specs.Marks.{mark_of, ticked_in_vain}
 use Rattle.ga_journal.specs.Looks.{HasLook, HasNoLook, HasNoLookAfter, Never, Once}
 use Rattle.ga_journal.proofs.Looking.{none_after}

@@ -1,7 +1,7 @@
 use Rattle.std.proofs.Common.{◌≡◌, ◌<◌, ◌∙◌, length, sym, subst, arith}
 use Rattle.std.proofs.lemmas.List.{length-map}
 use Rattle.ga_journal.specs.Histories.{Book}
-use Rattle.ga_journal.specs.kept.Histories.{lists_of, pasts_of}
+use Rattle.ga_journal.specs.inner.Histories.{lists_of, pasts_of}
 use Rattle.ga_journal.specs.Logs.{IsWhole}
 use Rattle.ga_journal.specs.Events.{kept_of}
 use Rattle.ga_journal.proofs.Keeping.{count_within, append_keeps, whole_more, back_more}

@@ -1,8 +1,8 @@
 use Rattle.std.proofs.Common.{◌∙◌, sym, ap, subst, arith}
 use Rattle.std.specs.Prelude.{slice_get}
 use Rattle.ga_journal.specs.Histories.{Book, history}
-use Rattle.ga_journal.specs.kept.Histories.{lists_of}
-use Rattle.ga_journal.specs.kept.Marks.{entries_made}
+use Rattle.ga_journal.specs.inner.Histories.{lists_of}
+use Rattle.ga_journal.specs.inner.Marks.{entries_made}
 use Rattle.ga_journal.specs.Logs.{IsWhole}
 use Rattle.ga_journal.proofs.Keeping.{fits}
 use Rattle.ga_journal.proofs.Telling.{ats_log, mades_log}

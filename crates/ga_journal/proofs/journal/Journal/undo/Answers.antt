@@ -1,6 +1,6 @@
 use Rattle.std.proofs.Common.{◌≡◌, ℕ, get_or, sym, ap, subst, []}
 use Rattle.ga_journal.specs.Histories.{Book}
-use Rattle.ga_journal.specs.kept.Histories.{lists_of, room_of, IsTopmost}
+use Rattle.ga_journal.specs.inner.Histories.{lists_of, room_of, IsTopmost}
 use Rattle.ga_journal.specs.Events.{kept_of}
 use Rattle.ga_journal.specs.Logs.{Records, IsWhole}
 use Rattle.ga_journal.specs.Popped.{TakesBack}

@@ -1,8 +1,8 @@
 use Rattle.std.proofs.Common.{length, sym, ◌∙◌, ap, subst}
 use Rattle.ga_journal.specs.Histories.{Untold}
 use Rattle.ga_lab.specs.Machine.{State, telling}
-use Rattle.ga_lab.specs.kept.Tied.{IsLab, state_of}
-use Rattle.ga_lab.specs.kept.Walking.{telling_of}
+use Rattle.ga_lab.specs.inner.Tied.{IsLab, state_of}
+use Rattle.ga_lab.specs.inner.Walking.{telling_of}
 use Rattle.ga_lab.proofs.Stepping.{kept_count}
 use Rattle.ga_lab.proofs.lab.Lab.backward.Goals as goal
 

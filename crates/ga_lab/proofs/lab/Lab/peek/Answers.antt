@@ -9,7 +9,7 @@ use Rattle.ga_journal.specs.Histories.{history}
 use Rattle.ga_event.specs.Told.{steps_of}
 use Rattle.ga_journal.specs.Walked.{walked, CanWalk}
 use Rattle.ga_lab.specs.Machine.{State, chip_of, earlier}
-use Rattle.ga_lab.specs.kept.Tied.{state_of}
+use Rattle.ga_lab.specs.inner.Tied.{state_of}
 use Rattle.ga_lab.proofs.Stepping.{whole_of}
 use Rattle.ga_lab.proofs.Replays.{can_peek, replays_earlier, peeked, kept_steps, none_past, some_within}
 use Rattle.ga_lab.proofs.lab.Lab.peek.Goals as goal

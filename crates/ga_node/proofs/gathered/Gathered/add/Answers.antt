@@ -1,7 +1,7 @@
 use Rattle.std.proofs.Common.{◌≡◌, ℕ, ◌-◌, ◌+◌, ◌≤◌, ◌∙◌, ap, sym, length, arith}
 use Rattle.ga_node.specs.Record.{NodeState}
 use Rattle.ga_node.specs.State.{restored, with_value}
-use Rattle.ga_node.specs.kept.Packed.{unpacked}
+use Rattle.ga_node.specs.inner.Packed.{unpacked}
 use Rattle.ga_node.proofs.Restoring.{restored_past, restored_one, fit_at}
 use Rattle.ga_node.proofs.gathered.Gathered.add.Goals as goal
 

@@ -1,6 +1,6 @@
 use Rattle.std.proofs.Common.{◌∙◌, ◌/◌, ◌+◌, ap, sym, subst, length-set, slice_set, arith}
 use Rattle.ga_node.specs.State.{with_value, restored, AreFit}
-use Rattle.ga_node.specs.kept.Packed.{unpacked, pairs_of, AreAt}
+use Rattle.ga_node.specs.inner.Packed.{unpacked, pairs_of, AreAt}
 use Rattle.ga_node.proofs.Restoring.{put_last, at_put, fit_put}
 use Rattle.ga_node.proofs.gathered.Gathered.put.Goals as goal
 

@@ -3,7 +3,7 @@ use Rattle.std.proofs.lemmas.List.{drop_all}
 use Rattle.ga_node.specs.declared.place.Place.{Place}
 use Rattle.ga_node.specs.Record.{NodeState}
 use Rattle.ga_node.specs.State.{restored, with_value, with_aside, AreFit, IsInRange}
-use Rattle.ga_node.specs.kept.Packed.{pairs_of}
+use Rattle.ga_node.specs.inner.Packed.{pairs_of}
 use Rattle.ga_node.proofs.Restoring.{back_past_none, back_past_one, fit_of}
 use Rattle.ga_node.proofs.gathered.Gathered.write_back.Goals.{then-word-gt0, else-word-gt0}
 use Rattle.ga_node.proofs.gathered.Gathered.write_back.Goals as goal

@@ -1,6 +1,6 @@
 use Rattle.std.proofs.Common.{◌≡◌, ◌≤◌, ◌-◌, drop}
 use Rattle.ga_node.specs.State.{restored, with_aside, IsCleared}
-use Rattle.ga_node.specs.kept.Packed.{pairs_of}
+use Rattle.ga_node.specs.inner.Packed.{pairs_of}
 use Rattle.ga_node.proofs.gathered.Gathered.write_back.Given as goal
 
 abbrev pub invariant-loop-k : goal.invariant-loop-k

@@ -1,7 +1,7 @@
 use Rattle.std.proofs.Common.{refl, rules}
 use Rattle.ga_node.specs.Record.{record_of}
 use Rattle.ga_node.specs.Table.{effect}
-use Rattle.ga_node.specs.kept.Saving.{IsEnded}
+use Rattle.ga_node.specs.inner.Saving.{IsEnded}
 use Rattle.ga_slots.specs.declared.op.Op.TheVariants.{Fetch}
 use Rattle.ga_node.specs.State.{restored}
 use Rattle.ga_node.proofs.Saving.{made, saves_then, saves_from, ended_followed, done_followed}

@@ -1,7 +1,7 @@
 use Rattle.std.proofs.Common.{refl, rules}
 use Rattle.ga_node.specs.Record.{record_of}
 use Rattle.ga_node.specs.Table.{does}
-use Rattle.ga_node.specs.kept.Saving.{IsEndedBy}
+use Rattle.ga_node.specs.inner.Saving.{IsEndedBy}
 use Rattle.ga_slots.specs.declared.op.Op.TheVariants.{StoreB}
 use Rattle.ga_node.specs.State.{restored}
 use Rattle.ga_node.proofs.Saving.{saves_as, saves_then, ended_followed, done_stored}

@@ -1,5 +1,5 @@
 use Rattle.std.proofs.Common.{◌≡◌, ◌++◌, take}
-use Rattle.ga_node.specs.kept.Saving.{data_values}
+use Rattle.ga_node.specs.inner.Saving.{data_values}
 use Rattle.ga_node.proofs.node.changes.save_data.Given as goal
 
 abbrev pub invariant-loop-place : goal.invariant-loop-place

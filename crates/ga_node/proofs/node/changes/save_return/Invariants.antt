@@ -1,5 +1,5 @@
 use Rattle.std.proofs.Common.{◌≡◌, ◌++◌, take}
-use Rattle.ga_node.specs.kept.Saving.{return_values}
+use Rattle.ga_node.specs.inner.Saving.{return_values}
 use Rattle.ga_node.proofs.node.changes.save_return.Given as goal
 
 abbrev pub invariant-loop-place : goal.invariant-loop-place

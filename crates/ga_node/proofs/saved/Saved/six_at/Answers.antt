@@ -1,5 +1,5 @@
 use Rattle.std.proofs.Common.{◌≤◌, get_or, Some, ◌∙◌, ap, subst, length, sym}
-use Rattle.ga_node.specs.kept.Packed.{unpacked}
+use Rattle.ga_node.specs.inner.Packed.{unpacked}
 use Rattle.ga_node.proofs.Packing.{first_six, six_at}
 use Rattle.ga_node.proofs.saved.Saved.six_at.Goals as goal
 

@@ -1,6 +1,6 @@
 use Rattle.std.proofs.Common.{◌≡◌, ◌+◌, ◌-◌, ◌*◌, ◌%◌, ◌/◌, ◌^◌, ◌∙◌, ap, get_or, drop, sym, subst, arith, Some}
 use Rattle.std.proofs.lemmas.List.{drop_all}
-use Rattle.ga_node.specs.kept.Packed.{unpacked, spare, IsWord}
+use Rattle.ga_node.specs.inner.Packed.{unpacked, spare, IsWord}
 use Rattle.ga_node.proofs.Packing.{words_at, pair_of_six, seventh_is, spare_past, spare_part}
 use Rattle.ga_node.proofs.saved.Saved.word.Goals.{After-shared_slice_known-in-loop-k-1, After-loop-k}
 use Rattle.ga_node.proofs.saved.Saved.word.Goals as goal

@@ -1,5 +1,5 @@
 use Rattle.std.proofs.Common.{◌≡◌, ◌-◌, drop}
-use Rattle.ga_node.specs.kept.Packed.{spare}
+use Rattle.ga_node.specs.inner.Packed.{spare}
 use Rattle.ga_node.proofs.saved.Saved.word.Given as goal
 
 abbrev pub invariant-loop-k : goal.invariant-loop-k

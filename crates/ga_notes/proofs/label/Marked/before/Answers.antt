@@ -1,6 +1,6 @@
 use Rattle.std.proofs.Common.{◌≡◌, ◌∙◌, ◌+◌, not, arith, ap}
 use Rattle.ga_notes.specs.Source.{nearest_found}
-use Rattle.ga_notes.specs.kept.{label_at}
+use Rattle.ga_notes.specs.inner.{label_at}
 use Rattle.ga_notes.proofs.Adding.{none_is, nearest_less, nearest_here, nearest_last, found_before}
 use Rattle.ga_notes.proofs.label.Marked.before.Goals as goal
 use Rattle.ga_notes.proofs.label.Marked.before.Goals.{then-loop-behind-test+else-is_none, else-loop-behind-test}

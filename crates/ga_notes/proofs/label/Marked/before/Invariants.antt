@@ -1,6 +1,6 @@
 use Rattle.std.proofs.Common.{◌≡◌, ◌≤◌, ◌*◌, ◌/◌, ◌%◌}
 use Rattle.ga_notes.specs.Source.{nearest_found}
-use Rattle.ga_notes.specs.kept.{label_at}
+use Rattle.ga_notes.specs.inner.{label_at}
 use Rattle.ga_notes.proofs.label.Marked.before.Given as goal
 
 abbrev pub invariant-loop-behind : goal.invariant-loop-behind

@@ -1,7 +1,7 @@
 use Rattle.std.proofs.Common.{◌≡◌, ◌<◌, ℕ, length, drop}
 use Rattle.std.specs.Option.{option_or}
 use Rattle.ga_notes.specs.Source.{last_marked}
-use Rattle.ga_notes.specs.kept.{label_at}
+use Rattle.ga_notes.specs.inner.{label_at}
 use Rattle.ga_notes.proofs.label.Marked.of.Given as goal
 
 abbrev pub invariant-loop-asked : goal.invariant-loop-asked

@@ -3,7 +3,7 @@ use Rattle.std.specs.Prelude.{slice_index}
 use Rattle.ga_node.specs.Record.{NodeRecord, record_of}
 use Rattle.ga_event.specs.Told.{steps_of}
 use Rattle.ga_lab.specs.Machine.{Standing}
-use Rattle.ga_origin.specs.kept.{AreHeld}
+use Rattle.ga_origin.specs.inner.{AreHeld}
 use Rattle.ga_origin.proofs.Made.{stands_so, stood_of}
 use Rattle.ga_origin.proofs.writes.CellWrites.new.Goals as goal
 

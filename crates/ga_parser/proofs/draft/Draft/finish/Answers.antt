@@ -1,6 +1,6 @@
 use Rattle.std.proofs.Common.{◌∙◌, sym, inr, refl, subst, List, ◌≡◌, get_or, ◌<◌, length}
 use Rattle.ga_parser.specs.declared.controls.Open.{Open}
-use Rattle.ga_parser.specs.kept.Drafting.{asking_of}
+use Rattle.ga_parser.specs.inner.Drafting.{asking_of}
 use Rattle.ga_parser.proofs.Asking.{open_refused}
 use Rattle.ga_parser.proofs.draft.Draft.finish.Goals as goal
 

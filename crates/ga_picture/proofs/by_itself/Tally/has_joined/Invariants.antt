@@ -1,5 +1,5 @@
 use Rattle.std.proofs.Common.{◌≡◌, ℕ, ◌<◌, false}
-use Rattle.ga_picture.specs.kept.{works_joined}
+use Rattle.ga_picture.specs.inner.{works_joined}
 use Rattle.ga_picture.proofs.by_itself.Tally.has_joined.Given as goal
 
 abbrev pub invariant-nodes : goal.invariant-nodes

@@ -1,7 +1,7 @@
 use Rattle.std.proofs.Common.{◌≡◌, ◌<◌, false, length, set, get_or, sym, ap, ◌∙◌, inl, inr, arith, length-set, get_or-set_other}
 use Rattle.std.proofs.lemmas.Grind.{get_or-set_at}
 use Rattle.std.proofs.lemmas.Bool.{cases_eq}
-use Rattle.ga_picture.specs.kept.{works_loose}
+use Rattle.ga_picture.specs.inner.{works_loose}
 use Rattle.ga_picture.proofs.by_itself.Tally.loose_nodes.Goals as goal
 
 pub nodes-preserved : goal.nodes-preserved

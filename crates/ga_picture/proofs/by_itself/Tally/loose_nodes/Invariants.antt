@@ -1,6 +1,6 @@
 use Rattle.std.proofs.Common.{◌≡◌, ℕ, ◌<◌, length}
 use Rattle.ga_causal.specs.Dependence.{is_marked}
-use Rattle.ga_picture.specs.kept.{works_loose}
+use Rattle.ga_picture.specs.inner.{works_loose}
 use Rattle.ga_picture.proofs.by_itself.Tally.loose_nodes.Given as goal
 
 abbrev pub invariant-nodes : goal.invariant-nodes

@@ -1,7 +1,7 @@
 use Rattle.std.proofs.Common.{◌≡◌, List}
 use Rattle.ga_causal.specs.Dependence.{is_marked}
 use Rattle.ga_picture.specs.declared.item.PictureItem.{PictureItem}
-use Rattle.ga_picture.specs.kept.{AreTallied}
+use Rattle.ga_picture.specs.inner.{AreTallied}
 use Rattle.ga_picture.proofs.Loose.{told_below}
 use Rattle.ga_picture.proofs.by_itself.Tally.told.Given as goal
 

@@ -1,6 +1,6 @@
 use Rattle.std.proofs.Common.{◌≡◌, [], Some, true≢false, ap, sym, subst}
 use Rattle.ga_explorer.specs.Opening.{Exploring}
-use Rattle.ga_console.specs.kept.Run.{AnswersCommand}
+use Rattle.ga_console.specs.inner.Run.{AnswersCommand}
 use Rattle.ga_console.proofs.RunLemmas.{said_fresh}
 use Rattle.ga_explorer.specs.Answers.{Explores}
 use Rattle.ga_picture.proofs.silent.Silent.hear_command.Goals as goal

@@ -1,6 +1,6 @@
 use Rattle.std.proofs.Common.{◌≡◌, ◌<◌, ℕ, length, take}
 use Rattle.std.specs.Prelude.{slice_index}
-use Rattle.ga_race_detector.specs.kept.Glances.{StoodSo}
+use Rattle.ga_race_detector.specs.inner.Glances.{StoodSo}
 use Rattle.ga_race_detector.proofs.acts.Behind.of.Given as goal
 
 abbrev pub invariant-nodes : goal.invariant-nodes

@@ -1,6 +1,6 @@
 use Rattle.std.proofs.Common.{◌+◌, ◌∙◌, ◌<◌, ℕ, cond, length, refl, drop, get_or, sym, ap, subst, arith}
 use Rattle.ga_causal.specs.Dependence.{cause_touches}
-use Rattle.ga_race_detector.specs.kept.Glances.{AreTaken}
+use Rattle.ga_race_detector.specs.inner.Glances.{AreTaken}
 use Rattle.ga_race_detector.proofs.Lefts.{touching_next, behind_here, one_most, AreGoing, are_first, none_most, are_taken, are_most, are_few, are_ended}
 use Rattle.ga_race_detector.proofs.around.LeftAround.of.Goals as goal
 

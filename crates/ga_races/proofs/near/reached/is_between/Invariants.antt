@@ -1,6 +1,6 @@
 use Rattle.ga_causal.specs.Dependence.{is_marked}
 use Rattle.ga_races.specs.Acts.{actions_in}
-use Rattle.ga_races.specs.kept.{AreReached}
+use Rattle.ga_races.specs.inner.{AreReached}
 use Rattle.ga_races.proofs.near.reached.is_between.Given as goal
 
 abbrev pub invariant-between : goal.invariant-between

@@ -1,5 +1,5 @@
 use Rattle.std.proofs.Common.{◌≡◌, ℕ, ◌+◌, ◌*◌, ◌<◌, ◌≤◌, false}
-use Rattle.ga_search.specs.kept.{has}
+use Rattle.ga_search.specs.inner.{has}
 use Rattle.ga_search.proofs.numbers.Numbers.lowest_from.Given as goal
 
 abbrev pub invariant-loop-index : goal.invariant-loop-index

@@ -2,7 +2,7 @@ use Rattle.std.proofs.Common.{rules, ◌++◌, ◌∷◌, [], sym, subst}
 use Rattle.std.proofs.lemmas.Bool.{both_ways}
 use Rattle.ga_parser.specs.declared.item.Asked.{Asked}
 use Rattle.ga_parser.specs.declared.item.Request.TheVariants.{Put}
-use Rattle.ga_source.specs.kept.{IsKnown, IsWalked, IsGrouped, IsPackedPlain}
+use Rattle.ga_source.specs.inner.{IsKnown, IsWalked, IsGrouped, IsPackedPlain}
 use Rattle.ga_source.proofs.CellGroups.{cell_fits}
 use Rattle.ga_source.proofs.Marking.{of_request}
 use Rattle.ga_source.proofs.packing.Packer.put.Goals as goal

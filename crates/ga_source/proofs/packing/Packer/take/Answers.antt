@@ -1,7 +1,7 @@
 use Rattle.std.proofs.Common.{◌∷◌, ◌++◌, [], sym, subst}
 use Rattle.std.proofs.lemmas.Result.{on_ok_weaker}
 use Rattle.ga_parser.specs.declared.item.Request.{Request}
-use Rattle.ga_source.specs.kept.{IsPlainRequest, IsPackedPlain}
+use Rattle.ga_source.specs.inner.{IsPlainRequest, IsPackedPlain}
 use Rattle.ga_source.proofs.CellGroups.{plain_item}
 use Rattle.ga_source.proofs.packing.Packer.take.Goals as goal
 

@@ -2,7 +2,7 @@ use Rattle.std.proofs.Common.{◌++◌, ◌∷◌, [], sym, subst, refl}
 use Rattle.ga_parser.specs.declared.item.Asked.{Asked}
 use Rattle.ga_parser.specs.declared.item.Request.TheVariants.{Unext}
 use Rattle.ga_source.specs.declared.packing.Packer.{Packer}
-use Rattle.ga_source.specs.kept.{IsWalked, IsGrouped}
+use Rattle.ga_source.specs.inner.{IsWalked, IsGrouped}
 use Rattle.ga_source.proofs.Marking.{of_request, pending_unext}
 use Rattle.ga_source.proofs.Grouped.{putting_unext}
 use Rattle.ga_source.proofs.packing.Packer.unext.Goals as goal

@@ -1,7 +1,7 @@
 use Rattle.std.proofs.Common.{◌≡◌, ◌+◌, ◌<◌, ◌∙◌, sym, ap, arith}
 use Rattle.std.specs.Prelude.{slice_index}
 use Rattle.std.proofs.lemmas.List.{length-map}
-use Rattle.ga_journal.specs.kept.Histories.{lists_of, pasts_of, bound_of, cut}
+use Rattle.ga_journal.specs.inner.Histories.{lists_of, pasts_of, bound_of, cut}
 use Rattle.ga_journal.specs.Histories.{history}
 use Rattle.ga_journal.proofs.Heads.{bound_le}
 use Rattle.ga_journal.proofs.Cutting.{length-cut, cut_empty, cut_within, bound_read, read_at}

@@ -1,5 +1,5 @@
 use Rattle.std.proofs.Common.{◌≡◌, ◌+◌, ◌∙◌, ap, arith}
-use Rattle.ga_journal.specs.kept.Histories.{lists_of, bound_of}
+use Rattle.ga_journal.specs.inner.Histories.{lists_of, bound_of}
 use Rattle.ga_journal.specs.Histories.{history}
 use Rattle.ga_journal.proofs.Heads.{bound_le}
 use Rattle.ga_journal.proofs.Cutting.{history_read}

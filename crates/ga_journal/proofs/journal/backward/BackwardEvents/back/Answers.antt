@@ -3,7 +3,7 @@ use Rattle.ga_event.specs.Told.{made_in}
 use Rattle.ga_journal.specs.Histories.{Book, Untold}
 use Rattle.ga_journal.specs.Logs.{Stamped}
 use Rattle.ga_journal.specs.Events.{kept_of}
-use Rattle.ga_journal.specs.kept.Histories.{WalksBack, IsFirst, IsWalked}
+use Rattle.ga_journal.specs.inner.Histories.{WalksBack, IsFirst, IsWalked}
 use Rattle.ga_journal.proofs.Down.{told_next, left_next}
 use Rattle.ga_journal.proofs.journal.backward.BackwardEvents.back.Goals as goal
 

@@ -2,8 +2,8 @@ use Rattle.std.proofs.Common.{◌≡◌, ◌-◌, ◌↔◌, sym, ◌∙◌, ap,
 use Rattle.std.specs.Prelude.{IsNone}
 use Rattle.ga_journal.specs.Histories.{Untold}
 use Rattle.ga_lab.specs.Machine.{Telling, told_before}
-use Rattle.ga_lab.specs.kept.Tied.{IsLab}
-use Rattle.ga_lab.specs.kept.Walking.{telling_of}
+use Rattle.ga_lab.specs.inner.Tied.{IsLab}
+use Rattle.ga_lab.specs.inner.Walking.{telling_of}
 use Rattle.ga_lab.proofs.Replays.{told_is}
 use Rattle.ga_lab.proofs.lab.backward.Backward.back.Goals as goal
 

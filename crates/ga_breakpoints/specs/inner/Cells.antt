@@ -21,7 +21,7 @@ use Rattle.ga_breakpoints.specs.declared.hits.HitTally.{HitTally}
 use Rattle.ga_breakpoints.specs.Back.{arrives, is_at_spot}
 use Rattle.ga_breakpoints.specs.Breakpoints.{has_done, hit_counted, is_stopping}
 use Rattle.ga_breakpoints.specs.Conditions.{meets_test}
-use Rattle.ga_breakpoints.specs.kept.Words.{keeps_kind}
+use Rattle.ga_breakpoints.specs.inner.Words.{keeps_kind}
 use Rattle.ga_search.specs.declared.watched.WatchedEnd.{WatchedEnd}
 use Rattle.ga_breakpoints.specs.declared.halts.Halting.{Halting}
 use Rattle.ga_breakpoints.specs.declared.going.Halt.{Halt}

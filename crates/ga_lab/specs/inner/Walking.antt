@@ -10,7 +10,7 @@ use Rattle.ga_grid.specs.Chip.{node_at}
 use Rattle.ga_journal.specs.Histories.{Book, history, Untold}
 use Rattle.ga_journal.specs.Walked.{walked}
 use Rattle.ga_lab.specs.Machine.{Standing, standing, Telling, telling}
-use Rattle.ga_lab.specs.kept.Tied.{state_of, IsLab}
+use Rattle.ga_lab.specs.inner.Tied.{state_of, IsLab}
 
 -- ---- the journal's refusals as those of a step
 

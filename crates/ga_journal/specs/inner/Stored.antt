@@ -14,7 +14,7 @@ use Rattle.ga_journal.specs.declared.entry.Part.TheVariants.{Own, Look, Passed}
 use Rattle.ga_journal.specs.declared.entry.Pass.{Pass}
 use Rattle.ga_journal.specs.declared.entry.Entry.{Entry}
 use Rattle.ga_journal.specs.Histories.{Past, past, deed}
-use Rattle.ga_journal.specs.kept.Histories.{Held}
+use Rattle.ga_journal.specs.inner.Histories.{Held}
 
 -- an end of a pass as the part of its node
 abbrev pub act_with : Role → Pass → Act

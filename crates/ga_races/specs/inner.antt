@@ -17,7 +17,7 @@ use Rattle.ga_grid.specs.Chip.{record_at}
 use Rattle.ga_event.specs.declared.event.Event.{Event}
 use Rattle.ga_event.specs.declared.event.Event.TheVariants.{Own, Pass}
 use Rattle.ga_node.specs.Table.{refusal}
-use Rattle.ga_causal.specs.kept.{any_of}
+use Rattle.ga_causal.specs.inner.{any_of}
 use Rattle.std.specs.List.{list_any}
 use Rattle.ga_event.specs.Touches.{touches}
 use Rattle.ga_causal.specs.Dependence.{cause_nodes}

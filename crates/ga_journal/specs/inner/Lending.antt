@@ -1,7 +1,7 @@
 -- Histories that lend one of theirs.
 use Rattle.std.specs.Prelude.{ℕ, List}
 use Rattle.std.specs.Borrow.{Lends, MutBor, Fml}
-use Rattle.ga_journal.specs.kept.Histories.{Held, with_held}
+use Rattle.ga_journal.specs.inner.Histories.{Held, with_held}
 use Rattle.ga_journal.specs.contracts.history.History.{the_row as history_row}
 use Rattle.ga_journal.specs.contracts.histories.Histories.{the_row}
 

@@ -6,7 +6,7 @@ use Rattle.ga_event.specs.Undo.{CanRestore}
 use Rattle.ga_journal.specs.Histories.{Past, Book, history}
 use Rattle.ga_journal.specs.Walked.{walked}
 use Rattle.ga_journal.specs.Marks.{mark_of, entries, partner_of, partner_at, entry_at, going_of, waits, ticked, ticked_in_vain, lowered, AreMarks, is_counted}
-use Rattle.ga_journal.specs.kept.Marks.{to_go, in_line}
+use Rattle.ga_journal.specs.inner.Marks.{to_go, in_line}
 use Rattle.ga_ports.specs.declared.side.Side.{Side}
 use Rattle.ga_ports.specs.declared.side.Side.TheVariants.{Right, Down, Left, Up}
 use Rattle.ga_grid.specs.Grid.{neighbour_of}

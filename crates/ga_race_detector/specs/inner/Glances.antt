@@ -23,7 +23,7 @@ use Rattle.ga_race_detector.specs.declared.around.Around.{Around}
 use Rattle.ga_race_detector.specs.declared.around.LeftAround.{LeftAround}
 use Rattle.ga_race_detector.specs.declared.around.Sweep.{Sweep}
 use Rattle.ga_race_detector.specs.declared.left.LeftOf.{LeftOf}
-use Rattle.ga_race_detector.specs.kept.Writers.{AreLeft, IsTaken}
+use Rattle.ga_race_detector.specs.inner.Writers.{AreLeft, IsTaken}
 use Rattle.ga_races.specs.declared.near.Near.{Near}
 use Rattle.ga_race_detector.specs.declared.readings.Reading.{Reading}
 use Rattle.ga_race_detector.specs.Races.{looks_next}

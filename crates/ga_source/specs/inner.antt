@@ -27,7 +27,7 @@ use Rattle.ga_parser.specs.Saying.{Said}
 use Rattle.ga_parser.specs.declared.scan.TokenKind.TheVariants.{Word}
 use Rattle.ga_parser.specs.declared.scan.Token.{Token}
 use Rattle.ga_parser.specs.Plain.{body_in, bodies_in}
-use Rattle.ga_parser.specs.kept.Drafting.{texts_of}
+use Rattle.ga_parser.specs.inner.Drafting.{texts_of}
 
 -- ---- the opcodes of items, and cells of data
 
