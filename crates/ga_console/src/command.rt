@@ -11,6 +11,14 @@ use super::ahead::{node_ahead, word_of};
 use ga_grid::NodeId;
 use ga_text::{byte_of, cut, node_in, number_in};
 
+/// What stands in a table beside a name, where it is the text, or nothing.
+macro_rules! by_name {
+    ($text:expr;) => { None };
+    ($text:expr; $name:literal => $told:expr, $($rows:tt)*) => {
+        if $text == $name.as_slice() { $told } else { by_name!($text; $($rows)*) }
+    };
+}
+
 /// A command of a session. Steps are numbered from 1, but any number may be asked for.
 #[derive(Clone, Copy, PartialEq, Eq)]
 pub enum Command {
@@ -173,21 +181,14 @@ fn alone(name: &[u8]) -> Option<Command>
 fn with_arguments(name: &[u8], arguments: &[u8]) -> Option<Command>
     ensures { result ≡ with_arguments name.now arguments.now }
 {
-    if name == b"step".as_slice() {
-        step_command(arguments)
-    } else if name == b"rewind".as_slice() {
-        rewind_of(arguments)
-    } else if name == b"node".as_slice() {
-        node_command(arguments)
-    } else if name == b"mem".as_slice() {
-        memory_of(arguments)
-    } else if name == b"trace".as_slice() {
-        trace_command(arguments)
-    } else if name == b"why".as_slice() {
-        why_of(arguments)
-    } else {
-        None
-    }
+    by_name!(name;
+        b"step" => step_command(arguments),
+        b"rewind" => rewind_of(arguments),
+        b"node" => node_command(arguments),
+        b"mem" => memory_of(arguments),
+        b"trace" => trace_command(arguments),
+        b"why" => why_of(arguments),
+    )
 }
 
 fn step_command(arguments: &[u8]) -> Option<Command>
