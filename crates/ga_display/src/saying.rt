@@ -1,10 +1,12 @@
 //! The texts of answers, said to the output.
-ghost use Rattle.std.specs.Prelude.{◌≡◌, ◌++◌};
+ghost use Rattle.std.specs.Prelude.{◌≡◌, ◌+◌, ◌≤◌, ◌++◌};
+ghost use Rattle.arrayvec.specs.ArrayVec.{array_vec_len};
 ghost use Rattle.ga_text.specs.Lines.{Bytes};
 ghost use Rattle.ga_text.specs.Output.{SaysExactly};
 ghost use Rattle.ga_display.specs.Texts.{made_text, removed_text, counts_text, trace_text, chain_text};
 
 use super::event::push_made;
+use arrayvec::ArrayVec;
 use ga_grid::NodeId;
 use ga_lab::{Counts, Made};
 use ga_text::{LINE_ROOM, Spoken, Writer, push_node_spaced, push_number, push_text};
@@ -18,13 +20,20 @@ pub fn say_removed<W: Write>(writer: &mut Writer<'_, W>, removed: u32, kept: u32
     ensures { SaysExactly result (removed_text removed kept) W.contents writer.old writer.new }
 {
     writer.make_room(LINE_ROOM)?;
-    let out = &mut writer.pending;
+    push_removed(&mut writer.pending, removed, kept);
+    Ok(())
+}
+
+/// Adds how many events were removed, and how many are kept.
+fn push_removed<const ROOM: usize>(out: &mut ArrayVec<u8, ROOM>, removed: u32, kept: u32)
+    requires { array_vec_len out.old + LINE_ROOM ≤ ROOM }
+    ensures { out.new.items ≡ out.old.items ++ removed_text removed kept }
+{
     push_text(out, b"removed ");
     push_number(out, u64::from(removed));
     push_text(out, b" kept ");
     push_number(out, u64::from(kept));
     push_text(out, b"\n");
-    Ok(())
 }
 
 /// Says the text of an event, as `say` does.
