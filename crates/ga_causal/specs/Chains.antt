@@ -47,7 +47,7 @@ least_below test zero = zero
 least_below test (suc n) =
     if nat_lt (least_below test n) n then least_below test n else if test n then n else suc n
 
--- the oldest of the events that lead so to the one at `place`
+-- the oldest event on which the one at `place` depends directly and which is the cause or depends on it; `place` where there is none
 abbrev pub oldest_cause : List Cause → ℕ → ℕ → ℕ
 oldest_cause events cause place = least_below (leads_to events cause place) place
 

@@ -29,7 +29,7 @@ rule_of earlier later =
     then (if is_a_pass earlier.event || is_a_pass later.event then 2 else 1)
     else (if meets (cause_touches earlier) later then 3 else 0)
 
--- what is read past the end of a list
+-- the event that is read past the end of a list
 abbrev pub no_cause : Cause
 no_cause = record { event = Own (node_id 0); look = false }
 
@@ -45,12 +45,12 @@ pub record IsDirect (events : List Cause) (earlier later : ℕ) : Type 0 where
   pub within : later < length events
   pub by_rule : rule_between events earlier later ≢ 0
 
--- the least reflexive and transitive relation that contains direct dependence
+-- one event depends on another: the least reflexive and transitive relation that contains direct dependence
 pub data DependsOn (events : List Cause) (cause : ℕ) : ℕ → Type 0 where
   itself : DependsOn events cause cause
   through : {middle effect : ℕ} → DependsOn events cause middle → IsDirect events middle effect → DependsOn events cause effect
 
--- the marks that these flags are
+-- whether the flag of a node is set; past the flags none is
 abbrev pub is_marked : List Bool → ℕ → Bool
 is_marked flags n = slice_index_or flags n false
 

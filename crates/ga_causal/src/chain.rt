@@ -72,14 +72,14 @@ impl Chain {
         self.links().get(index).copied()
     }
 
-    /// How many links it has.
+    /// How many links the chain has.
     pub fn len(&self) -> usize
         ensures { result ≡ length self.now }
     {
         self.links().len()
     }
 
-    /// Whether it has no link.
+    /// Whether the chain has no link.
     pub fn is_empty(&self) -> bool
         ensures { IsTrue result ↔ (length self.now ≡ 0) }
     {

@@ -30,7 +30,7 @@ impl Model for Nodes {
 }
 
 impl Nodes {
-    /// None.
+    /// The set of no nodes.
     pub fn none() -> Self
         ensures { (n : ℕ) → is_marked result n ≡ false }
     {
@@ -39,14 +39,14 @@ impl Nodes {
         }
     }
 
-    /// Whether the node is one of them.
+    /// Whether the node is one of the set.
     pub fn has(&self, node: NodeId) -> bool
         ensures { result ≡ is_marked self.now node.number }
     {
         self.flags[node.index()]
     }
 
-    /// Whether the event touches one of them.
+    /// Whether the event touches a node of the set.
     pub fn met_by(&self, event: &Cause) -> bool
         ensures { result ≡ list_any (is_marked self.now) (cause_nodes event.now) }
     {
@@ -56,7 +56,7 @@ impl Nodes {
         }
     }
 
-    /// Whether the event touches one of them, or looks at one.
+    /// Whether the event touches a node of the set, or looks at one.
     #[tactic(auto, unfolding(ga_event::specs::Touches::seen_by))]
     pub fn seen_by(&self, event: &Cause) -> bool
         ensures { result ≡ meets (is_marked self.now) event.now }
@@ -99,7 +99,7 @@ impl Nodes {
         }
     }
 
-    // Whether a neighbour of the node is one of them.
+    // Whether a neighbour of the node is one of the set.
     #[tactic(auto, using(crate::proofs::Oldest::any_neighbours))]
     fn has_beside(&self, node: NodeId) -> bool
         ensures { result ≡ list_any (is_marked self.now) (neighbours node.number) }
@@ -111,7 +111,7 @@ impl Nodes {
         right || down || left || up
     }
 
-    // Whether the neighbour on a side is one of them.
+    // Whether the neighbour on a side is one of the set.
     fn has_on(&self, node: NodeId, side: Side) -> bool
         ensures { result ≡ any_of (is_marked self.now) (neighbour_of node.number side) }
     {

@@ -43,7 +43,7 @@ node_of yxx = if nat_lt (yxx / 100) 8 && nat_lt (yxx % 100) 18 then Some (18 * (
 abbrev pub is_even : ℕ → Bool
 is_even n = n % 2 == 0
 
--- the next of so many places, or the one before
+-- the place after a place or the one before, of so many places; none past the ends
 abbrev pub next_place : ℕ → ℕ → Bool → Option ℕ
 next_place place size true = if nat_lt (place + 1) size then Some (place + 1) else None
 next_place place size false = if place == 0 then None else Some (place - 1)
@@ -61,7 +61,7 @@ abbrev pub number_where_any : Option NodeId → Option ℕ
 number_where_any None = None
 number_where_any (Some node) = Some node.number
 
--- the node of a number; from 144 on they begin again
+-- the node of a number; from 144 on the nodes begin again
 abbrev pub node_id : ℕ → NodeId
 node_id n = record { number = n % 144; in_range = mod-lt n (lit< tt) }
 

@@ -12,7 +12,7 @@ pub record IsNewestLook (entries : List Past) (mark at : ℕ) : Type 0 where
   pub looked : has_looked_in entry.act ≡ true
   pub newest : (p : ℕ) (e : Past) → at < p → p < mark → slice_get entries p ≡ Some e → has_looked_in e.act ≡ false
 
--- none of them is a look
+-- none of the first entries of a history, as many as the mark says, is a look
 abbrev pub HasNoLook : List Past → ℕ → Type 0
 HasNoLook entries mark = (p : ℕ) (e : Past) → p < mark → slice_get entries p ≡ Some e → has_looked_in e.act ≡ false
 
@@ -20,14 +20,14 @@ HasNoLook entries mark = (p : ℕ) (e : Past) → p < mark → slice_get entries
 abbrev pub HasLook : List Past → Type 0
 HasLook entries = (p : ℕ) × (e : Past) × (slice_get entries p ≡ Some e) × (has_looked_in e.act ≡ true)
 
--- the newest look came after the entry at a position of another history
+-- the newest look among the first entries of a history came after the entry at a position of another history
 pub record IsLookAfter (entries : List Past) (mark : ℕ) (others : List Past) (place at : ℕ) : Type 0 where
   pub look : IsNewestLook entries mark at
   pub gone : Past
   pub first : slice_get others place ≡ Some gone
   pub after : gone.stamp < look.entry.stamp
 
--- no look among them did
+-- no look among the first entries of a history came after the entry at a position of another history
 abbrev pub HasNoLookAfter : List Past → ℕ → List Past → ℕ → Type 0
 HasNoLookAfter entries mark others place =
     (p : ℕ) (e f : Past) → p < mark → slice_get entries p ≡ Some e → has_looked_in e.act ≡ true
@@ -38,12 +38,12 @@ abbrev pub IsLookToGo : Book → ℕ → ℕ → ℕ → Type 0
 IsLookToGo book node looker at =
     IsLookAfter (history book.histories looker) (mark_of book looker) (history book.histories node) (mark_of book node) at
 
--- no look of the looker that is to stay so far did
+-- no look of the looker that is to stay so far came after an entry of the node that is to go
 abbrev pub SawNoneToGo : Book → ℕ → ℕ → Type 0
 SawNoneToGo book node looker =
     HasNoLookAfter (history book.histories looker) (mark_of book looker) (history book.histories node) (mark_of book node)
 
--- looking for it in vain reads entries, and so is a tick, where the looker has a look at all
+-- looking in vain for a look of the looker reads entries, and so is a tick, where the looker has a look at all
 pub data IsSought (old : Book) (looker : ℕ) (new : Book) : Type 0 where
   Never : HasNoLook (history old.histories looker) (length (history old.histories looker)) → new ≡ old → IsSought old looker new
   Once : HasLook (history old.histories looker) → new ≡ ticked_in_vain old → IsSought old looker new

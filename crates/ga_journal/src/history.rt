@@ -163,7 +163,7 @@ impl History {
         }
     }
 
-    /// How many entries there are.
+    /// How many entries the history has.
     #[inline(always)]
     pub fn len(&self) -> usize
         ensures { result ≡ length self.now.items }

@@ -63,7 +63,7 @@ impl Waiting {
         None
     }
 
-    /// Takes one of them out.
+    /// Takes one of the nodes that wait out.
     #[inline(always)]
     pub fn take(&mut self) -> Option<NodeId>
         ensures some { IfSome result (λ node. slice_index_or self.old node.number false ≡ true) }

@@ -15,7 +15,7 @@ called s (step n) = stepped s n
 called s undo = undone s
 called s (rewind n k) = rewound s n k
 
--- and after these, one after another
+-- the machine after these calls, one after another
 abbrev pub called_all : State → List MachineCall → State
 called_all s [] = s
 called_all s (call ∷ calls) = called_all (called s call) calls
@@ -25,7 +25,7 @@ pub record IsReached (s : State) : Type 0 where
   pub calls : List MachineCall
   pub is : called_all (first s.load s.limit) calls ≡ s
 
--- one keeps what the other keeps, but for the order of independent events
+-- one machine keeps what the other keeps, but for the order of independent events
 pub record AreEquivalentStates (s z : State) : Type 0 where
   pub load : s.load ≡ z.load
   pub limit : s.limit ≡ z.limit

@@ -38,9 +38,9 @@ pub data AreCausal : State → List MachineCall → List MachineCall → Type 0 
   itself : {s : State} {xs : List MachineCall} → AreCausal s xs xs
   back : {s : State} {xs ys : List MachineCall} → AreCausal s xs ys → AreCausal s ys xs
   chained : {s : State} {xs ys zs : List MachineCall} → AreCausal s xs ys → AreCausal s ys zs → AreCausal s xs zs
-  -- the same call before both
+  -- one call more at the beginning of both sequences
   before : {s : State} {call : MachineCall} {xs ys : List MachineCall} → AreCausal (called s call) xs ys → AreCausal s (call ∷ xs) (call ∷ ys)
-  -- the same calls after both
+  -- the same calls more at the end of both sequences: none is an undo, or (in `onward`) both sequences lead to the same kept events
   more : {s : State} (xs ys zs : List MachineCall) → AllNamed zs → CanCountAll s (xs ++ zs) → CanCountAll s (ys ++ zs)
       → AreCausal s xs ys → AreCausal s (xs ++ zs) (ys ++ zs)
   onward : {s : State} (xs ys zs : List MachineCall) → (called_all s xs).kept ≡ (called_all s ys).kept

@@ -7,7 +7,7 @@ use Rattle.ga_node.specs.declared.wait.Wait.TheVariants.{Nothing, Read, Write, F
 use Rattle.ga_node.specs.declared.due.Due.{Due}
 use Rattle.ga_node.specs.declared.due.Due.TheVariants as due
 
--- neither a wait nor a stop
+-- the node runs: it neither waits nor is stopped
 abbrev pub IsRunning : NodeRecord → Type 0
 IsRunning n = (n.wait ≡ Nothing) × (n.stop ≡ 0)
 
@@ -16,7 +16,7 @@ abbrev pub CanDo : Due → NodeRecord → Type 0
 CanDo due.Fetch n = IsRunning n
 CanDo (due.Run op) n = IsRunning n × (n.slot < 4) × (n.slot ≡ 3 → code_of op % 4 ≡ 0)
 
--- who waits to write, and who waits to read
+-- a wait to write, and in `IsReading` a wait to read
 abbrev pub IsWriting : Wait → Type 0
 IsWriting (Write side) = Unit {0}
 IsWriting Nothing = ⊥

@@ -6,8 +6,8 @@ use crate::wait::Wait;
 /// was waited for before a stop.
 #[derive(Clone, Copy, PartialEq, Eq, Debug)]
 pub struct Aside {
-    /// The wait.
+    /// The wait that is set aside.
     pub wait: Wait,
-    /// The number of the stop, 0 for none.
+    /// The number of the stop that is set aside, 0 for none.
     pub stop: u8,
 }

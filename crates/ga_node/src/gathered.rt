@@ -7,7 +7,7 @@ use crate::node::Node;
 use crate::saved::{Saved, unpack};
 use std::marker::Model;
 
-/// The codes of places are below it.
+/// The codes of places are below this number.
 const CODES: usize = 249;
 
 /// The old values of many events, gathered from the newest event on: of each place the one that is written back last. To write
@@ -35,7 +35,7 @@ impl Gathered {
     ghost use Rattle.ga_node.specs.Record.{NodeState};
     ghost use Rattle.ga_node.specs.State.{with_value, with_aside, restored, IsInRange, AreFit, IsCleared};
 
-    /// No old value.
+    /// No old values: none is gathered yet.
     pub fn new() -> Self
         ensures { result ≡ [] }
     {
@@ -64,7 +64,7 @@ impl Gathered {
         }
     }
 
-    /// Writes them back to a node whose wait and stop are set aside.
+    /// Writes the gathered values back to a node whose wait and stop are set aside.
     pub fn write_back(&self, node: &mut Node, aside: &mut Aside)
         requires fit { AreFit self.now }
         requires cleared { IsCleared node.old }

@@ -46,7 +46,7 @@ impl Saved {
         }
     }
 
-    /// How many pairs there are.
+    /// How many pairs the list has.
     #[inline(always)]
     pub fn len(&self) -> usize
         ensures value { result ≡ length self.now }
@@ -55,7 +55,7 @@ impl Saved {
         if self.is_full() { 7 } else { self.words.len() }
     }
 
-    /// Whether there are seven: the free bits of the sixth word then say so.
+    /// Whether the list has seven pairs: the free bits of the sixth word then say so.
     #[tactic(auto, using(std::proofs::lemmas::Bool::ne_eqb, crate::proofs::Packing::some_spare, crate::proofs::Packing::no_spare, crate::proofs::Packing::count_none, crate::proofs::Packing::count_one, crate::proofs::Packing::few_pairs))]
     #[inline(always)]
     pub(crate) fn is_full(&self) -> bool
@@ -65,7 +65,7 @@ impl Saved {
         self.words.len() == 6 && self.words[5] / 0x40000 % 64 > 0
     }
 
-    /// How many of the first six there are.
+    /// How many of the first six pairs the list has.
     #[tactic(auto, using(crate::proofs::Packing::first_six))]
     #[inline(always)]
     pub(crate) fn six(&self) -> usize

@@ -17,7 +17,7 @@ pub enum Target {
     Io,
     /// One or more ports.
     Ports(PortSet),
-    /// None of these.
+    /// Nothing: neither memory nor `io` nor a port.
     Bad,
 }
 

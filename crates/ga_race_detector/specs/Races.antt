@@ -27,7 +27,7 @@ use Rattle.ga_races.specs.Orders.{can_go, first_in}
 abbrev pub given : NodeRecord → NodeRecord → Side → Option ℕ
 given reader writer side = if writes_to writer.wait side && reads_from reader.wait side then Some (t writer) else None
 
--- the same of the neighbour of this number
+-- the word that the neighbour of this number waits to give a node over a side, if there is such a neighbour
 abbrev pub offered_by : List NodeRecord → ℕ → Side → Option ℕ → Option ℕ
 offered_by chip reader side None = None
 offered_by chip reader side (Some writer) = given (record_at chip reader) (record_at chip writer) side
@@ -44,18 +44,18 @@ race_from reader step writer word (Some other) (Some offer) =
     if other == writer.number then []
     else record { reader = reader; step = step; writer = writer; word = word; other = node_id other; offered = offer } ∷ []
 
--- over a side of the node, were the step taken back
+-- the race of a step that took a word, of another word over a side of the node, were the step taken back
 abbrev pub races_over : State → NodeId → ℕ → NodeId → ℕ → Side → List Race
 races_over s reader step writer word side =
     race_from reader step writer word (neighbour_of reader.number side) (offered (chip_of (rewound s reader.number step)) reader.number side)
 
--- over its sides
+-- the races of a step that took a word, of other words over the sides of the node, were the step taken back
 abbrev pub races_around : State → NodeId → ℕ → NodeId → ℕ → List Race
 races_around s reader step writer word =
     races_over s reader step writer word Right ++ (races_over s reader step writer word Down
     ++ (races_over s reader step writer word Left ++ races_over s reader step writer word Up))
 
--- of a step of a node of which this is told, where by it the node took a word
+-- the races of a step of a node of which this is told: none, unless by it the node took a word
 abbrev pub races_told : State → NodeId → ℕ → Option Made → List Race
 races_told s node step None = []
 races_told s node step (Some (made.Own n k kind)) = []
@@ -64,21 +64,21 @@ races_told s node step (Some (made.Pass writer i reader j word)) = if reader.num
 abbrev pub races_at : State → NodeId → ℕ → List Race
 races_at s node place = races_told s node (place + 1) (slice_get (history_of s node.number) place)
 
--- of its first steps
+-- the races of the first steps of a node
 unfoldable pub races_before : State → NodeId → ℕ → List Race
 races_before s node zero = []
 races_before s node (suc place) = races_before s node place ++ races_at s node place
 
--- of all its steps
+-- the races of all steps of a node
 abbrev pub races_of : State → NodeId → List Race
 races_of s node = races_before s node (steps_of node.number s.kept)
 
--- of the first nodes
+-- the races of the first so many nodes
 unfoldable pub races_below : State → ℕ → List Race
 races_below s zero = []
 races_below s (suc number) = races_below s number ++ races_of s (node_id number)
 
--- of one node, or of all
+-- the races of one node, or of all
 abbrev pub races_asked : State → Option NodeId → List Race
 races_asked s None = races_below s 144
 races_asked s (Some node) = races_of s node
@@ -92,7 +92,7 @@ has_look (cause ∷ causes) = cause.look || has_look causes
 abbrev pub looks_next : List NodeRecord → ℕ → Bool
 looks_next chip n = is_none (refusal (record_at chip n)) && looks (record_at chip n)
 
--- that of one of the first nodes
+-- the next event of one of the first so many nodes is one of its own that looks
 unfoldable pub has_next_look : List NodeRecord → ℕ → Bool
 has_next_look chip zero = false
 has_next_look chip (suc n) = looks_next chip n || has_next_look chip n

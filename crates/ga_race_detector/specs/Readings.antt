@@ -47,7 +47,7 @@ pub record IsNearReading (s : State) (reading : Reading) : Type 0 where
   pub near : IsNear s.load s.kept look change ⊎ IsNear s.load s.kept change look
   pub order : reading.early ≡ nat_lt look change
 
--- so it is, of the node that was asked for
+-- the look could have read the other word, and is of the node that was asked for, if one was
 abbrev pub IsTold : State → Option NodeId → Reading → Type 0
 IsTold s only reading = IsOtherwise s reading × IfSome only (λ node. reading.node ≡ node)
 

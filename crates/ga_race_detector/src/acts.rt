@@ -29,9 +29,9 @@ use std::alloc::Global;
 /// The kept events in order.
 #[derive(Drop)]
 pub(crate) struct Acts {
-    /// Each with what it changed of what the neighbours of its nodes are shown.
+    /// The kept events in order, each with what it changed of what the neighbours of its nodes are shown.
     pub(crate) list: Vec<EventAccess>,
-    /// What was before each.
+    /// What was before each of the kept events.
     pub(crate) moments: Vec<Moment>,
 }
 
@@ -42,7 +42,7 @@ struct Behind {
     steps: [u32; 144],
 }
 
-// No side.
+// An empty set of sides.
 fn no_sides() -> Sides {
     Sides {
         right: false,
@@ -93,7 +93,7 @@ pub(crate) fn shown_by(code: u32, side: Side) -> Beside
     }
 }
 
-// Whether two such nodes show something else on a side.
+// Whether a node shows something else on a side with the one number of its wait than with the other.
 fn is_changed(before: u32, behind: u32, side: Side) -> bool
     requires before { IsWaitCode before }
     requires behind { IsWaitCode behind }
@@ -102,7 +102,7 @@ fn is_changed(before: u32, behind: u32, side: Side) -> bool
     shown(before, side) != shown(behind, side)
 }
 
-// On which sides they do.
+// On which sides a node shows something else with the one number of its wait than with the other.
 fn differ(before: u32, behind: u32) -> Sides
     requires before { IsWaitCode before }
     requires behind { IsWaitCode behind }
@@ -140,7 +140,7 @@ fn wait_now(lab: &Lab, node: NodeId) -> u32
 }
 
 impl Behind {
-    // Those of the lab as it stands.
+    // The wait and the steps of each node of the lab as it stands.
     fn of(lab: &Lab) -> Self
         ensures { (p : ℕ) → take p lab.now.kept ≡ lab.now.kept → AllStood lab.now p result.waits result.steps }
     {
@@ -164,14 +164,14 @@ impl Behind {
         self.waits[node.index()]
     }
 
-    // How many steps it had made.
+    // How many steps a node had made.
     fn steps_at(&self, node: NodeId) -> u32
         ensures { result ≡ slice_index self.now.steps node.number }
     {
         self.steps[node.index()]
     }
 
-    // Puts other numbers there.
+    // Puts another wait and another number of steps to a node.
     fn put(&mut self, node: NodeId, wait: u32, step: u32)
         ensures wait { slice_index self.new.waits node.number ≡ wait }
         ensures step { slice_index self.new.steps node.number ≡ step }
@@ -195,7 +195,7 @@ impl Behind {
         }
     }
 
-    // What stands on each of its sides.
+    // What stands on each side of a node.
     #[tactic(auto, unfolding(ga_event::specs::Apply::seen_from))]
     fn seen(&self, node: NodeId) -> Seen
         requires { (m : ℕ) → m < 144 → IsWaitCode (slice_index self.now.waits m) }
@@ -221,7 +221,7 @@ impl Behind {
         self.seen(node).io_word()
     }
 
-    // What is before this event.
+    // How many steps the nodes of an event had made before it, and the word that it reads in `io` if it looks.
     fn moment(&self, cause: &Cause) -> Moment
         requires { (m : ℕ) → m < 144 → IsWaitCode (slice_index self.now.waits m) }
         ensures { (s : State) (p : ℕ) → AllStood s p self.now.waits self.now.steps → IsMoment s p cause.now result }
@@ -273,7 +273,7 @@ impl Behind {
         }
     }
 
-    // The same of a pass between two nodes.
+    // Goes back by the last event, which is this one, a pass from the writer to the reader.
     fn back_pass(&mut self, lab: &Lab, cause: Cause, writer: NodeId, reader: NodeId) -> EventAccess
         requires pass { (side : Side) × (cause.event ≡ Event.Pass writer reader side) }
         requires replays { replay lab.now.load lab.now.kept ≡ Some (chip_of lab.now) }
@@ -292,7 +292,7 @@ impl Behind {
         }
     }
 
-    // The same of any event.
+    // Goes back by the last event, which is this one, and says what it changed of what neighbours are shown.
     fn back_by(&mut self, lab: &Lab, cause: Cause) -> EventAccess
         requires replays { replay lab.now.load lab.now.kept ≡ Some (chip_of lab.now) }
         requires stood { (p : ℕ) × IsAt lab.now p cause × AllStood lab.now (p + 1) self.old.waits self.old.steps }
@@ -308,7 +308,7 @@ impl Behind {
     }
 }
 
-// The event, with no sides yet.
+// The event, with no sides yet on which it changed what is shown.
 fn plain(cause: &Cause) -> EventAccess
     ensures { result.cause ≡ cause.now }
 {
@@ -319,7 +319,7 @@ fn plain(cause: &Cause) -> EventAccess
     }
 }
 
-// The events, with no sides yet.
+// The events, each with no sides yet on which it changed what is shown.
 #[tactic(auto, using(crate::proofs::Acting::plain_more, std::proofs::lemmas::List::take_all))]
 fn plain_acts(alloc: Global, causes: &[Cause]) -> Result<Vec<EventAccess>, LabFault>
     ensures causes { IfOk result (λ acts. causes_in (actions_in acts.items) ≡ causes.now) }

@@ -13,10 +13,10 @@ use ga_lab::LabFault;
 use ga_ports::Side;
 use std::alloc::Global;
 
-/// Of a node and its neighbours, how many steps would be left.
+/// How many steps of a node and of each of its neighbours would be left, were a step taken back.
 #[derive(Clone, Copy, PartialEq, Eq, Debug)]
 pub(crate) struct Around {
-    /// Of the node.
+    /// How many steps of the node would be left.
     pub(crate) node: u32,
     right: u32,
     down: u32,
@@ -24,7 +24,7 @@ pub(crate) struct Around {
     up: u32,
 }
 
-/// The same for each step of one node that is taken back.
+/// How many steps of a node and of each of its neighbours would be left, for each step of one node that is taken back.
 #[derive(Drop)]
 pub(crate) struct LeftAround {
     node: Vec<u32>,
@@ -35,7 +35,7 @@ pub(crate) struct LeftAround {
 }
 
 impl Around {
-    /// Of the neighbour on the side.
+    /// How many steps of the neighbour on the side would be left.
     pub(crate) fn over(&self, side: Side) -> u32
         ensures { result ≡ around_over self.now side }
     {
@@ -48,7 +48,7 @@ impl Around {
     }
 }
 
-// The number for a step.
+// The number that a list has for a step of a node.
 fn number_of(list: &[u32], step: u32) -> u32
     requires { 0 < step }
     ensures { result ≡ slice_index list.now (step - 1) }
@@ -67,7 +67,8 @@ fn beside_or(node: NodeId, side: Side) -> NodeId
     }
 }
 
-// The same as far as the events have gone. Of a side where nobody is, those of the node itself.
+// How many steps of a node and its neighbours would be left, as far as the events have gone.
+// Where nobody is on a side, the node itself stands for the neighbour.
 #[derive(Drop)]
 struct Sweep {
     here: LeftOf,
@@ -83,7 +84,7 @@ impl Sweep {
     ghost use Rattle.ga_race_detector.specs.inner.Writers.{IsTaken, IsFilled};
     ghost use Rattle.ga_race_detector.specs.inner.Glances.{sweep_over, lists_over, AreFirst, AreTaken, AreFew};
 
-    // Where there was no event.
+    // What is known of a node and its neighbours where there was no event.
     fn none(alloc: Global, node: NodeId) -> Self
         ensures { AreFirst node result }
     {
@@ -100,7 +101,7 @@ impl Sweep {
         }
     }
 
-    // Goes on by an event, of the node and the sides right and down.
+    // Takes in an event for the node and for the sides right and down.
     #[inline(always)]
     fn take_first(&mut self, cause: &Cause, depth: u32) -> Result<(), LabFault>
         requires { AreFew self.old }
@@ -116,7 +117,7 @@ impl Sweep {
         self.down.take(cause, depth)
     }
 
-    // Goes on by an event, which depends on so many of the steps.
+    // Takes in an event for the node and all its sides; it depends on so many steps of the node of which steps are taken back.
     #[inline(always)]
     fn take(&mut self, cause: &Cause, depth: u32) -> Result<(), LabFault>
         requires { AreFew self.old }
@@ -128,7 +129,7 @@ impl Sweep {
         self.up.take(cause, depth)
     }
 
-    // The lists where there are no more events, and so many steps.
+    // The lists where there are no more events, and the node of which steps are taken back made so many steps.
     fn end(self, made: u32) -> Result<LeftAround, LabFault>
         ensures here { IfOk result (λ lists. IsFilled self.here.list.items lists.node.items made self.here.count) }
         ensures beside { IfOk result (λ lists. (side : Side) →
@@ -158,8 +159,8 @@ impl Sweep {
 }
 
 impl LeftAround {
-    /// Those of this node, for each step of the one from which they are taken back. Takes memory for these, and time by the
-    /// events.
+    /// How many steps of `node` and its neighbours would be left, for each step of `from` that is taken back.
+    /// Takes memory for these, and time by the events.
     ///
     /// # Errors
     /// `Memory` alone.
@@ -185,7 +186,7 @@ impl LeftAround {
         sweep.end(made)
     }
 
-    // The list of a side.
+    // The list of how many steps of the neighbour on a side would be left.
     fn over(&self, side: Side) -> &[u32]
         ensures { result.now ≡ lists_over self.now side }
     {
@@ -197,7 +198,7 @@ impl LeftAround {
         }
     }
 
-    // The number of a side for a step.
+    // How many steps of the neighbour on a side would be left, were this step taken back.
     fn number_over(&self, side: Side, step: u32) -> u32
         requires { 0 < step }
         ensures { result ≡ slice_index (lists_over self.now side) (step - 1) }
@@ -206,7 +207,7 @@ impl LeftAround {
         number_of(list, step)
     }
 
-    /// Where this step is taken back.
+    /// How many steps of the node and of its neighbours would be left, were this step taken back.
     #[tactic(auto, using(crate::proofs::Lefts::around_at, crate::proofs::Lefts::by_sides))]
     pub(crate) fn at(&self, step: u32) -> Around
         requires { 0 < step }

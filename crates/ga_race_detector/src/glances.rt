@@ -24,13 +24,13 @@ use std::alloc::Global;
 pub(crate) struct Glance {
     /// The node that looked.
     pub(crate) node: NodeId,
-    /// Its step.
+    /// The step by which the node looked.
     pub(crate) step: u32,
-    /// The word that it read.
+    /// The word that the node read.
     pub(crate) word: Word18,
     /// The neighbour that changed what it shows.
     pub(crate) neighbour: NodeId,
-    /// The step by which it did.
+    /// The step by which the neighbour changed this.
     pub(crate) change: u32,
     /// Whether the look came first.
     pub(crate) early: bool,
@@ -48,7 +48,7 @@ impl Glance {
         }
     }
 
-    /// Whether it is of the same node, and a step of the same node is taken back.
+    /// Whether both looks are of one node, and a step of one node is taken back for both.
     pub(crate) fn hangs_with(&self, other: &Glance) -> bool
         ensures { result ≡ true → HangTogether self.now other.now }
     {
@@ -83,7 +83,7 @@ fn part_beside(event: Event, node: NodeId) -> NodeId
     }
 }
 
-// How many steps that node had made before it.
+// How many steps the node of an event that is beside another node had made before the event.
 fn steps_beside(cause: &Cause, moment: &Moment, node: NodeId) -> u32
     ensures { (s : State) (p : ℕ) → IsMoment s p cause.now moment.now →
         result ≡ steps_of (part_beside cause.now.event node.number).number (take p s.kept) }
@@ -128,7 +128,7 @@ fn glance_of(lab: &Lab, causes: &[Cause], moments: &[Moment], near: Near) -> Opt
     })
 }
 
-/// One of a list.
+/// The look and change at a place of a list.
 pub(crate) fn glance_at(glances: &[Glance], place: usize) -> Glance
     requires { place < length glances.now }
     ensures { result ≡ slice_index_or glances.now place result }
@@ -136,7 +136,7 @@ pub(crate) fn glance_at(glances: &[Glance], place: usize) -> Glance
     glances[place]
 }
 
-// Whether it is the node that was asked for.
+// Whether a node is the one that was asked for, or all were.
 fn is_asked(only: Option<NodeId>, node: NodeId) -> bool
     ensures asked { result ≡ true → IfSome only (λ it. node ≡ it) }
     ensures other { result ≡ false → IfSome only (λ it. node ≡ it) → ⊥ }
@@ -147,7 +147,7 @@ fn is_asked(only: Option<NodeId>, node: NodeId) -> bool
     }
 }
 
-// The same of these places, where its node was asked for.
+// Adds the look and the change that stand at these places, if the node that looked was asked for.
 fn add_near(
     list: &mut Vec<Glance>,
     lab: &Lab,
@@ -174,7 +174,7 @@ fn add_near(
     }
 }
 
-/// Those of a node, or of all, in the same order. Takes memory and time by these.
+/// The looks of a node, or of all, with the changes near to them, in the order of `nears`. Takes memory and time by these.
 ///
 /// # Errors
 /// `Memory` alone.

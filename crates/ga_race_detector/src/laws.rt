@@ -63,7 +63,8 @@ pub fn every_order()
         first_ready (chip_of z) ≡ None → chip_of z ≡ chip_of s }
 {}
 
-/// The same where a node may have an event: every other session from that load in which no node made more steps stands on the way.
+/// Take a session of which no step is told (`races_asked`), and where nothing that is kept or comes next looks.
+/// Every other session from that load in which no node made more steps stands on the way there.
 #[tactic(auto, using(crate::proofs::Untold::no_other))]
 pub fn no_other_order()
     ensures { (load : List NodeRecord) (limit bound : ℕ) (calls others : List MachineCall) →

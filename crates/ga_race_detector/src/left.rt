@@ -37,21 +37,21 @@ impl Depths {
     ghost use Rattle.ga_causal.specs.Dependence.{cause_touches};
     ghost use Rattle.ga_race_detector.specs.inner.Writers.{greatest, greater_with, depth};
 
-    /// Where nothing was made.
+    /// The numbers where nothing was made: 0 for each node.
     pub(crate) fn none() -> Self
         ensures { (n : ℕ) → slice_index result n ≡ 0 }
     {
         Depths { steps: [0; NODES] }
     }
 
-    // That of a node.
+    // On how many steps of the one node the newest event of a node depends.
     fn at(&self, node: NodeId) -> u32
         ensures { result ≡ slice_index self.now node.number }
     {
         self.steps[node.index()]
     }
 
-    /// That of an event, where so many steps of the one node were made before it.
+    /// On how many steps of `node` an event depends, or which it is, where `made` of them were made before it.
     #[inline(always)]
     pub(crate) fn of(&self, cause: &Cause, node: NodeId, made: u32) -> u32
         requires { made + 1 < 2 ^ 32 }
@@ -64,7 +64,7 @@ impl Depths {
         }
     }
 
-    // The greatest of those of the nodes that an event sees.
+    // The greatest of the numbers of the nodes that an event sees.
     #[tactic(auto, unfolding(ga_event::specs::Touches::seen_by))]
     fn greatest(&self, cause: &Cause) -> u32
         ensures { result ≡ greatest (slice_index self.now) (seen_by cause.now) }
@@ -82,7 +82,7 @@ impl Depths {
         }
     }
 
-    // The greatest of those of the neighbours of a node.
+    // The greatest of the numbers of the neighbours of a node.
     #[tactic(auto, using(crate::proofs::Depths::greatest_beside))]
     fn greatest_beside(&self, node: NodeId) -> u32
         ensures { result ≡ greatest (slice_index self.now) (neighbours node.number) }
@@ -117,7 +117,7 @@ impl Depths {
         }
     }
 
-    // Puts it to a node.
+    // Puts a number to a node.
     fn put_at(&mut self, node: usize, steps: u32)
         requires { node < 144 }
         ensures { (n : ℕ) → slice_index self.new n ≡ (if node == n then steps else slice_index self.old n) }
@@ -126,7 +126,7 @@ impl Depths {
     }
 }
 
-/// One more where the event touches the node.
+/// The number of steps of a node behind an event: one more where the event touches the node.
 #[inline(always)]
 pub(crate) fn with_step(steps: u32, cause: &Cause, node: NodeId) -> u32
     requires { steps + 1 < 2 ^ 32 }
@@ -162,7 +162,7 @@ impl LeftOf {
     ghost use Rattle.std.specs.Prelude.{◌≡◌, ◌<◌, ◌+◌, [], ◌^◌, OnOk, IfOk, IfErr};
     ghost use Rattle.ga_race_detector.specs.inner.Writers.{IsFilled, IsTaken};
 
-    /// Where there was no event.
+    /// What is known of a node where there was no event: no step of it, and an empty list.
     pub(crate) fn none(alloc: Global, node: NodeId) -> Self
         ensures node { result.node ≡ node }
         ensures count { result.count ≡ 0 }
@@ -175,7 +175,7 @@ impl LeftOf {
         }
     }
 
-    /// Goes on by an event, which depends on so many of the steps.
+    /// Takes in an event, which depends on so many steps of the node of which steps are taken back.
     ///
     /// # Errors
     /// `Memory` alone.
@@ -194,7 +194,7 @@ impl LeftOf {
         Ok(())
     }
 
-    /// The list where there are no more events, and so many steps.
+    /// The list where there are no more events, and the node of which steps are taken back made so many steps.
     ///
     /// # Errors
     /// `Memory` alone.
@@ -236,7 +236,7 @@ pub(crate) fn steps_left(
     left.end(made)
 }
 
-// The same of the neighbour on a side, where that is asked for; of no step else.
+// For each step of a node, how many steps of the neighbour on a side would be left, where that is asked for; else an empty list.
 fn steps_over(
     alloc: Global,
     causes: &[Cause],
@@ -271,8 +271,8 @@ impl LeftBeside {
     ghost use Rattle.ga_causal.specs.Steps.{touching};
     ghost use Rattle.ga_race_detector.specs.inner.Writers.{left_over, IsLeftBeside};
 
-    /// Those of the neighbours that ever waited to write to the node, if there are two. Takes memory for these, and time by the events
-    /// for each.
+    /// How many steps of each neighbour that ever waited to write to the node would be left, were each step of the node taken back.
+    /// Of none, if these neighbours are fewer than two. Takes memory for these, and time by the events for each.
     ///
     /// # Errors
     /// `Memory` alone.
@@ -319,7 +319,7 @@ impl LeftBeside {
         })
     }
 
-    // The list of a side.
+    // The list of how many steps of the neighbour on a side would be left.
     fn over(&self, side: Side) -> &[u32]
         ensures { result.now ≡ left_over self.now side }
     {

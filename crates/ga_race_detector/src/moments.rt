@@ -10,14 +10,14 @@ use ga_lab::LabFault;
 use ga_word::Word18;
 use std::alloc::Global;
 
-/// Of an event how many steps its nodes had made before it, and what it reads in `io` if it looks.
+/// How many steps the nodes of an event had made before it, and what it reads in `io` if it looks.
 #[derive(Clone, Copy, PartialEq, Eq, Debug)]
 pub(crate) struct Moment {
-    /// The steps of its node, of a pass those of the writer.
+    /// How many steps the node of the event had made, of a pass its writer.
     pub(crate) first: u32,
-    /// The same, of a pass those of the reader.
+    /// How many steps the node of the event had made, of a pass its reader.
     pub(crate) last: u32,
-    /// The word that it reads; 0 where it doesn't look.
+    /// The word that the event reads in `io`; 0 where it doesn't look.
     pub(crate) word: Word18,
 }
 
@@ -31,7 +31,7 @@ pub(crate) fn first_part(event: Event) -> NodeId
     }
 }
 
-/// The same, of a pass its reader.
+/// The node of an event, of a pass its reader.
 pub(crate) fn last_part(event: Event) -> NodeId
     ensures { result ≡ last_part event }
 {

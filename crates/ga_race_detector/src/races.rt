@@ -24,28 +24,28 @@ use std::alloc::Global;
 /// to write to the node, and a step of that one makes the other pass.
 #[derive(Clone, Copy, PartialEq, Eq, Debug)]
 pub struct Race {
-    /// The node.
+    /// The node that took the word.
     pub reader: NodeId,
-    /// Its step.
+    /// The step by which the reader took the word.
     pub step: u32,
-    /// Who wrote the word that it took.
+    /// Who wrote the word that the reader took.
     pub writer: NodeId,
-    /// That word.
+    /// The word that the reader took.
     pub word: Word18,
-    /// Who would write it another.
+    /// The neighbour that would write another word to the reader.
     pub other: NodeId,
-    /// The other word.
+    /// The word that the other neighbour would write.
     pub offered: Word18,
 }
 
 /// The steps of a session that could have come out otherwise, and what bears on whether these are all.
 #[derive(Debug, Drop)]
 pub struct Races {
-    /// In the order of the nodes' numbers, of a node in that of its steps, of a step in the order right, down, left, up.
+    /// The races in the order of the nodes' numbers, of a node in that of its steps, of a step in the order right, down, left, up.
     pub list: Vec<Race>,
     /// The looks that could have read another word, in the order of whichever of the look and the change stands later.
     pub readings: Vec<Reading>,
-    /// Whether a kept event looks, or one that comes next: then there may be others.
+    /// Whether a kept event looks, or one that comes next: then there may be other races than those listed.
     pub looks: bool,
     /// Whether no node of the chip has an event.
     pub quiet: bool,
@@ -67,7 +67,7 @@ struct Besides {
     left: LeftBeside,
 }
 
-// The same of the word that this neighbour would give, where that isn't the writer.
+// Adds the race of a step that took a word, of the word that this neighbour would give, where that isn't the writer.
 #[tactic(auto, using(std::proofs::lemmas::Result::on_ok_weaker, crate::proofs::Racing::added))]
 fn add_from(
     list: &mut Vec<Race>,
@@ -96,7 +96,7 @@ fn add_from(
     }
 }
 
-// The same over a side, where that isn't the writer's: over this nothing else came.
+// Adds the race over a side of a step that took a word, unless the side is the writer's: over this nothing else came.
 #[tactic(auto, using(crate::proofs::Racing::own_side))]
 fn add_over(
     list: &mut Vec<Race>,
@@ -140,7 +140,7 @@ fn add_over(
     }
 }
 
-// The same over all sides.
+// Adds the races over all sides of a step that took a word.
 fn add_around(
     list: &mut Vec<Race>,
     lab: &mut Lab,
@@ -282,7 +282,7 @@ fn add_nodes(
     Ok(())
 }
 
-// Whether one of these events looks.
+// Whether one of the events looks.
 fn has_look(causes: &[Cause]) -> bool
     ensures { result ≡ has_look causes.now }
 {
@@ -302,7 +302,7 @@ fn looks_next(chip: &Chip, node: NodeId) -> bool
     at.not_ready().is_none() && at.looks()
 }
 
-// Whether that of a node does.
+// Whether some node has a next event that is one of its own and looks.
 fn has_next_look(chip: &Chip) -> bool
     ensures { result ≡ has_next_look (records_of chip.now) 144 }
 {

@@ -30,19 +30,19 @@ use std::alloc::Global;
 /// A look of a node, and another word that it could have read: where the one step is taken back, the node looks again, and reads this.
 #[derive(Clone, Copy, PartialEq, Eq, Debug)]
 pub struct Reading {
-    /// The node.
+    /// The node that looked.
     pub node: NodeId,
-    /// Its step.
+    /// The step by which the node looked.
     pub step: u32,
-    /// The word that it read in `io`.
+    /// The word that the node read in `io`.
     pub word: Word18,
     /// A neighbour, which changed what it shows to the node.
     pub neighbour: NodeId,
-    /// The step by which it did so.
+    /// The step by which the neighbour changed what it shows.
     pub change: u32,
     /// Whether the look came before the change. Then the look is taken back, else the change.
     pub early: bool,
-    /// The other word.
+    /// The other word that the look could have read.
     pub other: Word18,
 }
 
@@ -75,7 +75,7 @@ fn shown_before(lab: &Lab, node: NodeId, steps: u32, side: Side) -> Beside
     }
 }
 
-// The same of any steps: a node whose next step is its own waits for nothing.
+// What a node showed on a side when it had made so many steps: if its next step is its own, it waits for nothing.
 fn shown_at(lab: &Lab, node: NodeId, steps: u32, side: Side) -> Beside
     ensures { (place : ℕ) → steps_of node.number (take place lab.now.kept) ≡ steps →
         result ≡ shows (record_at (chip_of (earlier lab.now place)) node.number).wait side }
@@ -101,7 +101,7 @@ fn beside_behind(lab: &Lab, around: &Around, node: NodeId, side: Side) -> Beside
     }
 }
 
-// What would stand on each of its sides.
+// What would stand on each side of the node where so many steps of each neighbour were left.
 #[tactic(auto, unfolding(ga_event::specs::Apply::seen_from))]
 fn seen_behind(lab: &Lab, around: &Around, node: NodeId) -> Seen
     ensures { (b k : ℕ) → IsAround (causes_of lab.now) b k node.number around.now →
@@ -156,7 +156,7 @@ fn reading_of(lab: &Lab, glance: &Glance, around: &Around) -> Option<Reading>
     })
 }
 
-// Adds that of a look and a change, where it is told.
+// Adds the reading of a look and a change to a list, if the look reads another word.
 fn add_reading(
     list: &mut Vec<Reading>,
     lab: &Lab,
@@ -179,7 +179,7 @@ fn add_reading(
     }
 }
 
-// Of so many looks, nothing yet.
+// A list for so many looks, of none of which anything is known yet.
 fn none_known(alloc: Global, many: usize) -> Result<Vec<Option<Around>>, LabFault>
     ensures size { IfOk result (λ known. length known.items ≡ many) }
     ensures none { IfOk result (λ known. All (λ around. around ≡ None) known.items) }

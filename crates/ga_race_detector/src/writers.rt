@@ -60,7 +60,7 @@ fn has_written(lab: &Lab, node: NodeId, side: Side) -> bool
     waits
 }
 
-// The same of the neighbour on that side.
+// Whether the neighbour on a side of the node waits to write to it, or did at load or behind some of its kept steps.
 fn is_written(lab: &Lab, node: NodeId, side: Side) -> bool
     ensures { result ≡ false → NeverOffers lab.now node.number side }
 {
@@ -107,7 +107,7 @@ fn read_then(lab: &Lab, node: NodeId, step: u32, side: Side) -> bool
     }
 }
 
-// The same, by what is kept of the step.
+// Whether the node waited to read over the side right before its step, by what is kept of the step where that tells it.
 #[tactic(auto, using(crate::proofs::Silent::waited, ga_lab::proofs::Called::runs_of))]
 fn reads_before(lab: &Lab, node: NodeId, step: u32, side: Side) -> bool
     requires { stands lab.now node.number step ≡ true }

@@ -57,7 +57,7 @@ abbrev pub is_own_of : Event → ℕ → Bool
 is_own_of (Own m) n = m.number == n
 is_own_of (Pass w r side) n = false
 
--- it is a look of the node
+-- the action is a look of the node
 abbrev pub is_look_of : Action → ℕ → Bool
 is_look_of action n = action.cause.look && is_own_of action.cause.event n
 

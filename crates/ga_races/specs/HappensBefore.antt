@@ -50,14 +50,14 @@ actions chip (event ∷ events) = action_of chip event ∷ actions (after chip e
 abbrev pub causes_in : List Action → List Cause
 causes_in actions = map (λ (action : Action). action.cause) actions
 
--- what is read past the end of a list
+-- the action that is read past the end of a list
 abbrev pub no_action : Action
 no_action = record { cause = no_cause; changes = λ n. false }
 
 abbrev pub action_at : List Action → ℕ → Action
 action_at actions place = slice_index_or actions place no_action
 
--- the first is a look, and the second changes what is shown to it
+-- the first action is a look, and the second changes what is shown to it
 abbrev pub is_shown : Action → Action → Bool
 is_shown look change = look.cause.look && list_any change.changes (cause_nodes look.cause)
 
@@ -73,7 +73,7 @@ pub record IsBound (actions : List Action) (earlier later : ℕ) : Type 0 where
   pub within : later < length actions
   pub bound : are_bound (action_at actions earlier) (action_at actions later) ≡ true
 
--- the least transitive relation that contains this
+-- the action at one place happens before that at another: the least transitive relation that contains `IsBound`
 pub data HappensBefore (actions : List Action) (first : ℕ) : ℕ → Type 0 where
   directly : {later : ℕ} → IsBound actions first later → HappensBefore actions first later
   through : {middle later : ℕ} → HappensBefore actions first middle → IsBound actions middle later → HappensBefore actions first later
@@ -128,7 +128,7 @@ abbrev pub IsClock : List Action → ℕ → (ℕ → ℕ) → Type 0
 IsClock actions place clock = (n k step : ℕ) → IsStep (causes_in actions) n k step
     → (k ≤ clock n ↔ ((step ≡ place) ⊎ HappensBefore actions step place))
 
--- of each node the most that one of these clocks has, each with its place
+-- the greatest number that one of some clocks has for a node; each clock stands with its place
 abbrev pub joined : List (ℕ × (ℕ → ℕ)) → ℕ → ℕ
 joined [] n = 0
 joined (known ∷ others) n = max (known.1 n) (joined others n)

@@ -28,7 +28,7 @@ first_in test n (suc k) = if test (n % 144) then Some (node_id n) else first_in 
 abbrev pub CanBe : List NodeRecord → Event → Type 0
 CanBe chip event = refusal_of chip event ≡ None
 
--- no event can
+-- no event can be made on the chip
 abbrev pub IsAtEnd : List NodeRecord → Type 0
 IsAtEnd chip = (event : Event) → CanBe chip event → ⊥
 

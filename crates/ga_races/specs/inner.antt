@@ -30,32 +30,32 @@ pub record IsMore (acts : List EventAccess) (asked : Near → Type 0) (old new :
   pub sound : (near : Near) → Contains new near → Contains old near ⊎ IsNearLook acts near
   pub all : (near : Near) → asked near → IsNearLook acts near → Contains new near
 
--- these two
+-- the look and the change stand at these two places
 abbrev pub OfPair : ℕ → ℕ → Near → Type 0
 OfPair look change near = (near.look ≡ look) × (near.change ≡ change)
 
--- the look, with the changes before it from a place on
+-- the look stands at this place, and the change before it from a place on
 abbrev pub OfLook : ℕ → ℕ → Near → Type 0
 OfLook look from near = (near.look ≡ look) × (near.change < look) × (from ≤ near.change)
 
--- the change, with the looks of the node before it
+-- the change stands at this place, and before it a look of the node
 abbrev pub OfChange : List EventAccess → ℕ → ℕ → Near → Type 0
 OfChange acts change n near =
     (near.change ≡ change) × (near.look < change) × (is_look_of (action_at (actions_in acts) near.look) n ≡ true)
 
--- with those of the neighbour on a side of a node, if it is one of some
+-- the change stands at this place, and before it a look of the neighbour on a side of a node, if the side is one of some
 abbrev pub OverSide : List EventAccess → ℕ → ℕ → Side → Bool → Near → Type 0
 OverSide acts change m side has near = (n : ℕ) × OfChange acts change n near × ((has && is_number (neighbour_of m side) n) ≡ true)
 
--- with those of the neighbours on its sides
+-- the change stands at this place, and before it a look of the neighbour on one of the sides of a node
 abbrev pub OverSides : List EventAccess → ℕ → ℕ → Sides → Near → Type 0
 OverSides acts change m sides near = (n : ℕ) × OfChange acts change n near × (side_leads_to sides m n ≡ true)
 
--- those of which the later stands at the place
+-- of the look and the change the later stands at the place
 abbrev pub AtPlace : ℕ → Near → Type 0
 AtPlace place near = ((near.look ≡ place) × (near.change < place)) ⊎ ((near.change ≡ place) × (near.look < place))
 
--- those of which both stand before the place
+-- the look and the change both stand before the place
 abbrev pub BelowPlace : ℕ → Near → Type 0
 BelowPlace place near = (near.look < place) × (near.change < place)
 
@@ -105,7 +105,7 @@ abbrev pub frees : List NodeRecord → (ℕ → Bool) → Wait → Side → Opti
 frees chip marks wait side None = false
 frees chip marks wait side (Some m) = not (marks m) || (writes_to wait side && reads_from (record_at chip m).wait side)
 
--- a node awaits such a neighbour on a side, and on any
+-- a node awaits a neighbour that may let it go on: on this side, and in `is_freed` on any
 abbrev pub is_freed_on : List NodeRecord → (ℕ → Bool) → ℕ → Side → Bool
 is_freed_on chip marks n side =
     awaits (record_at chip n).wait side && frees chip marks (record_at chip n).wait side (neighbour_of n side)
@@ -132,7 +132,7 @@ shows_marked marks sides m =
 
 -- ---- what one pass over a list finds of what happens after one of its actions
 
--- the action touches the node; it looks in it
+-- the action touches the node; in `has_shown` it changes what is shown to the node, in `has_looked` it is a look that touches the node
 abbrev pub has_touched : Action → ℕ → Bool
 has_touched action n = touches action.cause.event n
 
@@ -142,7 +142,7 @@ has_shown action n = action.changes n
 abbrev pub has_looked : Action → ℕ → Bool
 has_looked action n = action.cause.look && touches action.cause.event n
 
--- an event with such sides shows something else to a marked node
+-- an event whose nodes change on these sides what they show, shows something else to a marked node
 abbrev pub is_shown_to : (ℕ → Bool) → Event → Sides → Sides → Bool
 is_shown_to marks (Own m) first second = shows_marked marks first m.number
 is_shown_to marks (Pass w r side) first second = shows_marked marks first w.number || shows_marked marks second r.number
@@ -162,7 +162,8 @@ pub record AreMarked (actions : List Action) (first place : ℕ) (has : Action �
   pub some : (n : ℕ) → marks n ≡ true → (m : ℕ) × (m < place) × IsOnward actions first m × (has (action_at actions m) n ≡ true)
   pub all : (m n : ℕ) → m < place → IsOnward actions first m → has (action_at actions m) n ≡ true → marks n ≡ true
 
--- so of the three, and none of those before the place that the first happens before is bound to the later one
+-- the three sets have the nodes that the reached actions before a place touch, change what is shown to, and look in;
+-- of these actions none but the first can be bound to the one at the place `later`
 pub record AreReached (actions : List Action) (first later place : ℕ) (one two three : ℕ → Bool) : Type 0 where
   pub touched : AreMarked actions first place has_touched one
   pub shown : AreMarked actions first place has_shown two
@@ -171,7 +172,7 @@ pub record AreReached (actions : List Action) (first later place : ℕ) (one two
 
 -- ---- the parts in which two nodes are compared
 
--- they hold the same outside of stacks and memories, but for what they wait for
+-- two nodes hold the same outside of stacks and memories, but for what they wait for
 pub record HasSameWords (one other : NodeRecord) : Type 0 where
   pub a : one.a ≡ other.a
   pub b : one.b ≡ other.b

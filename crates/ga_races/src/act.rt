@@ -15,13 +15,13 @@ use ga_ports::Side;
 /// Sides of a node.
 #[derive(Clone, Copy, PartialEq, Eq, Debug)]
 pub struct Sides {
-    /// Whether it is side right.
+    /// Whether side right is one of the sides.
     pub right: bool,
-    /// Whether it is side down.
+    /// Whether side down is one of the sides.
     pub down: bool,
-    /// Whether it is side left.
+    /// Whether side left is one of the sides.
     pub left: bool,
-    /// Whether it is side up.
+    /// Whether side up is one of the sides.
     pub up: bool,
 }
 
@@ -30,9 +30,9 @@ pub struct Sides {
 pub struct EventAccess {
     /// The event, with whether it looked.
     pub cause: Cause,
-    /// The sides of its node; of a pass those of the writer.
+    /// The sides on which the node of the event changed what it shows; of a pass those of the writer.
     pub first: Sides,
-    /// Of a pass the sides of the reader.
+    /// The sides on which the reader of a pass changed what it shows.
     pub second: Sides,
 }
 
@@ -47,7 +47,7 @@ fn leads_over(from: NodeId, side: Side, has: bool, to: NodeId) -> bool
 }
 
 impl Sides {
-    /// Whether one of them leads from the first node to the second.
+    /// Whether one of the sides leads from the first node to the second.
     pub fn lead(&self, from: NodeId, to: NodeId) -> bool
         ensures { result ≡ side_leads_to self.now from.number to.number }
     {
@@ -59,7 +59,7 @@ impl Sides {
 }
 
 impl EventAccess {
-    /// Whether it changed what is shown to the node.
+    /// Whether the event changed what is shown to the node.
     pub fn changes(&self, node: NodeId) -> bool
         ensures { result ≡ (action_in self.now).changes node.number }
     {
@@ -71,7 +71,7 @@ impl EventAccess {
         }
     }
 
-    // Whether it changed what is shown to one of the nodes that an event touches.
+    // Whether the event changed what is shown to one of the nodes that another event touches.
     fn changes_some(&self, event: &Cause) -> bool
         ensures { result ≡ list_any (action_in self.now).changes (cause_nodes event.now) }
     {
@@ -81,7 +81,7 @@ impl EventAccess {
         }
     }
 
-    // Whether both touch a common node.
+    // Whether two events touch a common node.
     fn meets(&self, event: &Cause) -> bool
         ensures { result ≡ list_any (cause_touches self.now.cause) (cause_nodes event.now) }
     {
@@ -93,21 +93,21 @@ impl EventAccess {
         }
     }
 
-    // Whether it is a look, and the other changes what is shown to it.
+    // Whether the event is a look, and the other changes what is shown to it.
     fn is_shown(&self, other: &EventAccess) -> bool
         ensures { result ≡ is_shown (action_in self.now) (action_in other.now) }
     {
         self.cause.look && other.changes_some(&self.cause)
     }
 
-    /// Whether both keep their order in each order of a list in which they are neighbours.
+    /// Whether two events keep their order in each order of a list in which they are neighbours.
     pub fn is_bound(&self, other: &EventAccess) -> bool
         ensures { result ≡ are_bound (action_in self.now) (action_in other.now) }
     {
         self.meets(&other.cause) || self.is_shown(other) || other.is_shown(self)
     }
 
-    /// Whether both touch a common node.
+    /// Whether two events touch a common node.
     pub fn is_beside(&self, other: &EventAccess) -> bool
         ensures { result ≡ list_any (cause_touches self.now.cause) (cause_nodes other.now.cause) }
     {

@@ -38,7 +38,7 @@ fn is_freed_on(chip: &Chip, marks: &[bool; 144], node: NodeId, side: Side) -> bo
     }
 }
 
-// The same on any side.
+// Whether the node awaits a neighbour that may let it go on, on any side.
 fn is_freed(chip: &Chip, marks: &[bool; 144], node: NodeId) -> bool
     ensures { result ≡ is_freed (records_of chip.now) (is_marked marks.now) node.number }
 {

@@ -23,9 +23,9 @@ mod reached;
 /// The places of a look and of a change of what is shown to it, in a list of actions.
 #[derive(Clone, Copy, PartialEq, Eq, Debug)]
 pub struct Near {
-    /// That of the look.
+    /// The place of the look in the list of actions.
     pub look: u32,
-    /// That of the change.
+    /// The place of the change in the list of actions.
     pub change: u32,
 }
 
@@ -51,7 +51,7 @@ fn is_near(acts: &[EventAccess], first: usize, later: usize) -> bool
     !is_between(acts, first, later)
 }
 
-// The same of two that stand in any order.
+// Whether two actions of a list, in any order, touch no common node, are bound, and nothing happens between them.
 fn are_near(acts: &[EventAccess], one: usize, other: usize) -> bool
     requires one { one < length acts.now }
     requires other { other < length acts.now }
@@ -65,7 +65,7 @@ fn are_near(acts: &[EventAccess], one: usize, other: usize) -> bool
     }
 }
 
-// Whether it is a look of the node.
+// Whether the action at a place is a look of the node.
 fn is_look_of(acts: &[EventAccess], place: usize, node: NodeId) -> bool
     requires { place < length acts.now }
     ensures { result ≡ is_look_of (action_at (actions_in acts.now) place) node.number }
@@ -77,7 +77,7 @@ fn is_look_of(acts: &[EventAccess], place: usize, node: NodeId) -> bool
     }
 }
 
-// Whether it changes what is shown to the node.
+// Whether the action at a place changes what is shown to the node.
 fn changes(acts: &[EventAccess], place: usize, node: NodeId) -> bool
     requires { place < length acts.now }
     ensures { result ≡ (action_at (actions_in acts.now) place).changes node.number }
@@ -98,7 +98,7 @@ fn add(list: &mut Vec<Near>, look: usize, change: usize) -> Result<(), Memory>
     Ok(())
 }
 
-// The same of a look of a node and a change of what is shown to it, where they are near.
+// Adds the places of a look of a node and of a change of what is shown to it, where they are near.
 fn add_near(
     list: &mut Vec<Near>,
     acts: &[EventAccess],
@@ -120,7 +120,7 @@ fn add_near(
     add(list, look, change)
 }
 
-// The same, where the second changes what is shown to the node.
+// Adds the places of a look of a node and of an action before it that changes what is shown to the node, where they are near.
 fn add_change(
     list: &mut Vec<Near>,
     acts: &[EventAccess],
@@ -167,7 +167,7 @@ fn add_changes(
     Ok(())
 }
 
-// Whether both touch a common node, and the first changes what is shown to another.
+// Whether two actions touch a common node, and the first changes what is shown to another.
 fn hides(acts: &[EventAccess], place: usize, change: usize, node: NodeId) -> bool
     requires place { place < length acts.now }
     requires change { change < length acts.now }
@@ -205,7 +205,7 @@ fn add_look(
     Ok(())
 }
 
-// The same of the neighbour on a side, if it is one of some, where it looked at all.
+// Adds the last look of the neighbour on a side, if the side is one of some and the neighbour looked, where it is near to the change.
 fn add_look_over(
     list: &mut Vec<Near>,
     acts: &[EventAccess],
@@ -232,7 +232,7 @@ fn add_look_over(
     }
 }
 
-// The same of the neighbours on the sides.
+// Adds the last look of each neighbour on the sides, if it looked at all, where it is near to the change.
 #[tactic(auto, using(crate::proofs::Asking::four_sides))]
 fn add_looks_beside(
     list: &mut Vec<Near>,
@@ -256,7 +256,7 @@ fn add_looks_beside(
     Ok(())
 }
 
-// Adds what is near to an action before it.
+// Adds the looks and changes that stand before an action and are near to it.
 fn add_at(
     list: &mut Vec<Near>,
     acts: &[EventAccess],

@@ -16,7 +16,7 @@ use Rattle.ga_journal.specs.Marks.{entries, IsAtRest}
 
 -- ---- which entries the marks of a rollback take, while they are being lowered
 
--- how many looks there are
+-- how many entries of a history are looks, and in `looks_of` of all histories
 abbrev pub looks_in : List Past → ℕ
 looks_in entries = count_by (λ (e : Past). has_looked_in e.act) entries
 

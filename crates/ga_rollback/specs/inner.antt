@@ -42,7 +42,7 @@ pub record IsRestoring (chip : List NodeState) (first : Book) (now : List NodeSt
 
 -- ---- A table of links
 
--- where the node on this side stands among the four of a node
+-- where the neighbour on this side stands among the four of a node in the table
 abbrev pub place_of : Side → ℕ
 place_of Right = 0
 place_of Down = 1
@@ -111,7 +111,7 @@ pub data AreLowered (old : Book) (node : ℕ) : ℕ → Book → Type 0 where
   Vain : {vain : ℕ} {new : Book} (book : Book) (before m : ℕ) → AreLowered old node before book
       → HasLook (history book.histories m) → vain ≡ before + 1 → new ≡ ticked_in_vain book → AreLowered old node vain new
 
--- the same, with at most so many such searches
+-- marks of a node's neighbours were lowered as `AreLowered` says, with at most so many searches that found none
 pub record AreLoweredBy (most : ℕ) (old : Book) (node : ℕ) (new : Book) : Type 0 where
   pub vain : ℕ
   pub few : vain ≤ most
@@ -139,7 +139,7 @@ pub record IsMarking (first : Book) (n k : ℕ) (book : Book) (visited : List �
   pub least : first.ticks.count + 2 + sum_by (λ (x : ℕ). x) visited + vain ≤ book.ticks.count + in_line book
   pub bound : book.ticks.count + in_line book ≤ first.ticks.count + 2 * to_go book + sum_by (λ (x : ℕ). x) visited + found + vain
 
--- of a node that does not wait all entries to go were visited, and no look that is to stay saw one of them
+-- where a node does not wait, all its entries to go were visited, and no look that is to stay saw one of them
 abbrev pub IsDone : Book → List ℕ → ℕ → Type 0
 IsDone book visited m = waits book m ≡ false → (going_of book m ≤ slice_index visited m) × IsUnseen book m
 
@@ -152,11 +152,11 @@ counted_in entries = count_by (λ (e : Past). is_counted e.act) entries
 abbrev pub counted_of : List (List Past) → ℕ
 counted_of hs = sum_by counted_in hs
 
--- by those that are to stay
+-- how many events are counted by the entries that are to stay
 abbrev pub counted_staying : Book → ℕ
 counted_staying book = counted_of (staying book.histories book.going)
 
--- by one entry
+-- how many events are counted by one entry
 abbrev pub one_counted : Option Bool → ℕ
 one_counted None = 0
 one_counted (Some b) = if b then 1 else 0

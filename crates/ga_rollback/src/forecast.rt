@@ -19,9 +19,9 @@ use ga_journal::Journal;
 /// What a rollback would take: so many events, and of each node so many steps.
 #[derive(Drop)]
 pub struct Going {
-    /// How many events.
+    /// How many events a rollback would take.
     pub events: u32,
-    /// How many steps of each node.
+    /// How many steps of each node a rollback would take.
     pub steps: Visited,
 }
 

@@ -38,7 +38,7 @@ static BESIDE: [u8; 576] = [
     142, 125, 144, 144,
 ];
 
-/// Where the node on this side stands among the four of a node.
+/// Where the neighbour on this side stands among the four of a node in the table.
 #[inline(always)]
 fn place_of(side: Side) -> usize
     ensures value { result ≡ place_of side }

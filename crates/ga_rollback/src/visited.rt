@@ -8,7 +8,7 @@ use std::marker::Model;
 #[derive(Drop)]
 pub struct Visited {
     counts: [u32; 144],
-    // The least node that may have some, and one past the greatest.
+    // The least node that may have visited entries, and one past the greatest.
     first: u8,
     past: u8,
 }
@@ -27,7 +27,7 @@ impl Model for Visited {
 impl Visited {
     ghost use Rattle.std.specs.Prelude.{◌≡◌, ◌+◌, ◌<◌, ◌≤◌, ◌^◌, ℕ, length, slice_index, slice_set};
 
-    /// None of any node.
+    /// No visited entry of any node.
     pub(crate) fn none() -> Self
         ensures size { length result ≡ 144 }
         ensures zero { (n : ℕ) → slice_index result n ≡ 0 }
@@ -39,7 +39,7 @@ impl Visited {
         }
     }
 
-    /// How many of a node.
+    /// How many entries of a node were visited.
     #[inline(always)]
     pub fn count(&self, node: NodeId) -> u32
         ensures { result ≡ slice_index self.now node.number }
@@ -47,7 +47,7 @@ impl Visited {
         self.counts[node.index()]
     }
 
-    /// One more of a node.
+    /// Counts one more entry of a node as visited.
     #[inline(always)]
     pub(crate) fn add(&mut self, node: NodeId)
         requires { slice_index self.old node.number + 1 < 2 ^ 32 }
@@ -60,7 +60,7 @@ impl Visited {
         self.counts[node.index()] += 1;
     }
 
-    /// A node below which none has some.
+    /// A node below which none has visited entries.
     #[inline(always)]
     pub fn first(&self) -> u8
         ensures { (n : ℕ) → n < result → slice_index self.now n ≡ 0 }
@@ -68,7 +68,7 @@ impl Visited {
         self.first
     }
 
-    /// One past the nodes that have some.
+    /// One past the nodes that have visited entries.
     #[inline(always)]
     pub fn past(&self) -> u8
         ensures fits { result ≤ 144 }

@@ -46,6 +46,6 @@ AreStackChanges registers (saved ∷ rest) = HasPlace registers saved.0 × FitsP
 abbrev pub old_words : Ring → List StackPlace → List (StackPlace × ℕ)
 old_words ring places = map (λ place. (place, word_at_place ring place)) places
 
--- no place twice
+-- no place of a stack stands twice in the list
 abbrev pub NoStackPlaceTwice : List (StackPlace × ℕ) → Type 0
 NoStackPlaceTwice saved = AllPairs (λ a b. a.0 ≢ b.0) saved

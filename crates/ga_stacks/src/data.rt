@@ -44,7 +44,7 @@ impl DataStack {
         }
     }
 
-    /// The same stack once more.
+    /// A copy of the stack.
     pub fn copy(&self) -> Self
         ensures { result ≡ self.now }
     {

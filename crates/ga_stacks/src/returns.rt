@@ -42,7 +42,7 @@ impl ReturnStack {
         }
     }
 
-    /// The same stack once more.
+    /// A copy of the stack.
     pub fn copy(&self) -> Self
         ensures { result ≡ self.now }
     {

@@ -145,7 +145,7 @@ impl Word18 {
     }
 }
 
-/// Six hexadecimal digits in lower case.
+/// A word is shown as six hexadecimal digits in lower case.
 impl fmt::Display for Word18 {
     fn fmt<W: fmt::Write>(&self, f: &mut fmt::Formatter<W>) -> fmt::Result {
         let bits = self.bits;

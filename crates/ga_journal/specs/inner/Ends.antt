@@ -37,7 +37,7 @@ abbrev pub CanGoBack : List Past → List NodeState → ℕ → Type 0
 CanGoBack history chip n =
     (front : List Past) (e : Past) → history ≡ front ++ e ∷ [] → CanRestore (node_at chip n) e.saved
 
--- they were, and the entry is gone
+-- the values of the last entry were written back to node n, and the entry is gone
 pub record IsGoneBack
     (old : List Past) (chip : List NodeState) (n : ℕ) (new : List Past) (now : List NodeState) (act : Act)
     : Type 0 where
@@ -56,7 +56,7 @@ made_over hs (event.Pass w r side) (Carried word) =
 made_over hs (event.Own node) (Carried word) = None
 made_over hs (event.Pass w r side) (Did kind) = None
 
--- the same of the histories alone
+-- the event was made on the chip and added to the histories, and this is told of it
 pub record IsAdded
     (hs : List (List Past)) (chip : List NodeState) (stamp : ℕ) (e : Event) (told : Made) (gs : List (List Past)) (now : List NodeState)
     : Type 0 where

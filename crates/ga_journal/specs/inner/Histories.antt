@@ -18,7 +18,7 @@ use Rattle.ga_journal.specs.Marks.{GoWithin, AreMatched}
 
 -- ---- histories cut to their first entries, and walking back over the log without taking anything out
 
--- of each history so many entries
+-- each history cut to its first so many entries
 abbrev pub cut : List (List Past) → List ℕ → List (List Past)
 cut [] ns = []
 cut (h ∷ hs) [] = h ∷ cut hs []
@@ -28,7 +28,7 @@ cut (h ∷ hs) (n ∷ ns) = take n h ∷ cut hs ns
 abbrev pub IsCutWithin : List (List Past) → List ℕ → Type 0
 IsCutWithin hs lengths = (n : ℕ) → slice_index lengths n ≤ length (history hs n)
 
--- the cut of node n is one entry less, which tells this
+-- the cut of node n is one entry less, and the entry that is cut off tells this
 pub record IsShorter (hs : List (List Past)) (lengths : List ℕ) (n : ℕ) (fewer : List ℕ) (head : Head) : Type 0 where
   pub entry : Past
   pub stamp : entry.stamp ≡ head.stamp
@@ -45,12 +45,12 @@ abbrev pub older_causes : List Stamped → List Cause
 older_causes [] = []
 older_causes (x ∷ older) = older_causes older ++ cause_with x.event x.effect ∷ []
 
--- the events alone
+-- the events of a log, the oldest first
 abbrev pub older_events : List Stamped → List Event
 older_events [] = []
 older_events (x ∷ older) = older_events older ++ x.event ∷ []
 
--- the histories, cut so, are those of these events
+-- the histories, cut to these lengths, are those of these events
 pub record WalksBack (hs : List (List Past)) (lengths : List ℕ) (top : ℕ) (log : List Stamped) : Type 0 where
   pub fits : IsCutWithin hs lengths
   pub records : Records log (cut hs lengths) top
@@ -61,7 +61,7 @@ IsFirst [] cause told = ⊥
 IsFirst (x ∷ older) cause told =
     (cause_with x.event x.effect ≡ cause) × (made_after (older_events older) x.event (told_of x.effect) ≡ Some told)
 
--- the others are left
+-- the histories, cut to these lengths, are those of the events of a log but for the first
 abbrev pub IsWalked : List (List Past) → List ℕ → ℕ → List Stamped → Type 0
 IsWalked hs lengths top [] = ⊥
 IsWalked hs lengths top (x ∷ older) = WalksBack hs lengths top older
@@ -81,7 +81,7 @@ pub record IsUntold (book : Book) (lengths : List ℕ) (top place : ℕ) : Type 
 abbrev pub IsToldAt : List Stamped → ℕ → Made → Type 0
 IsToldAt log place told = (cause : Cause) × IsFirst (drop (length log - place - 1) log) cause told
 
--- of each place its event
+-- each of the places has what is told of the event there
 abbrev pub AreTold : List Stamped → List ℕ → List Made → Type 0
 AreTold log [] [] = Unit {0}
 AreTold log [] (told ∷ more) = ⊥
@@ -90,7 +90,7 @@ AreTold log (place ∷ places) (told ∷ more) = IsToldAt log place told × AreT
 
 -- ---- one past the newest look, as a history stores it
 
--- one past the newest of them, or 0
+-- one past the position of the newest look among the first entries, as many as the mark says, or 0 where none is a look
 abbrev pub IsPastNewest : List Past → ℕ → ℕ → Type 0
 IsPastNewest entries mark zero = HasNoLook entries mark
 IsPastNewest entries mark (suc at) = IsNewestLook entries mark at
@@ -130,11 +130,11 @@ pasts_of h = h.items
 abbrev pub room_in : Held → Room
 room_in h = h.room
 
--- the history at a number, in the list of them
+-- the history at a number, in the list of the histories
 abbrev pub held_at : List Held → ℕ → Held
 held_at hs n = slice_index_or hs n (record { items = []; room = no_room })
 
--- the list with one of them changed
+-- the list of the histories with one of them changed
 abbrev pub with_held : List Held → ℕ → Held → List Held
 with_held hs n h = slice_set hs n h
 
@@ -183,7 +183,7 @@ pub record Keeps (histories : List Held) (top made kept limit : ℕ) : Type 0 wh
   pub within : kept ≤ limit
   pub fits : limit < 2 ^ 32
 
--- Besides, no more entries are to go than there are, and the entries of passes name each other.
+-- What `Keeps` says holds; no more entries are to go than there are, and the entries of passes name each other.
 pub record IsJournal
     (histories : List Held) (top made kept limit : ℕ) (going : List ℕ) (waiting : List Bool)
     : Type 0 where

@@ -21,7 +21,7 @@ abbrev pub entries_made : NodeId → ℕ → List Past → List Made
 entries_made node i [] = []
 entries_made node i (e ∷ es) = entry_made node i e.act ∷ entries_made node (i + 1) es
 
--- the positions of partners are those of entries that are there
+-- the position that a part names, 0 for an own event; in `AtsWithin` no position that a history names is above a number
 abbrev pub at_of : Act → ℕ
 at_of (Own deed) = 0
 at_of (Sent to side at word) = at

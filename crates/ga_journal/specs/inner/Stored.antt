@@ -21,11 +21,11 @@ abbrev pub act_with : Role → Pass → Act
 act_with Writer p = Sent p.partner p.side p.at p.word
 act_with Reader p = Took p.partner p.side p.at p.word
 
--- an own event that looked or didn't
+-- the part of a node in its own event, which looked or didn't
 abbrev pub own_part : Deed → Part
 own_part deed = if deed.look then Look deed.kind else Own deed.kind
 
--- past the list no pass stands: no entry names such a place
+-- the pass that is read past the end of a list of passes: no entry names such a place
 abbrev pub no_pass : Pass
 no_pass = record { partner = node_id 0; side = Right; at = 0; looked = 0; word = 0 }
 
@@ -61,7 +61,7 @@ IsDropped (Own kind) old new = new ≡ old
 IsDropped (Look kind) old new = new ≡ old
 IsDropped (Passed role) old new = (last : Pass) × (old ≡ new ++ last ∷ [])
 
--- the entry of a pass names this place, or one below it
+-- the entry of a pass names this place, or in `IsBelow` one below it
 abbrev pub Names : Part → ℕ → ℕ → Type 0
 Names (Own kind) place n = Unit {0}
 Names (Look kind) place n = Unit {0}

@@ -33,7 +33,7 @@ impl Bounds for Histories {
     }
 }
 
-/// The first entries of each history, so many.
+/// The first so many entries of each history.
 #[derive(Clone, Copy)]
 pub(super) struct Firsts<'a> {
     pub histories: &'a Histories,

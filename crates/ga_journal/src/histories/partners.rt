@@ -54,7 +54,7 @@ impl Histories {
         counts(&history.head(at as usize).act)
     }
 
-    /// Whether a history is longer than this.
+    /// Whether a node's history is longer than a number.
     fn is_past(&self, node: NodeId, at: u32) -> bool
         ensures { result ≡ nat_lt at (length (history (lists_of self.now) node.number)) }
     {
@@ -62,7 +62,7 @@ impl Histories {
         (at as usize) < history.len()
     }
 
-    /// Whether the other entry of its pass is there.
+    /// Whether the other entry of the pass that an act names is there.
     pub(crate) fn has_partner(&self, act: &Act) -> bool
         ensures { result ≡ has_partner (lists_of self.now) act.now }
     {

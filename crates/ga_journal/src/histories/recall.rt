@@ -79,7 +79,7 @@ impl Histories {
         lengths
     }
 
-    /// What the last of a node's first entries tells. They are one less from now on.
+    /// What the last of a node's first entries tells. The first entries of the node are one fewer from now on.
     #[inline(always)]
     fn back_at(&self, lengths: &mut [u32; 144], node: NodeId) -> Head
         requires fits { IsCutWithin (lists_of self.now) lengths.old }

@@ -3,7 +3,7 @@
 use super::History;
 use ga_node::{Gathered, Node};
 
-/// From so many entries on it takes less to gather their values first.
+/// From so many entries on a walk back takes less where it gathers their values first.
 const FAR: usize = 512;
 
 impl History {
@@ -25,7 +25,7 @@ impl History {
         }
     }
 
-    // The same, entry by entry.
+    // Writes the values of the entries from the position `to` on and below `from` back to a node, entry by entry.
     fn walk_near(&self, node: &mut Node, from: usize, to: usize)
         requires order { to ≤ from }
         requires within { from ≤ length self.now.items }
@@ -39,7 +39,7 @@ impl History {
         node.take_back(aside);
     }
 
-    // The same, of each place the oldest value alone.
+    // Writes the values of the entries from the position `to` on and below `from` back to a node, of each place the oldest value alone.
     fn walk_far(&self, node: &mut Node, from: usize, to: usize)
         requires order { to ≤ from }
         requires within { from ≤ length self.now.items }

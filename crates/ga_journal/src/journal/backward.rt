@@ -12,7 +12,7 @@ pub struct BackwardEvents<'j> {
     journal: &'j Journal,
     // How many of the first entries of each node are not told.
     lengths: [u32; 144],
-    // Above their stamps.
+    // A number above the stamps of the entries that are not told.
     top: u64,
     hint: NodeId,
     place: u32,
@@ -43,14 +43,14 @@ impl<'j> BackwardEvents<'j> {
         self.place
     }
 
-    /// How many steps of a node are among them.
+    /// How many steps of a node are not told yet.
     pub fn steps(&self, node: NodeId) -> u32
         ensures { result ≡ steps_of node.number (take self.now.place (events_of self.now.book)) }
     {
         self.lengths[node.index()]
     }
 
-    /// What is told of the newest of them, which is told from then on; none where none is left.
+    /// What is told of the newest event that is not told yet, which is told from then on; none where none is left.
     pub fn back(&mut self) -> Option<Made>
         ensures some { IfSome result (λ made. made_in (kept_of self.old.book) (self.old.place - 1) ≡ Some made) }
         ensures none { IsNone result ↔ (self.old.place ≡ 0) }

@@ -17,7 +17,7 @@ impl Journal {
         &self.ticks
     }
 
-    /// Counts from 0 on again.
+    /// Counts ticks from 0 on again.
     pub(crate) fn count_anew(&mut self)
         ensures { self.new ≡ record self.old { ticks = no_work } }
     {

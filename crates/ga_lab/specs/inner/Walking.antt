@@ -22,7 +22,7 @@ refusal_of journal_fault.Memory = Memory
 abbrev pub standing_of : List NodeState → Book → NodeId → ℕ → Standing
 standing_of chip book node step = standing (state_of chip book) node step
 
--- it is what walking the chip's node back leads to
+-- the node of a walk is what walking the chip's node back to the step leads to
 pub record IsWalk (chip : List NodeState) (book : Book) (id : NodeId) (step : ℕ) (node : NodeState) : Type 0 where
   pub lab : IsLab chip book
   pub within : step ≤ length (history book.histories id.number)

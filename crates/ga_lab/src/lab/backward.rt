@@ -38,7 +38,7 @@ impl<'l> Backward<'l> {
         self.walk.place()
     }
 
-    /// How many steps a node had made when so many events had been made.
+    /// How many steps a node had made in the events that are not told yet.
     pub fn steps(&self, node: NodeId) -> u32
         ensures { result ≡ steps_of node.number (take self.now.place self.now.machine.kept) }
     {

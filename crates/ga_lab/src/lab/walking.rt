@@ -35,7 +35,7 @@ impl<'l> Walk<'l> {
     ghost use Rattle.ga_event.specs.Told.{steps_of};
     ghost use Rattle.ga_lab.specs.Machine.{chip_of, earlier};
 
-    /// How many steps the node had made.
+    /// How many steps the node had made where the walk stands.
     pub fn step(&self) -> u32
         ensures value { result ≡ self.now.step }
         ensures within { result ≤ steps_of self.now.node.number self.now.machine.kept }
@@ -43,8 +43,8 @@ impl<'l> Walk<'l> {
         self.step
     }
 
-    /// The node as it was then: at each place of the list of kept events at which it had made so many steps, it is the node to
-    /// which replaying the events before the place leads.
+    /// The node as it was where the walk stands: at each place of the list of kept events at which it had made so many steps, it is the
+    /// node to which replaying the events before the place leads.
     pub fn node(&self) -> &Node
         ensures { (place : ℕ) → steps_of self.now.node.number (take place self.now.machine.kept) ≡ self.now.step
             → record_of result.now ≡ record_at (chip_of (earlier self.now.machine place)) self.now.node.number }
@@ -52,7 +52,7 @@ impl<'l> Walk<'l> {
         &self.node
     }
 
-    /// The same walk once more, to be walked back apart from it. Takes no memory.
+    /// A copy of the walk, to be walked back apart from it. Takes no memory.
     pub fn copy(&self) -> Walk<'l>
         ensures { result ≡ self.now }
     {

@@ -60,7 +60,7 @@ unpacked word = (place_by (word / 2 ^ 27) (word / 2 ^ 24), word % 2 ^ 18)
 abbrev pub IsWord : ℕ → Type 0
 IsWord word = (word < 249 * 2 ^ 24) × (code_of (unpacked word).0 ≡ word / 2 ^ 24)
 
--- each of them is
+-- each word of the list is that of a pair
 abbrev pub AreWords : List ℕ → Type 0
 AreWords [] = Unit {0}
 AreWords (w ∷ ws) = IsWord w × AreWords ws
@@ -69,7 +69,7 @@ AreWords (w ∷ ws) = IsWord w × AreWords ws
 abbrev pub free_bits : ℕ → ℕ
 free_bits word = word / 2 ^ 18 % 64
 
--- what stands in those of all words, six bits in each, the lowest in the first
+-- what stands in the free bits of all words, six bits in each, the lowest in the first
 abbrev pub spare : List ℕ → ℕ
 spare [] = 0
 spare (w ∷ ws) = free_bits w + 64 * spare ws

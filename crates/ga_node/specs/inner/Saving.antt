@@ -46,13 +46,13 @@ IsDoneBy (Plain changes) old new saved = IsMade changes old new saved
 IsDoneBy (Reads address more) old new saved = ⊥
 IsDoneBy (Writes address more) old new saved = IsDone (wrote_at address more (record_of old)) old new saved
 
--- Its write was the whole event.
+-- The write that an event is for has become the whole event, of this kind.
 abbrev pub IsEndedBy : Access → Kind → NodeState → NodeState → List (Place × ℕ) → Type 0
 IsEndedBy (Plain changes) kind old new saved = ⊥
 IsEndedBy (Reads address more) kind old new saved = ⊥
 IsEndedBy (Writes address more) kind old new saved = IsEnded (wrote_at address more (record_of old)) kind old new saved
 
--- One change more: its old values come after those before.
+-- Some changes were made: their old values are saved after those before, and lead back to the old node.
 pub record Saves (changes : List Change) (old : NodeState) (before : List (Place × ℕ)) (new : NodeState) (later : List (Place × ℕ)) : Type 0 where
   pub exact : later ≡ before ++ old_values old (written_places changes old)
   pub undone : restored new (old_values old (written_places changes old)) ≡ old
@@ -67,7 +67,7 @@ return_values values = map (λ v. (return_place v.0, v.1)) values
 
 -- ---- the kind of an event, without its changes
 
--- the same of kinds alone
+-- the kind of an event, by kinds alone: an access may have made it another
 abbrev pub kind_of : Kind → Result (Unit {0}) Kind → Kind
 kind_of kind (Ok done) = kind
 kind_of kind (Err other) = other

@@ -91,7 +91,7 @@ impl Node {
         self.stop = aside.stop;
     }
 
-    /// Writes seven values back.
+    /// Writes the seven values that an event overwrote back, the last of them first.
     #[inline(never)]
     fn restore_seven(&mut self, saved: &Saved)
         requires fit { AreFit saved.now }

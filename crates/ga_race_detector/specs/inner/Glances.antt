@@ -38,11 +38,11 @@ pub record StoodSo (s : State) (m place code count : ℕ) : Type 0 where
   pub valid : IsWaitCode code
   pub steps : count ≡ steps_of m (take place s.kept)
 
--- so each node of the chip stood
+-- before the place each node of the chip had this wait, by number, and had made so many steps
 abbrev pub AllStood : State → ℕ → List ℕ → List ℕ → Type 0
 AllStood s place waits steps = (m : ℕ) → m < 144 → StoodSo s m place (slice_index waits m) (slice_index steps m)
 
--- the event at the place
+-- this is the event at the place of the kept events
 pub record IsAt (s : State) (place : ℕ) (cause : Cause) : Type 0 where
   pub within : place < length s.kept
   pub is : event_at (causes_of s) place ≡ cause
@@ -56,7 +56,7 @@ abbrev pub first_part : Event → NodeId
 first_part (Own n) = n
 first_part (Pass w r side) = w
 
--- the same, of a pass its reader
+-- the node of an event, of a pass its reader
 abbrev pub last_part : Event → NodeId
 last_part (Own n) = n
 last_part (Pass w r side) = r
@@ -67,7 +67,7 @@ pub record IsMoment (s : State) (place : ℕ) (cause : Cause) (moment : Moment) 
   pub last : moment.last ≡ steps_of (last_part cause.event).number (take place s.kept)
   pub word : cause.look ≡ true → moment.word ≡ io_word (seen_from (chip_of (earlier s place)) (first_part cause.event).number)
 
--- what is read past the end of a list
+-- the moment that is read past the end of a list of moments
 abbrev pub no_moment : Moment
 no_moment = record { first = 0; last = 0; word = 0 }
 
@@ -75,21 +75,21 @@ no_moment = record { first = 0; last = 0; word = 0 }
 abbrev pub AreMomentsFrom : State → ℕ → List Cause → List Moment → Type 0
 AreMomentsFrom s place causes moments = (i : ℕ) → place ≤ i → i < length moments → IsMoment s i (event_at causes i) (slice_index_or moments i no_moment)
 
--- so has each
+-- each of the events has its moment in the list
 pub record AreMoments (s : State) (causes : List Cause) (moments : List Moment) : Type 0 where
   pub size : length moments ≡ length causes
   pub each : AreMomentsFrom s 0 causes moments
 
 -- ---- how many steps of a node and of its neighbours are left where a step is taken back
 
--- the number of a side
+-- how many steps of the neighbour on a side are left
 abbrev pub around_over : Around → Side → ℕ
 around_over around Right = around.right
 around_over around Down = around.down
 around_over around Left = around.left
 around_over around Up = around.up
 
--- the list of a side
+-- the list of how many steps of the neighbour on a side are left
 abbrev pub lists_over : LeftAround → Side → List ℕ
 lists_over lists Right = lists.right.items
 lists_over lists Down = lists.down.items
@@ -103,24 +103,24 @@ sweep_over sweep Down = sweep.down
 sweep_over sweep Left = sweep.left
 sweep_over sweep Up = sweep.up
 
--- nothing of this node
+-- nothing is known of a node yet: no step was counted, and the list is empty
 pub record IsFirst (left : LeftOf) : Type 0 where
   pub count : left.count ≡ 0
   pub list : left.list.items ≡ []
 
--- nothing of any
+-- nothing is known yet of the node and of its neighbours
 pub record AreFirst (node : NodeId) (sweep : Sweep) : Type 0 where
   pub here : IsFirst sweep.here
   pub beside : (side : Side) → IsFirst (sweep_over sweep side)
   pub own : sweep.here.node ≡ node
   pub nodes : (side : Side) (m : ℕ) → neighbour_of node.number side ≡ Some m → (sweep_over sweep side).node.number ≡ m
 
--- one more event was taken in of each
+-- one more event was taken in for the node and for each side
 pub record AreTaken (old new : Sweep) (cause : Cause) (depth : ℕ) : Type 0 where
   pub here : IsTaken old.here new.here cause depth
   pub beside : (side : Side) → IsTaken (sweep_over old side) (sweep_over new side) cause depth
 
--- of none so many that one more doesn't fit
+-- of no node were so many steps counted that one more doesn't fit
 pub record AreFew (sweep : Sweep) : Type 0 where
   pub here : sweep.here.count + 1 < 2 ^ 32
   pub right : sweep.right.count + 1 < 2 ^ 32
@@ -133,7 +133,7 @@ pub record IsAround (causes : List Cause) (b k n : ℕ) (around : Around) : Type
   pub node : around.node ≡ touching n (rewound_list causes b k)
   pub beside : (side : Side) (m : ℕ) → neighbour_of n side ≡ Some m → around_over around side ≡ touching m (rewound_list causes b k)
 
--- so of each step of node b
+-- the lists say how many steps of node n and of its neighbours are left where each step of node b is taken back
 pub record AreAround (causes : List Cause) (b n : ℕ) (lists : LeftAround) : Type 0 where
   pub node : AreLeft causes b n lists.node.items
   pub beside : (side : Side) (m : ℕ) → neighbour_of n side ≡ Some m → AreLeft causes b m (lists_over lists side)
@@ -145,7 +145,7 @@ abbrev pub part_beside : Event → ℕ → NodeId
 part_beside (Own own) n = own
 part_beside (Pass writer reader side) n = if are_linked n writer.number then writer else reader
 
--- the look and the change stand at these two places
+-- the look and the change of a reading stand at these two places
 pub record IsAtNear (s : State) (near : Near) (reading : Reading) : Type 0 where
   pub looks : IsStep (causes_of s) reading.node.number reading.step near.look
   pub changes : IsStep (causes_of s) reading.neighbour.number reading.change near.change
@@ -157,7 +157,7 @@ pub record IsAtNear (s : State) (near : Near) (reading : Reading) : Type 0 where
 abbrev pub taken_of : Glance → NodeId × ℕ
 taken_of glance = if glance.early then (glance.node, glance.step) else (glance.neighbour, glance.change)
 
--- both are of one node, and a step of one node is taken back for them
+-- two looks are of one node, and a step of one node is taken back for both
 pub record HangTogether (one other : Glance) : Type 0 where
   pub node : one.node.number ≡ other.node.number
   pub taken : (taken_of one).0.number ≡ (taken_of other).0.number
@@ -173,28 +173,28 @@ pub record IsGlance (s : State) (near : Near) (glance : Glance) : Type 0 where
   pub change : glance.change ≡ touching glance.neighbour.number (take near.change (causes_of s)) + 1
   pub early : glance.early ≡ nat_lt near.look near.change
 
--- so they do at some places, and the node was asked for
+-- the look and the change stand at some places, and the node that looked was asked for, if one was
 abbrev pub IsGlanced : State → Option NodeId → Glance → Type 0
 IsGlanced s only glance = ((near : Near) × IsGlance s near glance) × IfSome only (λ node. glance.node ≡ node)
 
--- one of these is what stands at the places
+-- one of the list is the look and the change at the places
 abbrev pub IsShownBy : State → Near → List Glance → Type 0
 IsShownBy s near list = (glance : Glance) × Contains list glance × IsGlance s near glance
 
--- so is one for each reading that is to be told
+-- for each reading that is to be told and stands at listed places, one of the list is the look and the change there
 abbrev pub AreGlanced : State → Option NodeId → List Near → List Glance → Type 0
 AreGlanced s only nears list = (reading : Reading) (near : Near) → Contains nears near → IsTold s only reading → IsAtNear s near reading → IsShownBy s near list
 
--- how many steps of its node, and beside it, would be left
+-- how many steps of the node that looked, and beside it, are left where the step for it to read another word is taken back
 abbrev pub IsAroundOf : List Cause → Glance → Around → Type 0
 IsAroundOf causes glance around = IsAround causes (taken_of glance).0.number (taken_of glance).1 glance.node.number around
 
--- the step that is taken back is one of the list
+-- the step that is taken back for the look to read another word was made
 pub record HasStep (causes : List Cause) (glance : Glance) : Type 0 where
   pub first : 0 < (taken_of glance).1
   pub within : (taken_of glance).1 ≤ touching (taken_of glance).0.number causes
 
--- what is known of some of them holds
+-- what is known of how many steps are left around some of the looks is true
 abbrev pub AreKnown : List Cause → List Glance → List (Option Around) → Type 0
 AreKnown causes glances known =
     (i : ℕ) (glance : Glance) (around : Around) → glance ≡ slice_index_or glances i glance → slice_index_or known i None ≡ Some around → IsAroundOf causes glance around
@@ -205,7 +205,7 @@ pub record IsOtherWord (s : State) (glance : Glance) (word : ℕ) : Type 0 where
   pub next : looks_next (chip_of (rewound s (taken_of glance).0.number (taken_of glance).1)) glance.node.number ≡ true
   pub step : steps_of glance.node.number (rewound s (taken_of glance).0.number (taken_of glance).1).kept + 1 ≡ glance.step
 
--- of these none is left out that is to be told
+-- no reading of these looks and changes is left out that is to be told
 abbrev pub AreRead : State → Option NodeId → List Glance → List Reading → Type 0
 AreRead s only glances list =
     (near : Near) (glance : Glance) (reading : Reading) → Contains glances glance → IsGlance s near glance → IsTold s only reading → IsAtNear s near reading

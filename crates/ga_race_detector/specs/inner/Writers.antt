@@ -36,11 +36,11 @@ greater_with known (Some n) number = max (known n) number
 abbrev pub depth : (ℕ → ℕ) → ℕ → ℕ → Cause → ℕ
 depth known n made cause = if cause_touches cause n then made + 1 else greatest known (seen_by cause)
 
--- of the first steps of the one node, how many steps of the other are left where each is taken back
+-- the list says how many steps of node m are left where each of the first steps of node n is taken back
 abbrev pub IsLeftBehind : List Cause → ℕ → ℕ → List ℕ → Type 0
 IsLeftBehind causes n m left = (k : ℕ) → k < length left → slice_index left k ≡ touching m (rewound_list causes n (k + 1))
 
--- so of each of its steps
+-- the list says how many steps of node m are left where each step of node n is taken back
 pub record AreLeft (causes : List Cause) (n m : ℕ) (left : List ℕ) : Type 0 where
   pub size : length left ≡ touching n causes
   pub each : IsLeftBehind causes n m left
@@ -66,14 +66,14 @@ abbrev pub word_between : ℕ → ℕ → Made → Option ℕ
 word_between writer reader (Own node step kind) = None
 word_between writer reader (Pass from i to j word) = if from.number == writer && to.number == reader then Some word else None
 
--- the list of a side
+-- the list of how many steps of the neighbour on a side are left
 abbrev pub left_over : LeftBeside → Side → List ℕ
 left_over beside Right = beside.right.items
 left_over beside Down = beside.down.items
 left_over beside Left = beside.left.items
 left_over beside Up = beside.up.items
 
--- so of the neighbour on each side
+-- the list of each side says how many steps of the neighbour there are left where each of the first steps of the node is taken back
 abbrev pub IsLeftBeside : List Cause → ℕ → LeftBeside → Type 0
 IsLeftBeside causes n beside = (side : Side) (m : ℕ) → neighbour_of n side ≡ Some m → IsLeftBehind causes n m (left_over beside side)
 
@@ -88,7 +88,7 @@ at_side flags Up = flags.up
 abbrev pub NeverOffers : State → ℕ → Side → Type 0
 NeverOffers s n side = (k : ℕ) → offered (chip_of (rewound s n k)) n side ≡ None
 
--- so it is over each side that has no flag
+-- whichever of the node's steps is taken back, no word is offered to it over a side that has no flag
 abbrev pub AreSilent : State → ℕ → Writers → Type 0
 AreSilent s n flags = (side : Side) → at_side flags side ≡ false → NeverOffers s n side
 

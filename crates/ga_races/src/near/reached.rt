@@ -89,7 +89,7 @@ pub(super) fn mark_look(marks: &mut Nodes, act: &EventAccess)
 }
 
 impl Reached {
-    // Those of one action.
+    // The nodes that one action touches, those to which it changes what is shown, and those that look in it.
     fn by(act: &EventAccess) -> Self
         ensures touched { (n : ℕ) → is_marked result.touched n ≡ has_touched (action_in act.now) n }
         ensures shown { (n : ℕ) → is_marked result.shown n ≡ has_shown (action_in act.now) n }
@@ -104,7 +104,7 @@ impl Reached {
         reached
     }
 
-    // Adds an action.
+    // Adds the nodes that an action touches, those to which it changes what is shown, and those that look in it.
     fn add(&mut self, act: &EventAccess)
         ensures touched { (n : ℕ) → is_marked self.new.touched n ≡ (is_marked self.old.touched n || has_touched (action_in act.now) n) }
         ensures shown { (n : ℕ) → is_marked self.new.shown n ≡ (is_marked self.old.shown n || has_shown (action_in act.now) n) }
@@ -115,7 +115,7 @@ impl Reached {
         mark_look(&mut self.looked, act);
     }
 
-    // Whether an action is bound to one of them. If so it is added.
+    // Whether an action is bound to one of the actions that were added. If so it is added too.
     fn take(&mut self, act: &EventAccess) -> bool
         ensures answer { result ≡ is_met (is_marked self.old.touched) (is_marked self.old.shown) (is_marked self.old.looked) act.now }
         ensures touched { (n : ℕ) → is_marked self.new.touched n ≡ (is_marked self.old.touched n || (result && has_touched (action_in act.now) n)) }
@@ -129,7 +129,7 @@ impl Reached {
         true
     }
 
-    // Whether an action is bound to one of them.
+    // Whether an action is bound to one of the actions that were added.
     fn meets(&self, act: &EventAccess) -> bool
         ensures { result ≡ is_met (is_marked self.now.touched) (is_marked self.now.shown) (is_marked self.now.looked) act.now }
     {
@@ -138,7 +138,7 @@ impl Reached {
             || self.is_shown_by(act)
     }
 
-    // Whether an action changes what is shown to a node that looked in them.
+    // Whether an action changes what is shown to a node that looked in one of the actions that were added.
     fn is_shown_by(&self, act: &EventAccess) -> bool
         ensures { result ≡ is_shown_to (is_marked self.now.looked) act.now.cause.event act.now.first act.now.second }
     {
@@ -152,7 +152,7 @@ impl Reached {
     }
 }
 
-// Whether both hold.
+// Whether two flags are both set.
 pub(super) fn both(one: bool, other: bool) -> bool
     ensures { result ≡ (one && other) }
 {
