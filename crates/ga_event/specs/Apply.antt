@@ -130,7 +130,7 @@ pub record Agree (marks : ℕ → Bool) (chip other : List NodeRecord) : Type 0 
   pub size : length chip ≡ length other
   pub same : (n : ℕ) → marks n ≡ false → record_at chip n ≡ record_at other n
 
--- an event can be on neither, or it leaves chips that agree and tells the same
+-- an event can be on neither of two chips, or it leaves chips that agree and tells the same of both
 abbrev pub Alike : (ℕ → Bool) → Option (List NodeRecord × Told) → Option (List NodeRecord × Told) → Type 0
 Alike marks None None = Unit {0}
 Alike marks None (Some there) = ⊥

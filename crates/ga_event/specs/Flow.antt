@@ -33,7 +33,7 @@ second = OfD 1
 abbrev pub top_return : Part
 top_return = OfR 0
 
--- what stands there, where this word comes from outside
+-- what stands in a part of a node, where this word comes from outside
 abbrev pub part_of : ℕ → NodeRecord → Part → ℕ
 part_of word n (OfD k) = slice_index n.d k
 part_of word n (OfR k) = slice_index n.r k
@@ -139,7 +139,7 @@ abbrev pub return_flows_popped : Flows → Flows
 return_flows_popped f (OfR k) = if k == 8 then f (OfR 1) else f (OfR (k + 1))
 return_flows_popped f part = f part
 
--- computed from a value that comes from there
+-- the flow of what is computed from a value of this flow
 abbrev pub by : Flow → Flow
 by (Same part) = From (part ∷ [])
 by (From parts) = From parts
@@ -171,7 +171,7 @@ moved_all (move ∷ rest) f = moved_all rest (moved move f)
 
 -- ---- what decides an event
 
--- beside the opcode: a test, or the target of an address
+-- what decides an event beside its opcode: a test, or the target of an address
 abbrev pub choice : Due → NodeRecord → Choice
 choice due.Fetch n = At (classified n.p)
 choice (due.Run Unext) n = Test (r n == 0)
@@ -189,7 +189,7 @@ choice (due.Run StoreB) n = At (classified n.b)
 choice (due.Run Store) n = At (classified n.a)
 choice (due.Run _) n = Plain
 
--- and the parts from which it comes
+-- the parts by which an event is decided beside its opcode
 abbrev pub chosen_by : Due → List Part
 chosen_by due.Fetch = OfP ∷ []
 chosen_by (due.Run Unext) = top_return ∷ []
@@ -294,7 +294,7 @@ moves_where (due.Run Push) c = PushReturn (Same top) ∷ PopData ∷ GoOn ∷ []
 moves_where (due.Run BStore) c = SetB (from top) ∷ PopData ∷ GoOn ∷ []
 moves_where (due.Run AStore) c = SetA (Same top) ∷ PopData ∷ GoOn ∷ []
 
--- and those of an opcode and of what comes next, in a node
+-- the moves of an opcode in a node, and those of what comes next in a node
 abbrev pub moves : Op → NodeRecord → List Move
 moves op n = moves_where (due.Run op) (choice (due.Run op) n)
 
@@ -316,7 +316,7 @@ take_moves (wait.Write side) = []
 unfoldable pub flow_where : Due → Choice → Part → Flow
 flow_where due choice = moved_all (moves_where due choice) Same
 
--- after a node's own event, after it sent a word, and after it took one
+-- where the value of a part comes from after a node's own event, after it sent a word, and after it took one
 unfoldable pub own_flow : NodeRecord → Part → Flow
 own_flow n = moved_all (moves_by (due_of n) n) Same
 
@@ -328,17 +328,17 @@ take_flow wait = moved_all (take_moves wait) Same
 
 -- ---- two runs
 
--- the same is decided in both nodes
+-- what comes next is the same in two nodes, and so is what decides it beside the opcode
 pub record DecideAlike (n m : NodeRecord) : Type 0 where
   pub due : due_of n ≡ due_of m
   pub choice : choice (due_of n) n ≡ choice (due_of m) m
 
--- the same stands in both at these parts, where these words come from outside
+-- two nodes hold the same in these parts, where these words come from outside
 abbrev pub AgreeAtParts : ℕ → NodeRecord → ℕ → NodeRecord → List Part → Type 0
 AgreeAtParts word n other m [] = Unit {0}
 AgreeAtParts word n other m (part ∷ rest) = (part_of word n part ≡ part_of other m part) × AgreeAtParts word n other m rest
 
--- Two values come from there, in two nodes before an event: each is that of a part, or they are the same where the nodes agree.
+-- Two values come from a flow, in two nodes before an event: each is that of a part, or they are the same where the nodes agree.
 abbrev pub Comes : ℕ → NodeRecord → ℕ → NodeRecord → Flow → ℕ → ℕ → Type 0
 Comes word n other m (Same part) x y = (x ≡ part_of word n part) × (y ≡ part_of other m part)
 Comes word n other m (From parts) x y = AgreeAtParts word n other m parts → x ≡ y

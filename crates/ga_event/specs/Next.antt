@@ -32,7 +32,7 @@ pass_from chip reader side None = None
 pass_from chip reader side (Some writer) =
     if writes_to (record_at chip writer.number).wait side then Some (Pass writer reader side) else None
 
--- the same over a side of a set
+-- the pass to a reader over a side, if that is of this set and the neighbour there waits to write it
 abbrev pub pass_over : List NodeRecord → NodeId → ℕ → Side → Option Event
 pass_over chip reader sides side =
     if has_side sides side then pass_from chip reader side (beside reader side) else None

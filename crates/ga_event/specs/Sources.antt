@@ -10,11 +10,11 @@ use Rattle.ga_event.specs.declared.event.Event.{Event}
 use Rattle.ga_event.specs.declared.event.Event.TheVariants.{Own, Pass}
 use Rattle.ga_event.specs.Apply.{seen_from, after}
 
--- of each part of each node, the parts of the load, each with its node, from which its value comes
+-- the parts of the load, each with its node, from which the value of each part of each node comes
 abbrev pub Sources : Type 0
 Sources = ℕ → Part → List (ℕ × Part)
 
--- at load
+-- the sources at load: each part of each node is its own
 abbrev pub themselves : Sources
 themselves n part = (n, part) ∷ []
 
@@ -27,12 +27,12 @@ abbrev pub sources_of_all : (Part → List (ℕ × Part)) → List (ℕ × Part)
 sources_of_all node outside [] = []
 sources_of_all node outside (part ∷ rest) = sources_in node outside part ++ sources_of_all node outside rest
 
--- and of a value that comes from there
+-- the sources of a value of this flow, in an event in which a word with these comes from outside
 abbrev pub sources_by : (Part → List (ℕ × Part)) → List (ℕ × Part) → Flow → List (ℕ × Part)
 sources_by node outside (Same part) = sources_in node outside part
 sources_by node outside (From parts) = sources_of_all node outside parts
 
--- after an event; what a read of `io` shows has none, and a word that is taken has those of the writer's T
+-- the sources after an event; what a read of `io` shows has none, and a word that is taken has those of the writer's T
 abbrev pub sources_after : List NodeRecord → Event → Sources → Sources
 sources_after chip (Own node) sources n part =
     if n == node.number then sources_by (sources n) [] (own_flow (record_at chip n) part) else sources n part
@@ -41,7 +41,7 @@ sources_after chip (Pass writer reader side) sources n part =
     else if n == writer.number then sources_by (sources n) [] (send_flow part)
     else sources n part
 
--- after the events of a list, and the chip after them
+-- the chip after the events of a list, and the sources after them
 abbrev pub chip_after : List NodeRecord → List Event → List NodeRecord
 chip_after chip [] = chip
 chip_after chip (e ∷ es) = chip_after (after chip e).0 es
@@ -52,19 +52,19 @@ sources_after_all chip (e ∷ es) sources = sources_after_all (after chip e).0 e
 
 -- ---- two runs
 
--- the same is decided by the event on both chips, and its node sees the same
+-- an event is decided alike on two chips: an own event with the same word at `io`, a pass of two nodes with the same wait of its reader
 abbrev pub AlikeIn : List NodeRecord → List NodeRecord → Event → Type 0
 AlikeIn c d (Own node) =
     DecideAlike (record_at c node.number) (record_at d node.number) × (io_word (seen_from c node.number) ≡ io_word (seen_from d node.number))
 AlikeIn c d (Pass writer reader side) =
     (writer.number ≢ reader.number) × ((record_at c reader.number).wait ≡ (record_at d reader.number).wait)
 
--- and by each of the events in turn
+-- each of some events in turn is decided alike on two chips
 abbrev pub AlikeInAll : List NodeRecord → List NodeRecord → List Event → Type 0
 AlikeInAll c d [] = Unit {0}
 AlikeInAll c d (e ∷ es) = AlikeIn c d e × AlikeInAll (after c e).0 (after d e).0 es
 
--- the same stands on both chips at these parts
+-- two chips hold the same in these parts of their nodes
 abbrev pub SameAt : List NodeRecord → List NodeRecord → List (ℕ × Part) → Type 0
 SameAt c d [] = Unit {0}
 SameAt c d (at ∷ rest) = (part_of 0 (record_at c at.0) at.1 ≡ part_of 0 (record_at d at.0) at.1) × SameAt c d rest

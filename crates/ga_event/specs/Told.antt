@@ -9,7 +9,7 @@ use Rattle.ga_event.specs.declared.event.Event.TheVariants as event
 use Rattle.ga_event.specs.declared.made.Made.{Made}
 use Rattle.ga_event.specs.declared.made.Made.TheVariants as made
 
--- the events of such a list, each with whether it looked; and alone
+-- the events of which a list tells, each with whether it looked; and alone
 abbrev pub causes_told : List (Cause × Told) → List Cause
 causes_told told = map (λ (x : Cause × Told). x.0) told
 
@@ -43,6 +43,6 @@ mades_after before (x ∷ xs) n =
 abbrev pub mades_of : List (Cause × Told) → ℕ → List Made
 mades_of kept n = mades_after [] kept n
 
--- the events alone
+-- the events of a list, without whether they looked
 abbrev pub events_in : List Cause → List Event
 events_in causes = map (λ (cause : Cause). cause.event) causes

@@ -8,7 +8,7 @@ use Rattle.ga_event.specs.declared.event.Cause.{Cause}
 use Rattle.ga_event.specs.declared.event.Event.{Event}
 use Rattle.ga_event.specs.declared.event.Event.TheVariants.{Own, Pass}
 
--- the nodes that it touches
+-- the nodes that an event touches
 abbrev pub nodes_of : Event → List ℕ
 nodes_of (Own node) = node.number ∷ []
 nodes_of (Pass writer reader side) = writer.number ∷ reader.number ∷ []

@@ -33,7 +33,7 @@ abbrev pub IsSought : Trace → Type 0
 IsSought (At part) = IsPart part
 IsSought (Found flow) = AreSources flow
 
--- before a part got another word, and before a push and a pop
+-- a part followed back over another word in a part, and over a push and a pop of either stack
 abbrev pub set_at : Part → Flow → Trace → Trace
 set_at at flow (At part) = if is_same part at then Found flow else At part
 set_at at flow (Found found) = Found found
@@ -54,7 +54,7 @@ abbrev pub pop_return : Trace → Trace
 pop_return (At (Return k)) = if k == 8 then At (Return 1) else At (Return (k + 1))
 pop_return trace = trace
 
--- before a move
+-- a part followed back over a move
 abbrev pub before : Move → Trace → Trace
 before (PushData flow) trace = push_data flow trace
 before PopData trace = pop_data trace
@@ -76,12 +76,12 @@ before StartAgain trace = set_at Slot (From []) trace
 before SetWait trace = set_at Wait (From []) trace
 before SetStop trace = set_at Stop (From []) trace
 
--- before some moves, the last of them first
+-- a part followed back over some moves, the last of them first
 abbrev pub before_all : List Move → Trace → Trace
 before_all [] trace = trace
 before_all (move ∷ rest) trace = before move (before_all rest trace)
 
--- before a read whose word is pushed, and before a write, where this stands before what came after
+-- a part followed back over a read whose word is pushed, and over a write; what came after is followed back already
 abbrev pub read_before : Target → Part → Trace → Trace
 read_before (target.Ram k) part later = push_data (Same (Ram k)) later
 read_before (target.Rom k) part later = push_data (Same (Rom k)) later
@@ -96,11 +96,11 @@ write_before target.Io part later = set_at Io (Same top) later
 write_before (target.Ports sides) part later = if is_single sides then before SetWait (At part) else before SetStop (At part)
 write_before target.Bad part later = before SetStop (At part)
 
--- before R was popped or counted down, where these stand before what came after each
+-- a part followed back over R popped or counted down; what came after each is followed back already
 abbrev pub count_before : Bool → Trace → Trace → Trace
 count_before ends last again = if ends then pop_return last else set_at top_return (From (top_return ∷ [])) again
 
--- before an event
+-- where the value of a part comes from that was followed back over an event
 abbrev pub settled : Trace → Flow
 settled (At part) = Same part
 settled (Found flow) = flow

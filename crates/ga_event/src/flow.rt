@@ -16,9 +16,9 @@ pub use part::Part;
 /// Where the value of a part comes from that an event leaves.
 #[derive(Drop)]
 pub enum Flow {
-    /// It is the value of this part before.
+    /// The value is the one of this part before the event.
     Same(Part),
-    /// It is computed from the values of these parts before and from nothing else, given what decides the event. The word from
+    /// The value is computed from the values of these parts before and from nothing else, given what decides the event. The word from
     /// outside is never among them.
     From(ArrayVec<Part, 3>),
 }

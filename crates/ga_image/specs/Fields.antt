@@ -42,7 +42,7 @@ field_place (Rom cell) = place.Rom cell
 abbrev pub field_count : ℕ
 field_count = 156
 
--- the field's number among them
+-- the number of a field among those that a block can give
 abbrev pub number_of : Field → ℕ
 number_of A = 0
 number_of B = 1
@@ -79,15 +79,15 @@ goes_past (Ram cell) count = nat_lt 64 (cell + count)
 goes_past (Rom cell) count = nat_lt 64 (cell + count)
 goes_past register count = false
 
--- the greatest word that it holds
+-- the greatest word that a field holds
 abbrev pub greatest : Field → ℕ
 greatest field = greatest_of (field_place field)
 
--- one of the words is past the greatest
+-- one of the words is past the greatest of the field
 abbrev pub is_too_great : Field → List ℕ → Bool
 is_too_great field words = list_any (λ word. nat_lt (greatest field) word) words
 
--- one of the fields was given, or stands here twice
+-- one of the fields was given before, or is among them twice
 abbrev pub repeats : List Bool → List (Field × ℕ) → Bool
 repeats given [] = false
 repeats given (w ∷ ws) = slice_index_or given (number_of w.0) false || repeats (slice_set given (number_of w.0) true) ws
@@ -98,18 +98,18 @@ repeats given (w ∷ ws) = slice_index_or given (number_of w.0) false || repeats
 abbrev pub held_at_load : Held
 held_at_load = record { wait = 0; stop = 0; slot = 4 }
 
--- with a word for a field
+-- what is said of a wait, a stop and a slot, with a word for a field
 abbrev pub with_code : Held → Field → ℕ → Held
 with_code held Wait word = record held { wait = word }
 with_code held Stop word = record held { stop = word }
 with_code held Slot word = record held { slot = word }
 with_code held _ word = held
 
--- with one word more
+-- what is said of a wait, a stop and a slot, with one word more
 abbrev pub with_held : Held → Field × ℕ → Held
 with_held held w = with_code held w.0 w.1
 
--- behind words, one after the other
+-- what is said of a wait, a stop and a slot behind words, one after the other
 abbrev pub held_after : Held → List (Field × ℕ) → Held
 held_after held [] = held
 held_after held (w ∷ ws) = held_after (with_held held w) ws

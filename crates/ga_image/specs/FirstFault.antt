@@ -28,7 +28,7 @@ cause_number cause.Long = 18
 cause_number cause.Memory = 19
 cause_number cause.State = 20
 
--- its word
+-- the word of a cause
 abbrev pub cause_word : ImageCause → Text
 cause_word cause.Header = codes "header"
 cause_word cause.Line = codes "line"
@@ -47,7 +47,7 @@ no_memory = record { line = 0; cause = cause.Memory }
 
 -- ---- the first fault of a text that is no image, told by its lines
 
--- P holds of one of these
+-- P holds of one of some values
 abbrev pub OneOf : {X : Type 0} → (X → Type 0) → List X → Type 0
 OneOf P [] = ⊥
 OneOf P (x ∷ xs) = P x ⊎ OneOf P xs
@@ -57,19 +57,19 @@ OneOf P (x ∷ xs) = P x ⊎ OneOf P xs
 abbrev pub IsEnd : Line → Type 0
 IsEnd line = Spells line End
 
--- it begins the block of the node with this row and column
+-- a line begins the block of the node with this row and column
 abbrev pub BeginsBlockOf : ℕ → Line → Type 0
 BeginsBlockOf yxx line = Spells line (Node yxx)
 
--- it begins a block
+-- a line begins a block
 abbrev pub BeginsBlock : Line → Type 0
 BeginsBlock line = (yxx : ℕ) × BeginsBlockOf yxx line
 
--- it is a field line
+-- a line is a field line
 abbrev pub GivesWords : Line → Type 0
 GivesWords line = (field : Field) × (words : List ℕ) × Spells line (Words field words)
 
--- it gives a word for this field
+-- a line gives a word for this field
 abbrev pub GivesField : Field → Line → Type 0
 GivesField field line = (first : Field) × (words : List ℕ) × Spells line (Words first words) × OneOf (λ w. w.0 ≡ field) (writes first words)
 
@@ -96,27 +96,27 @@ format_in (line ∷ lines) = format_of line
 
 -- ---- what may be wrong with a line, behind the lines before it
 
--- it has more than 200 bytes
+-- a line has more than 200 bytes
 abbrev pub IsLong : Line → Type 0
 IsLong line = longest < length line
 
--- it is the first line, and not the header of a format
+-- a line is the first, and not the header of a format
 abbrev pub IsOtherHeader : List Line → Line → Type 0
 IsOtherHeader before line = (before ≡ []) × ((format : Format) → line ≢ header format)
 
--- it has none of the format's forms
+-- a line has none of the format's forms
 abbrev pub HasNoForm : Format → Line → Type 0
 HasNoForm format line = (form : Form) → ¬ SpellsIn format line form
 
--- it is a field line before the first block
+-- a line is a field line before the first block
 abbrev pub IsBeforeBlocks : List Line → Line → Type 0
 IsBeforeBlocks before line = GivesWords line × ¬ OneOf BeginsBlock before
 
--- behind the header it has no form, or may not stand there
+-- a line behind the header has no form, or may not stand there
 abbrev pub IsNoLine : List Line → Line → Type 0
 IsNoLine before line = (before ≢ []) × (HasNoForm (format_in before) line ⊎ IsBeforeBlocks before line ⊎ OneOf IsEnd before)
 
--- it ends a block whose wait, stop and slot can't stand together
+-- a line ends a block whose wait, stop and slot can't stand together
 abbrev pub EndsUnsteady : List Line → Line → Type 0
 EndsUnsteady before line =
     (BeginsBlock line ⊎ IsEnd line)
@@ -124,23 +124,23 @@ EndsUnsteady before line =
     × GivesLines before field_lines
     × (is_unsteady (held_after held_at_load (all_writes field_lines)) ≡ true))
 
--- it begins the block of no node of the grid
+-- a line begins the block of no node of the grid
 abbrev pub NamesNoNode : Line → Type 0
 NamesNoNode line = (yxx : ℕ) × BeginsBlockOf yxx line × (node_of yxx ≡ None)
 
--- it gives a cell past the last of its memory
+-- a line gives a cell past the last of its memory
 abbrev pub GivesNoCell : Line → Type 0
 GivesNoCell line = (field : Field) × (words : List ℕ) × Spells line (Words field words) × ¬ Fits field (length words)
 
--- it gives a word past the greatest of its field
+-- a line gives a word past the greatest of its field
 abbrev pub GivesGreatWord : Line → Type 0
 GivesGreatWord line = (field : Field) × (words : List ℕ) × Spells line (Words field words) × OneOf (λ word. greatest field < word) words
 
--- it begins a block of a node that has one
+-- a line begins a block of a node that has one
 abbrev pub RepeatsNode : List Line → Line → Type 0
 RepeatsNode before line = (yxx : ℕ) × BeginsBlockOf yxx line × OneOf (BeginsBlockOf yxx) before
 
--- it gives a field that this block gave before
+-- a line gives a field that its block gave before
 abbrev pub RepeatsField : List Line → Line → Type 0
 RepeatsField before line = (field : Field) × GivesField field line × WasGiven before field
 

@@ -53,7 +53,7 @@ Fits (Ram cell) count = cell + count ≤ 64
 Fits (Rom cell) count = cell + count ≤ 64
 Fits _ count = Unit {0}
 
--- no cell is past the last, and no word past its greatest
+-- a field line: no cell is past the last, and no word past the greatest of its field
 abbrev pub IsFieldLine : Field × List ℕ → Type 0
 IsFieldLine field_line = Fits field_line.0 (length field_line.1) × AllByRecursion (λ word. word ≤ greatest field_line.0) field_line.1
 
@@ -63,7 +63,7 @@ pub record IsBlock (block : Block) : Type 0 where
   pub field_lines : AllByRecursion IsFieldLine block.field_lines
   -- no field is given twice
   pub apart : IsDistinct nat_eq (map (λ w. number_of w.0) (all_writes block.field_lines))
-  -- its wait, stop and slot can stand together
+  -- the wait, stop and slot that the block gives can stand together
   pub steady : is_unsteady (held_after held_at_load (all_writes block.field_lines)) ≡ false
 
 -- A node with another word in a field. A node that waits isn't stopped, and one that is stopped doesn't wait.

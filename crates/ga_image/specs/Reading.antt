@@ -41,7 +41,7 @@ pub record Progress : Type 0 where
 abbrev pub nothing_given : List Bool
 nothing_given = replicate field_count false
 
--- before the first line
+-- what is known before the first line
 unfoldable pub start : Progress
 start = record {
   format = One;
@@ -81,15 +81,14 @@ abbrev pub first_of : List (ImageCause × Bool) → Option ImageCause
 first_of [] = None
 first_of (test ∷ tests) = if test.1 then Some test.0 else first_of tests
 
--- What may be wrong with a line, in the order in which it is answered:
--- with a line that begins the block of a node,
+-- what may be wrong with a line that begins the block of a node, in the order in which it is answered
 unfoldable pub node_fault : Progress → ℕ → Option ImageCause
 node_fault progress yxx = first_of (
     (cause.Node, is_none (node_of yxx))
     ∷ (cause.Repeated, has_block progress (node_of yxx))
     ∷ [])
 
--- with a field line,
+-- what may be wrong with a field line, in the order in which it is answered
 unfoldable pub words_fault : Progress → Field → List ℕ → Option ImageCause
 words_fault progress field words = first_of (
     (cause.Place, goes_past field (length words))
@@ -103,20 +102,20 @@ ends_unsteady (Block node) held (Some (Node yxx)) = is_unsteady held
 ends_unsteady (Block node) held (Some End) = is_unsteady held
 ends_unsteady _ held _ = false
 
--- with a line that may stand there,
+-- what may be wrong with a line that may stand there, by its form
 abbrev pub form_fault : Progress → Option Form → Option ImageCause
 form_fault progress (Some (Node yxx)) = node_fault progress yxx
 form_fault progress (Some (Words field words)) = words_fault progress field words
 form_fault progress _ = None
 
--- with a line behind the first,
+-- what may be wrong with a line behind the first, in the order in which it is answered
 abbrev pub later_fault : Progress → Option Form → Option ImageCause
 later_fault progress form =
     if is_misplaced progress.stage form then Some cause.Line
     else if ends_unsteady progress.stage progress.held form then Some cause.State
     else form_fault progress form
 
--- and with any line.
+-- what may be wrong with a line that isn't too long, by what may come next
 abbrev pub line_fault : Stage → Progress → Line → Option ImageCause
 line_fault Header progress text = if is_header text then None else Some cause.Header
 line_fault _ progress text = later_fault progress (form_in progress.format text)
@@ -125,7 +124,7 @@ line_fault _ progress text = later_fault progress (form_in progress.format text)
 unfoldable pub fault_of : Progress → Line → Option ImageCause
 fault_of progress text = if nat_lt longest (length text) then Some cause.Long else line_fault progress.stage progress text
 
--- the node whose block it is
+-- the node whose block the next line may go on with, or else 0
 abbrev pub node_of_stage : Stage → ℕ
 node_of_stage (Block node) = node
 node_of_stage _ = 0
@@ -138,7 +137,7 @@ with_write progress w = record progress {
   chip = with_word progress.chip (node_of_stage progress.stage) w;
 }
 
--- words, one after the other
+-- words of the block are written, one after the other
 abbrev pub with_writes : Progress → List (Field × ℕ) → Progress
 with_writes progress [] = progress
 with_writes progress (w ∷ ws) = with_writes (with_write progress w) ws
@@ -153,19 +152,19 @@ with_block progress (Some node) = record progress {
 }
 with_block progress None = progress
 
--- after a line of a form that may stand there
+-- what is known after a line of a form that may stand there
 abbrev pub after_form : Progress → Option Form → Progress
 after_form progress (Some (Node yxx)) = with_block progress (node_of yxx)
 after_form progress (Some (Words field words)) = with_writes progress (writes field words)
 after_form progress (Some End) = record progress { stage = Ended }
 after_form progress None = progress
 
--- after a line at this stage
+-- what is known after a line at this stage
 abbrev pub after_stage : Stage → Progress → Line → Progress
 after_stage Header progress text = record progress { format = format_of text; stage = Open }
 after_stage _ progress text = after_form progress (form_in progress.format text)
 
--- after a line with no fault
+-- what is known after a line with no fault
 unfoldable pub after_line : Progress → Line → Progress
 after_line progress text = after_stage progress.stage progress text
 

@@ -54,7 +54,7 @@ field_name (Return k) = codes "r"
 field_name (Ram cell) = codes "ram "
 field_name (Rom cell) = codes "rom "
 
--- and the numbers that follow
+-- the numbers that follow in a field line behind what it begins with
 abbrev pub numbers_of : Field → List ℕ → List ℕ
 numbers_of (Ram cell) words = hex2_of cell ++ words_text words
 numbers_of (Rom cell) words = hex2_of cell ++ words_text words
@@ -85,7 +85,7 @@ IsCode Wait code = IsWaitCode code × (code ≢ 0)
 IsCode Stop code = (1 ≤ code) × (code ≤ 3)
 IsCode _ code = ⊥
 
--- and how they are spelled: one decimal digit, or what the node waits for
+-- how the number of a carry, a slot, a wait or a stop is spelled: one decimal digit, or what the node waits for
 abbrev pub code_text : Field → ℕ → Text
 code_text Wait code = wait_text code
 code_text _ code = (48 + code) ∷ []
@@ -133,7 +133,7 @@ spaced_words (space ∷ a ∷ b ∷ c ∷ d ∷ e ∷ f ∷ text) =
     else None
 spaced_words _ = None
 
--- 1 to 16 of them
+-- some words, where they are 1 to 16
 abbrev pub few : List ℕ → Option (List ℕ)
 few words = if nat_le 1 (length words) && nat_le (length words) 16 then Some words else None
 
@@ -186,7 +186,7 @@ node_form text = do
   number ← node_number text
   Some (Node number)
 
--- the text begins so
+-- the text begins with this front
 abbrev pub begins : Text → Text → Bool
 begins text front = pointwise nat_eq (take (length front) text) front
 
@@ -209,7 +209,7 @@ wide_form text =
     else if pointwise nat_eq text (codes "end") then Some End
     else None
 
--- a line of a carry, a slot, a wait or a stop, or one of those
+-- a line of a carry, a slot, a wait or a stop, of a stack, of a memory or of a node, or the end
 unfoldable pub state_form : Text → Option Form
 state_form text =
     if begins text (codes "carry ") then digit_form Carry 0 1 (drop 6 text)

@@ -109,7 +109,7 @@ words_in bank.Return node = node.r
 words_in bank.Ram node = node.ram
 words_in bank.Rom node = node.rom
 
--- how many there are
+-- how many words a stack or a memory has
 abbrev pub size_in : Bank → ℕ
 size_in bank.Data = 10
 size_in bank.Return = 9

@@ -48,7 +48,7 @@ pub(crate) enum Bank {
 }
 
 impl Bank {
-    /// The field of one of its words.
+    /// The field of a word of the stack or the memory.
     pub(crate) fn field(self, place: u8) -> Field
         ensures { result ≡ field_in self place }
     {
@@ -77,7 +77,7 @@ impl Format {
 }
 
 impl Field {
-    /// The place of a node at load that it stands for.
+    /// The place of a node at load that the field stands for.
     pub(crate) fn place(self) -> Place
         ensures { result ≡ field_place self }
     {
@@ -101,7 +101,7 @@ impl Field {
         }
     }
 
-    /// What its lines begin with.
+    /// What the lines of the field begin with.
     pub(crate) fn name(self) -> &'static str
         ensures { result.now ≡ field_name self }
     {
@@ -122,7 +122,7 @@ impl Field {
         }
     }
 
-    /// Its number among the fields of a node.
+    /// The number of the field among those of a node.
     pub(crate) fn number(self) -> usize
         requires { HasCell self }
         ensures value { result ≡ number_of self }
@@ -204,7 +204,7 @@ impl Held {
         }
     }
 
-    /// With a word for a field.
+    /// What is said of a wait, a stop and a slot, with a word for a field.
     pub(crate) fn with(self, field: Field, word: u32) -> Held
         ensures { result ≡ with_code self field word }
     {

@@ -61,7 +61,7 @@ pub(crate) struct Parser {
 }
 
 impl Parser {
-    /// Before the first line.
+    /// A parser before the first line.
     #[tactic(auto, unfolding(crate::specs::Reading::start))]
     pub fn new(chip: Chip) -> Parser
         requires { chip ≡ default_chip }

@@ -47,7 +47,7 @@ quoted_from source line column = trimmed (drop (column - 1) (bare_line source li
 abbrev pub quoted_word : List ℕ → ℕ → ℕ → List ℕ
 quoted_word source line column = decimal line ++ (codes ":" ++ (decimal column ++ (codes ": " ++ quoted_from source line column)))
 
--- where the line that begins the cell is long
+-- how a word is told where the line that begins its cell is long; else nothing
 abbrev pub quoted_if_long : List ℕ → ℕ → ℕ → ℕ → List ℕ
 quoted_if_long source begun line column = if is_long_line (line_in source begun) then quoted_word source line column else []
 
@@ -61,7 +61,7 @@ pub record Worded : Type 0 where
 abbrev pub worded_by : ToldWord → Worded
 worded_by told = record { word = told.word; text = told.text.items }
 
--- The last item has the slots behind it too.
+-- The last slot that has the word of this one: the last item has the slots behind it too.
 abbrev pub last_slot : ℕ → ℕ → ℕ
 last_slot size slot = if slot + 1 == size then 3 else slot
 
@@ -85,12 +85,12 @@ word_told source begun word = record { word = word; text = quoted_if_long source
 abbrev pub slot_worded : List ℕ → List Token → Begun → ℕ → ℕ → ℕ → Worded
 slot_worded source words cell size slot number = word_told source cell.line (word_in_slot words cell size slot number)
 
--- those of the items from a slot on
+-- the words of the items from a slot on, and how they are told
 unfoldable pub slots_worded : List ℕ → List Token → Begun → ℕ → ℕ → List ℕ → List Worded
 slots_worded source words cell size slot [] = []
 slots_worded source words cell size slot (number ∷ numbers) = slot_worded source words cell size slot number ∷ slots_worded source words cell size (slot + 1) numbers
 
--- a cell of a node, where an address names one, whose items have these words
+-- the words of the slots of a cell of a node, where an address names one, whose items have these words
 abbrev pub cell_worded : List ℕ → List Token → NodeId → Bool → Option ℕ → List ℕ → List Worded
 cell_worded source words node is_code (Some cell) numbers =
     slots_worded source words (record { node = node; cell = cell; is_code = is_code; line = word_line words (slice_index numbers 0) }) (length numbers) 0 numbers
@@ -99,18 +99,18 @@ cell_worded source words node is_code None numbers = []
 abbrev pub address_worded : List ℕ → List Token → NodeId → Bool → ℕ → List ℕ → List Worded
 address_worded source words node is_code address numbers = cell_worded source words node is_code (cell_of_address address) numbers
 
--- the cell of an item's literal, from P on
+-- the word in the cell of an item's literal, from P on
 abbrev pub literal_worded : List ℕ → List Token → NodeId → ℕ → Item → ℕ → List Worded
 literal_worded source words node p (Literal _) number = address_worded source words node false p (number ∷ [])
 literal_worded source words node p _ number = []
 
--- those of a group: of its own cell, and of its literals behind it
+-- the words of the slots of a group: of its own cell, and of its literals behind it
 abbrev pub group_worded : List ℕ → List Token → NodeId → Group → List Worded
 group_worded source words node group =
     address_worded source words node (is_code group.items.items) group.address group.lines.items
     ++ literals_told (literal_worded source words node) (advanced group.address) group.items.items group.lines.items
 
--- those of a program, and of each of some programs, in order
+-- the words of the slots of a program, and of each of some programs, in order
 abbrev pub program_worded : List ℕ → List Token → Program → List Worded
 program_worded source words program = flat_map (group_worded source words program.node) program.groups.items
 
@@ -153,7 +153,7 @@ abbrev pub long_in : Option Note → Bool
 long_in (Some note) = note.is_long
 long_in None = false
 
--- whether it ends before a word
+-- whether what the first note of a cell says ends before a word
 abbrev pub first_note_is_long : List Note → NodeId → Option ℕ → Bool
 first_note_is_long notes node (Some cell) = long_in (option_and_then (slice_get notes) (position (is_note_of node cell) notes))
 first_note_is_long notes node None = false
@@ -164,7 +164,7 @@ first_note_is_long notes node None = false
 abbrev pub worded_slot : ℕ → ℕ
 worded_slot slot = if nat_lt slot 4 then slot else 0
 
--- it is the word of the slot of a cell
+-- the word is that of the slot of a cell
 abbrev pub is_slot_word : NodeId → ℕ → ℕ → ToldWord → Bool
 is_slot_word node cell slot told =
     told.word.node.number == node.number && told.word.cell == cell && nat_le told.word.first (worded_slot slot) && nat_le (worded_slot slot) told.word.last
@@ -206,7 +206,7 @@ line_address notes node line =
 abbrev pub address_in : Option Name → Option ℕ
 address_in found = option_map (λ (name : Name). name.address) found
 
--- the address of the first such name
+-- the address of the first name that is this one of the node
 abbrev pub address_of : List Name → NodeId → List ℕ → Option ℕ
 address_of names node text = address_in (option_and_then (slice_get names) (position (is_node_name node text) names))
 

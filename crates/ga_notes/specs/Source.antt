@@ -38,13 +38,13 @@ abbrev pub named_at : NodeId → Label → Option ℕ → List Named
 named_at node label (Some address) = if has_bytes label.name.now then record { node = node; text = label.name.now; address = address } ∷ [] else []
 named_at node label None = []
 
--- those among labels with these addresses, in order
+-- the names among labels with these addresses, in order
 unfoldable pub named_among : NodeId → List Label → List (Option ℕ) → List Named
 named_among node [] addresses = []
 named_among node (label ∷ labels) [] = []
 named_among node (label ∷ labels) (address ∷ addresses) = named_at node label address ++ named_among node labels addresses
 
--- those of a program, and of each of some programs, in order
+-- the names of the labels of a program, and of those of each of some programs, in order
 abbrev pub names_in : Program → List Named
 names_in program = named_among program.node program.names.items program.labels.items
 
@@ -79,7 +79,7 @@ abbrev pub marked_by : Program → ℕ → Request → Option ℕ
 marked_by program cell (Mark label) = if are_both (label_cell program label) (Some cell) then Some label else None
 marked_by program cell _ = None
 
--- the one that requests mark last in the cell
+-- the label that requests mark last in the cell
 unfoldable pub last_marked : Program → ℕ → List Asked → Option ℕ
 last_marked program cell [] = None
 last_marked program cell (asked ∷ rest) = option_or (last_marked program cell rest) (marked_by program cell asked.request)
@@ -109,7 +109,7 @@ trimmed text = without_back (without_front text)
 abbrev pub bare_line : List ℕ → ℕ → List ℕ
 bare_line source line = unmarked line (slice_index_or (source_lines source) (line - 1) [])
 
--- (A carriage return at its end is white space.)
+-- A line of the source by its number, without white space at its ends. (A carriage return at its end is white space.)
 abbrev pub line_in : List ℕ → ℕ → List ℕ
 line_in source line = trimmed (bare_line source line)
 

@@ -24,6 +24,6 @@ shown_byte byte = if nat_lt 32 byte && nat_lt byte 127 then byte ∷ [] else cod
 abbrev pub shown : Text → Text
 shown word = flat_map shown_byte word
 
--- a word that says nothing
+-- the line that tells of a word that says nothing
 abbrev pub unknown_text : ℕ → Text → Text
 unknown_text line word = codes "ga144: line " ++ decimal line ++ codes ": what is " ++ shown word ++ codes "\n"

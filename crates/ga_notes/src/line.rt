@@ -39,7 +39,7 @@ impl<'s> Model for Lines<'s> {
 }
 
 impl<'s> Lines<'s> {
-    /// Those of this source.
+    /// The lines of this source.
     pub fn new(source: &'s [u8]) -> Self
         ensures { result ≡ source.now }
     {

@@ -47,7 +47,7 @@ impl Notes {
     ghost use Rattle.std.specs.Prelude.{◌≡◌, [], None, Some, option_map};
     ghost use Rattle.ga_notes.specs.Notes.{first_note_text, first_note_is_long, slot_text, slot_word_of, nearest_word, line_address, address_of};
 
-    /// Those of an image: none.
+    /// The notes of an image: none.
     pub fn none(alloc: Global) -> Self
         ensures notes { result.notes.items ≡ [] }
         ensures names { result.names.items ≡ [] }
@@ -180,7 +180,7 @@ fn is_begun(note: &Note, node: NodeId, line: u32) -> bool
     note.is_code && note.node == node && note.line == line
 }
 
-/// Where the first such note stands.
+/// Where the first note stands of an instruction word of the node that this line begins.
 fn begun_place(notes: &[Note], node: NodeId, line: u32) -> Option<usize>
     ensures { result ≡ position (is_begun node line) notes.now }
 {
@@ -194,7 +194,7 @@ fn is_named(name: &Name, node: NodeId, text: &[u8]) -> bool
     name.node == node && name.text.as_slice() == text
 }
 
-/// Where the first such name stands.
+/// Where the first name stands that is this one of the node.
 fn name_place(names: &[Name], node: NodeId, text: &[u8]) -> Option<usize>
     ensures { result ≡ position (is_node_name node text.now) names.now }
 {
@@ -217,7 +217,7 @@ fn is_word_of(told: &ToldWord, node: NodeId, cell: u8, slot: usize) -> bool
     word.node == node && word.cell == cell && word.first <= slot && slot <= word.last
 }
 
-/// Where the first such word stands.
+/// Where the first word stands that is that of a slot of a cell.
 fn word_place(words: &[ToldWord], node: NodeId, cell: u8, slot: usize) -> Option<usize>
     ensures { result ≡ position (is_slot_word node cell slot) words.now }
 {

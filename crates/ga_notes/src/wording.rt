@@ -25,11 +25,11 @@ pub struct SlotWord {
     pub first: usize,
     pub last: usize,
     pub line: u32,
-    /// That of the word's first byte, in bytes from 1 on, behind a byte order mark.
+    /// The column of the word's first byte, in bytes from 1 on, behind a byte order mark.
     pub column: u32,
 }
 
-/// Such a word, and how it is told.
+/// The word from which slots of a cell come, and how it is told.
 #[derive(Drop)]
 pub struct ToldWord {
     pub word: SlotWord,
@@ -62,7 +62,7 @@ pub(crate) fn slot_words(alloc: Global, source: &[u8]) -> Result<Vec<ToldWord>, 
     Ok(told)
 }
 
-/// Those of programs.
+/// The words of the slots that programs give.
 fn add_programs(
     alloc: Global,
     programs: &[Program<'_>],
@@ -79,7 +79,7 @@ fn add_programs(
     Ok(told)
 }
 
-/// Adds those of a program.
+/// Adds the words of the slots that a program gives.
 fn add_program(
     alloc: Global,
     told: &mut Vec<ToldWord>,
@@ -96,7 +96,7 @@ fn add_program(
     Ok(())
 }
 
-/// Adds those of a group: of its own cell, and of its literals.
+/// Adds the words of the slots of a group: of its own cell, and of its literals.
 fn add_group(
     alloc: Global,
     told: &mut Vec<ToldWord>,
@@ -127,7 +127,7 @@ fn add_group(
     Ok(())
 }
 
-/// Adds that of an item's literal, where it has one, from P on, and tells P behind it.
+/// Adds the word of an item's literal, where it has one, from P on, and tells P behind it.
 fn add_literal(
     alloc: Global,
     told: &mut Vec<ToldWord>,
@@ -149,7 +149,7 @@ fn add_literal(
     Ok(advance_p(p))
 }
 
-/// Adds those of the cell at an address, where it names one, whose items have these words.
+/// Adds the words of the slots of the cell at an address, where it names one, whose items have these words.
 fn add_cell(
     alloc: Global,
     told: &mut Vec<ToldWord>,
@@ -186,7 +186,7 @@ fn first_of(numbers: &[u32]) -> u32
     }
 }
 
-/// Adds those of the items of a cell.
+/// Adds the words of the slots of a cell, whose items have these words.
 fn add_slots(
     alloc: Global,
     told: &mut Vec<ToldWord>,
@@ -258,7 +258,7 @@ fn word_line(words: &[Token<'_>], number: u32) -> u32
     }
 }
 
-/// Its column, 0 where there is none.
+/// The column of the word with a number, 0 where there is none.
 fn word_column(words: &[Token<'_>], number: u32) -> u32
     ensures { result ≡ column_by_number words.now number }
 {

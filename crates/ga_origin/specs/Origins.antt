@@ -33,11 +33,11 @@ abbrev pub flow_told : Option Made → NodeRecord → ℕ → Part → Flow
 flow_told None before n at = Same at
 flow_told (Some told) before n at = told_flow told before n at
 
--- and that the step behind so many steps of a node leaves; past its steps all stays
+-- where the value of a part comes from that the step behind so many steps of a node leaves; past its steps all stays
 abbrev pub flow_at : State → ℕ → ℕ → Part → Flow
 flow_at s n k at = flow_told (slice_get (history_of s n) k) (node_after s n k) n at
 
--- a cell of memory; and a value goes to one from elsewhere, or from one
+-- whether a part is a cell of memory; and whether a value that goes from a part to another is read from memory or stored there
 abbrev pub is_memory_part : Part → Bool
 is_memory_part (part.Ram k) = true
 is_memory_part (part.Rom k) = true

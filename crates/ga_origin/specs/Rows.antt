@@ -27,7 +27,7 @@ pub record IsCause (s : State) (earlier later : Value) : Type 0 where
 abbrev pub IsNamedFor : State → Value → Value → Type 0
 IsNamedFor s asked value = (value.step ≡ 0) ⊎ IsCause s value asked
 
--- two values are one, and a value was told
+-- whether two values are one, and whether a value is among the rows
 abbrev pub is_one : Value → Value → Bool
 is_one value other = (value.node.number == other.node.number) && ((value.step == other.step) && is_same value.part other.part)
 
@@ -47,7 +47,7 @@ source_values node k told (Same part.Outside) = option_to_list (sender_in told)
 source_values node k told (Same from) = value_of_step node k from ∷ []
 source_values node k told (From parts) = map (value_of_step node k) parts
 
--- the same of a value that was made so; one at load comes from none
+-- the values from which that of a part comes behind so many steps of a node, by the last of them; one at load comes from none
 abbrev pub sources_from : State → NodeId → ℕ → Part → List Value
 sources_from s node zero at = []
 sources_from s node (suc k) at = source_values node k (slice_get (history_of s node.number) k) (flow_at s node.number k at)
@@ -55,7 +55,7 @@ sources_from s node (suc k) at = source_values node k (slice_get (history_of s n
 abbrev pub sources_of : State → Value → List Value
 sources_of s value = sources_from s value.node value.step value.part
 
--- a value at a depth, and by the step that made it
+-- the row of a value at a depth, and a row by the step that made its value
 abbrev pub row_at : ℕ → Value → Row
 row_at depth value = record { depth = depth; value = value }
 

@@ -66,7 +66,7 @@ on_data op.BStore = Pops  -- 1e b!
 on_data op.AStore = Pops  -- 1f a!
 on_data _ = Stays
 
--- and to the return stack
+-- what an opcode does to the return stack
 abbrev pub on_return : Op → Shift
 on_return op.Return = Pops  -- 00 ;
 on_return op.Execute = Replaces  -- 01 ex
@@ -77,7 +77,7 @@ on_return op.Pop = Pops  -- 19 pop
 on_return op.Push = Pushes  -- 1d push
 on_return _ = Stays
 
--- the part whose word it pushes; what it reads is that of none
+-- the part whose word an opcode pushes; what it reads is that of none
 abbrev pub pushed : Op → Option Part
 pushed op.Call = Some P  -- 03 call
 pushed op.Dup = Some top  -- 18 dup
@@ -117,7 +117,7 @@ shifted_return Unsure new k = None
 abbrev pub moved_to_return : Op → ℕ → Option Part
 moved_to_return o k = shifted_return (on_return o) (pushed o) k
 
--- in A, in B and in the carry
+-- the part whose word an opcode leaves in A, in B and in the carry
 abbrev pub moved_to_a : Op → Option Part
 moved_to_a op.FetchPlus = None
 moved_to_a op.StorePlus = None
@@ -141,7 +141,7 @@ unless_stored op.StoreB at = None
 unless_stored op.Store at = None
 unless_stored _ at = Some at
 
--- of each part, by an opcode and by a fetch
+-- the part whose value an opcode leaves in a part, and the one whose value a fetch leaves in it
 abbrev pub by_op : Op → Part → Option Part
 by_op o (Data k) = moved_to_data o k
 by_op o (Return k) = moved_to_return o k
@@ -167,14 +167,14 @@ by_fetch Stop = None
 by_fetch Outside = None
 by_fetch at = Some at
 
--- of a wait or a stop, which stands in the place of the whole event
+-- the part whose value a wait or a stop, which stands in the place of the whole event, leaves in a part
 abbrev pub by_pause : Part → Option Part
 by_pause Wait = None
 by_pause Stop = None
 by_pause Outside = None
 by_pause at = Some at
 
--- of an event of a node's own, and of one of which this is told
+-- the part whose value an event leaves in a part: an own event by its kind, and any event by what is told of it
 abbrev pub by_kind : Kind → Part → Option Part
 by_kind kind.Fetch at = by_fetch at
 by_kind (kind.Run code) at = if nat_lt code 32 then by_op (op_of code) at else None
@@ -193,13 +193,13 @@ stored_at code before =
     else if code == 14 then Some (classified before.b)
     else None
 
--- and that it is no such cell
+-- the address of a store is known to name something else than this cell
 abbrev pub misses_at : Option Target → ℕ → Bool
 misses_at None cell = false
 misses_at (Some (target.Ram other)) cell = not (other == cell)
 misses_at (Some named) cell = true
 
--- an opcode with this code stored elsewhere, where A and B were these before it, and so did a step of which this is told
+-- an opcode with this code stored elsewhere than in the cell, where A and B were these before it; and a step of which this is told did
 abbrev pub misses_by : ℕ → Registers → Part → Bool
 misses_by code before (Ram cell) = misses_at (stored_at code before) cell
 misses_by code before at = false
@@ -212,7 +212,7 @@ misses told before at = false
 
 -- ---- what is kept at hand of a node that is followed back: a register that addresses, or a cell of RAM (F18A Technology Reference DB001, opcodes: which of them write there).
 
--- its place in a node, and what stands there
+-- the place in a node of what is kept at hand, and the word that stands there
 abbrev pub place_of : Kept → Place
 place_of hand.A = place.A
 place_of hand.B = place.B
@@ -223,13 +223,13 @@ word_of hand.A node = node.a
 word_of hand.B node = node.b
 word_of (hand.Ram cell) node = slice_index node.ram cell
 
--- the codes of the opcodes that may write there: @+, !+, +* and a!; b!; and the stores, 0c to 0f
+-- the codes of the opcodes that may write A: @+, !+, +* and a!; B: b!; and a cell: the stores, 0c to 0f
 abbrev pub writes : Kept → ℕ → Bool
 writes hand.A code = code == 9 || code == 13 || code == 16 || code == 31
 writes hand.B code = code == 30
 writes (hand.Ram cell) code = code / 4 == 3
 
--- what is told of a step that left it as it was, whatever stood in the node
+-- what is told of a step that left the register or the cell as it was, whatever stood in the node
 abbrev pub rests_by : Kept → Kind → Bool
 rests_by kept (kind.Run code) = not (writes kept code)
 rests_by kept _ = true
@@ -252,19 +252,19 @@ pub record AreHeld (s : State) (n step : ℕ) (registers : Registers) : Type 0 w
   pub a_fits : registers.a < 2 ^ 18
   pub b_fits : registers.b < 2 ^ 18
 
--- A, B and the word in the cell behind the steps that are still to be looked at
+-- A, B and the word in a cell of a node behind the steps that are still to be looked at
 pub record IsReached (s : State) (n cell : ℕ) (reached : Reached) : Type 0 where
   pub registers : AreHeld s n reached.step reached.registers
   pub word : slice_index (node_after s n reached.step).ram cell ≡ reached.word
   pub fits : reached.word < 2 ^ 18
 
--- the same, followed back from there over no step that wrote the cell
+-- A, B and the word in a cell of a node, followed back over no step that wrote the cell
 pub record IsFollowedBack (s : State) (n cell : ℕ) (from back : Reached) : Type 0 where
   pub held : IsReached s n cell back
   pub same : newest_written s n cell back.step ≡ newest_written s n cell from.step
   pub within : back.step ≤ from.step
 
--- and a trail that has not come past them
+-- A, B and the word in a cell behind the steps that are still to be looked at, and a trail of the node that has not come past them
 pub record IsSearch (s : State) (node : NodeId) (cell : ℕ) (walk : Standing) (reached : Reached) : Type 0 where
   pub of_ram : cell < 64
   pub trail : walk ≡ standing s node walk.step
@@ -273,7 +273,7 @@ pub record IsSearch (s : State) (node : NodeId) (cell : ℕ) (walk : Standing) (
 
 -- ---- what came next in a node, by the kind of its event (F18A Technology Reference DB001, opcodes, by their codes)
 
--- a fetch or an opcode; a wait or a stop stands in the place of either
+-- what came next where the event was of this kind: a fetch or an opcode; none by a wait or a stop, which stands in the place of either
 abbrev pub IsDueBy : Kind → Due → Type 0
 IsDueBy kind.Fetch what = what ≡ due.Fetch
 IsDueBy (kind.Run code) what = what ≡ due.Run (op_of code)
@@ -281,11 +281,11 @@ IsDueBy _ what = ⊥
 
 -- ---- values that are still to be told, and what is asked for
 
--- it stands in a part of a node, at most so deep
+-- the value of a row stands in a part of a node, at most so deep
 abbrev pub IsOpen : ℕ → Row → Type 0
 IsOpen deepest row = IsPart row.value.part × (row.depth ≤ deepest)
 
--- it names a part of a node
+-- what is asked for is the value of a part of a node, or nothing
 abbrev pub IsAsked : Asked → Type 0
 IsAsked (Behind part) = IsPart part
 IsAsked (Before part) = IsPart part
@@ -293,7 +293,7 @@ IsAsked Nothing = Unit {0}
 
 -- ---- what is told of a step that ran a store (F18A Technology Reference DB001, opcodes): nothing else writes memory
 
--- the codes of the stores are 0c to 0f
+-- the step ran a store: the codes of the stores are 0c to 0f
 abbrev pub is_store : Kind → Bool
 is_store kind.Fetch = false
 is_store (kind.Run code) = code / 4 == 3
@@ -307,7 +307,7 @@ ran_store (Some (Pass writer i reader j word)) = false
 
 -- ---- a part by which a step is decided, and a node whose steps are looked at (F18A Technology Reference DB001, opcodes)
 
--- T, R or the instruction word
+-- a part by which a step is decided: T, R or the instruction word
 abbrev pub IsTested : Part → Type 0
 IsTested (Data k) = k ≡ 0
 IsTested (Return k) = k ≡ 0

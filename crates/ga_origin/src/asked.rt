@@ -20,11 +20,11 @@ use ga_slots::Op;
 /// What is asked for where a step of a node is named.
 #[derive(Clone, Copy, PartialEq, Eq, Debug)]
 pub(crate) enum Asked {
-    /// The value that it left in this part.
+    /// The value that the step left in this part.
     Behind(Part),
-    /// The value of this part before it, which it sent or by which it was decided.
+    /// The value of this part before the step, which the step sent or by which it was decided.
     Before(Part),
-    /// It made no value.
+    /// The step made no value.
     Nothing,
 }
 
@@ -53,7 +53,7 @@ fn b_target(node: &Node) -> Target
     classify(node.get(Place::B))
 }
 
-// Of a read at what the address in a part names, whose word comes there.
+// What is asked for of a read at what the address in a part names, whose word comes to the part `there`.
 fn asked_of_read(address: Part, there: Part, target: Target) -> Asked
     requires address { IsPart address }
     requires there { IsPart there }
@@ -69,7 +69,7 @@ fn asked_of_read(address: Part, there: Part, target: Target) -> Asked
     }
 }
 
-// Of a write.
+// What is asked for of a write at what the address in a part names.
 fn asked_of_write(address: Part, target: Target) -> Asked
     requires address { IsPart address }
     requires target { IsTarget target }
@@ -85,7 +85,7 @@ fn asked_of_write(address: Part, target: Target) -> Asked
     }
 }
 
-// Of an opcode.
+// What is asked for of a step that ran an opcode, before which the node was so.
 fn asked_of_op(op: Op, node: &Node) -> Asked
     ensures value { result ≡ op_asked op (record_of node.now) }
     ensures part { IsAsked result }
@@ -111,7 +111,7 @@ fn asked_of_op(op: Op, node: &Node) -> Asked
     }
 }
 
-// Of an event of a node's own, before which it was so.
+// What is asked for of an event of a node's own, before which the node was so.
 fn asked_of_own(before: &Node) -> Asked
     ensures value { result ≡ due_asked (due_of (record_of before.now)) (record_of before.now) }
     ensures part { IsAsked result }
@@ -122,7 +122,7 @@ fn asked_of_own(before: &Node) -> Asked
     }
 }
 
-// Of a word that a node took which waited so.
+// What is asked for of a step that took a word, of a node that waited so.
 fn asked_of_take(wait: Wait) -> Asked
     ensures value { result ≡ take_asked wait }
     ensures part { IsAsked result }
@@ -135,7 +135,7 @@ fn asked_of_take(wait: Wait) -> Asked
     }
 }
 
-// Of an event of which this is told, before which the node was so.
+// What is asked for of an event of which this is told, before which the node was so.
 fn asked_of_told(made: &Made, before: &Node, node: NodeId) -> Asked
     ensures value { result ≡ told_asked made.now (record_of before.now) node.number }
     ensures part { IsAsked result }
@@ -152,7 +152,7 @@ fn asked_of_told(made: &Made, before: &Node, node: NodeId) -> Asked
     }
 }
 
-// The value that is meant, of the step behind so many of a node.
+// The value that is asked for of the step behind so many of a node.
 fn value_of(node: NodeId, place: u32, asked: Asked) -> Option<Value>
     requires fits { place + 1 < 2 ^ 32 }
     requires part { IsAsked asked }
@@ -193,7 +193,8 @@ pub fn asked_of(lab: &Lab, node: NodeId, step: u32) -> Option<Value>
     asked_behind(lab, &near, node)
 }
 
-/// The same of the step to which a node is walked back; the walk isn't walked on. Takes as long whatever is kept.
+/// The value that is asked for where the step is named to which a node is walked back, as [`asked_of`] has it; the walk isn't walked on.
+/// Takes as long whatever is kept.
 pub fn asked_behind(lab: &Lab, walk: &Walk<'_>, node: NodeId) -> Option<Value>
     requires { walk.now ≡ standing lab.now node walk.now.step }
     ensures value { result ≡ asked_of lab.now node walk.now.step }

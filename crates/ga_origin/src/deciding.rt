@@ -31,7 +31,7 @@ pub struct Decision {
     /// The value: R or T before the step, or the instruction word that names where to; of an instruction word that the step took, T of
     /// the writer.
     pub tested: Value,
-    /// The word that stood there.
+    /// The word of the value that decided the step.
     pub word: Word18,
     /// The step that made the value, or that it was loaded.
     pub source: Value,
@@ -100,7 +100,7 @@ fn brought<'l>(lab: &'l Lab, trail: &Trail<'l>, node: NodeId, place: u32) -> Opt
     }
 }
 
-// The same of a pass.
+// True where the step at a place, a pass, brought its node an instruction word; none where it brought none.
 fn taken<'l>(lab: &'l Lab, trail: &Trail<'l>, node: NodeId, place: u32) -> Option<bool>
     requires trail { trail.now ≡ standing lab.now node trail.now.step }
     requires within { place ≤ steps_of node.number lab.now.kept }
@@ -287,9 +287,9 @@ impl<'l> Decisions<'l> {
         }
     }
 
-    /// Goes back over the newest such step, and tells of it; none where there is none. Takes no memory, and time by how many steps it
-    /// goes back over, and by how many lie between the step and the one that made the value. The node is walked back to the step
-    /// where it was an own event, and no further.
+    /// Goes back over the newest step that a value decided, and tells of it; none where there is none. Takes no memory, and time by how
+    /// many steps it goes back over, and by how many lie between the step and the one that made the value. The node is walked back to
+    /// the step where it was an own event, and no further.
     pub fn next(&mut self) -> Option<Decision>
         ensures value { result ≡ newest_decided self.old.machine self.old.node self.old.step }
         ensures step { IfSome result (λ decision. self.new.step + 1 ≡ decision.step) }

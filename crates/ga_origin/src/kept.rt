@@ -26,7 +26,7 @@ pub(crate) enum Kept {
 }
 
 impl Kept {
-    /// Its place in a node.
+    /// The place in a node of what is kept at hand.
     fn place(self) -> Place
         ensures { result ≡ place_of self }
     {
@@ -37,7 +37,7 @@ impl Kept {
         }
     }
 
-    /// Whether the opcode with this code may write there: `@+`, `!+`, `+*` and `a!`; `b!`; or a store.
+    /// Whether the opcode with this code may write the register or the cell: A by `@+`, `!+`, `+*` and `a!`, B by `b!`, a cell by a store.
     #[inline(always)]
     fn is_written_by(self, code: u8) -> bool
         ensures { result ≡ writes self code }
@@ -49,7 +49,7 @@ impl Kept {
         }
     }
 
-    /// Whether a step of which this is told left it as it was, whatever stood in the node.
+    /// Whether a step of which this is told left the register or the cell as it was, whatever stood in the node.
     #[inline(always)]
     pub fn rests(self, told: &Option<Made>) -> bool
         ensures { result ≡ rests self told.now }
@@ -92,7 +92,7 @@ pub(crate) fn word_before(lab: &Lab, node: NodeId, at: u32, kept: Kept, word: u3
     }
 }
 
-/// The same of a word that the step may have left as it was, as what is told of it says.
+/// The word that a node held right before the step at a place: as behind it where what is told of it says so, else by what is kept of it.
 #[inline(always)]
 #[tactic(auto, using(crate::proofs::Resting::word_rests))]
 pub(crate) fn word_behind(
@@ -141,7 +141,7 @@ fn b_of(node: &Node) -> u32
     node.get(Place::B)
 }
 
-/// Those of a node where it is walked back to.
+/// A and B of a node where it is walked back to.
 pub(crate) fn registers_in(lab: &Lab, node: NodeId, walk: &Walk<'_>) -> Registers
     requires { walk.now ≡ standing lab.now node walk.now.step }
     ensures { AreHeld lab.now node.number walk.now.step result }
@@ -156,7 +156,7 @@ pub(crate) fn registers_in(lab: &Lab, node: NodeId, walk: &Walk<'_>) -> Register
     }
 }
 
-/// Those right before the step at a place, by what is kept of the step.
+/// A and B of a node right before the step at a place, by what is kept of the step.
 #[inline(never)]
 fn registers_kept(lab: &Lab, node: NodeId, at: u32, behind: Registers) -> Registers
     requires { AreHeld lab.now node.number (at + 1) behind }
@@ -168,7 +168,7 @@ fn registers_kept(lab: &Lab, node: NodeId, at: u32, behind: Registers) -> Regist
     }
 }
 
-/// The same, where this is told of the step.
+/// A and B of a node right before the step at a place, by what is told of the step, or else by what is kept of it.
 #[inline(always)]
 pub(crate) fn registers_before(
     lab: &Lab,
@@ -188,7 +188,7 @@ pub(crate) fn registers_before(
     }
 }
 
-/// Those behind fewer steps.
+/// A and B of a node behind so many steps, from those behind as many or more.
 pub(crate) fn registers_at(
     lab: &Lab,
     node: NodeId,

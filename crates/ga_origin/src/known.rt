@@ -59,7 +59,7 @@ fn choice_of(lab: &Lab, trail: &mut Trail<'_>, node: NodeId, place: u32, op: Op)
     }
 }
 
-// What decides the step at a place, which was this.
+// What decides the step at a place, before which this came next in its node.
 fn choice_at(lab: &Lab, trail: &mut Trail<'_>, node: NodeId, place: u32, due: Due) -> Option<Choice>
     requires trail { IsTrailTo lab.now node trail.old place }
     ensures value { IfSome result (λ known. known ≡ choice due (node_after lab.now node.number place)) }

@@ -30,7 +30,7 @@ pub fn whole_listings_miss_nothing()
         All (λ (row : Row). All (IsToldIn s rows) (sources_of s row.value)) rows }
 {}
 
-/// The same of what is asked for where a step is named: each step that is told is one on which this step depends.
+/// Of what is asked for where a step is named, each step that is told is one on which this step depends. What else is told was loaded.
 pub fn asked_steps_are_causes()
     ensures { (s : State) (node : NodeId) (step place : ℕ) (value : Value) (rows : List Row) (whole : Bool) →
         place_of (causes_of s) node.number step ≡ Some place → asked_of s node step ≡ Some value →

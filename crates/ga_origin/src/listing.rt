@@ -29,9 +29,9 @@ pub struct Row {
 /// The steps whose values went into a value, as a tree, of which each step is told once.
 #[derive(Debug, Drop)]
 pub struct Listing {
-    /// Each with those below it behind it, in the order in which its step reads them.
+    /// The rows, each with those below it behind it, in the order in which its step reads them.
     pub rows: Vec<Row>,
-    /// Whether these are all.
+    /// Whether no row is missing.
     pub is_whole: bool,
 }
 
@@ -198,7 +198,7 @@ pub fn whence_near<'l>(
     })
 }
 
-/// The same, found from the value's own step, to which its node is walked back.
+/// The steps whose values went into a value, as [`whence_near`] finds them from the value's own step, to which its node is walked back.
 ///
 /// # Errors
 /// `NoStep`, where the node has no such step; then `Memory`.

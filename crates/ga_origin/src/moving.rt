@@ -45,7 +45,7 @@ fn on_data(op: Op) -> Shift
     }
 }
 
-// What it does to the return stack.
+// What an opcode does to the return stack.
 #[inline(always)]
 fn on_return(op: Op) -> Shift
     ensures { result ≡ on_return op }
@@ -167,7 +167,7 @@ fn moved_to_return(op: Op, place: u8) -> Option<Part>
     }
 }
 
-// The part whose word it leaves in A.
+// The part whose word an opcode leaves in A.
 #[inline(always)]
 fn moved_to_a(op: Op) -> Option<Part>
     ensures value { result ≡ moved_to_a op }
@@ -212,7 +212,7 @@ fn by_op(op: Op, part: Part) -> Option<Part>
     }
 }
 
-// The same of a fetch.
+// The part whose value a fetch leaves in a part. Of P, I and the slot it isn't said: a fetch makes them anew.
 #[inline(always)]
 fn by_fetch(part: Part) -> Option<Part>
     requires { IsPart part }
@@ -225,7 +225,7 @@ fn by_fetch(part: Part) -> Option<Part>
     }
 }
 
-// The same of a wait or a stop, which stands in the place of the whole event.
+// The part whose value a wait or a stop, which stands in the place of the whole event, leaves in a part.
 #[inline(always)]
 fn by_pause(part: Part) -> Option<Part>
     requires { IsPart part }
@@ -265,7 +265,7 @@ fn misses_by(code: u8, before: Registers, part: Part) -> bool
     }
 }
 
-/// The same of a step of which this is told.
+/// Whether a step of which this is told ran a store by A or B that leaves a cell as it was, where A and B were these before it.
 #[inline(always)]
 pub(crate) fn misses(told: &Option<Made>, before: Registers, part: Part) -> bool
     ensures { result ≡ misses told.now before part }
@@ -304,7 +304,7 @@ pub(crate) fn moved_by(told: &Option<Made>, part: Part) -> Option<Part>
     }
 }
 
-/// The same within the data stack: the place from which a step moved a word to this one.
+/// The place of the data stack from which a step moved a word to this one, where what is told of the step says so.
 #[inline(always)]
 pub(crate) fn data_place(told: &Option<Made>, place: u8) -> Option<u8>
     requires { place < 10 }

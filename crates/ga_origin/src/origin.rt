@@ -102,7 +102,7 @@ fn told_flow(made: &Made, before: &Node, node: NodeId, part: Part) -> Flow
     }
 }
 
-// The same of the step behind those that a node had made where it is walked back to; past its steps all stays.
+// Where the value of a part comes from that a node's next step leaves, from where it is walked back to; past its steps all stays.
 pub(crate) fn flow_behind(lab: &Lab, walk: &Walk<'_>, node: NodeId, part: Part) -> Flow
     requires part { IsPart part }
     requires walk { walk.now ≡ standing lab.now node walk.now.step }
@@ -172,7 +172,7 @@ pub(crate) fn trail_near<'l>(
     }
 }
 
-// The same where the trail of the origin that was found last may serve too.
+// A trail of a node that has not come past a step: that of the origin found last where it serves, else one as by [`trail_near`].
 fn trail_on<'l>(
     lab: &'l Lab,
     near: &Walk<'l>,

@@ -140,7 +140,7 @@ fn follow_on(lab: &Lab, value: Value, behind: Registers) -> Followed
 #[derive(Drop)]
 pub(crate) struct Trail<'l> {
     walk: Walk<'l>,
-    // So many steps.
+    // Behind how many steps A and B are known.
     step: u32,
     registers: Registers,
 }
@@ -163,7 +163,7 @@ impl<'l> Trail<'l> {
     ghost use Rattle.ga_event.specs.Flow.{IsPart};
     ghost use Rattle.ga_origin.specs.inner.{IsWhole, AreHeld, IsFollowed, IsTrailTo};
 
-    /// From where a node is walked back to.
+    /// A trail from where a node is walked back to.
     pub fn new(lab: &'l Lab, node: NodeId, walk: Walk<'l>) -> Self
         requires { walk ≡ standing lab.now node walk.step }
         ensures walk { result ≡ walk.entry }

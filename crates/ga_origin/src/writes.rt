@@ -25,7 +25,7 @@ pub struct CellWrite {
     pub step: u32,
     /// What is told of the step.
     pub made: Made,
-    /// The word.
+    /// The word that stood in the cell behind the step.
     pub word: Word18,
 }
 

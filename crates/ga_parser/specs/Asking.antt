@@ -54,7 +54,7 @@ pub record Asking : Type 0 where
   -- bit 9 of addresses from here on
   pub carries : Bool
 
--- before the first word
+-- what is asked for before the first word
 abbrev pub nothing_asked : Asking
 nothing_asked = record {
   expect = Word;
@@ -153,7 +153,7 @@ abbrev pub ahead : Asking → ℕ → Op → Asking
 ahead now line op =
     record (jump (record now { labels = one_label_more now.labels line [] false }) line op (length now.labels)) { opened = JumpAhead line (length now.labels) ∷ now.opened }
 
--- with this open
+-- what is asked for, with these control words open
 abbrev pub with_open : Asking → List Open → Asking
 with_open now opened = record now { opened = opened }
 
@@ -166,7 +166,7 @@ loop_ended now [] line = refuse_line line Unmatched
 abbrev pub end_loop : Asking → ℕ → Result (ℕ × Asking) Refusal
 end_loop now line = loop_ended now now.opened line
 
--- the same of a jump ahead
+-- the innermost open word is a jump ahead, which ends: its label
 abbrev pub ahead_ended : Asking → List Open → ℕ → Result (ℕ × Asking) Refusal
 ahead_ended now (JumpAhead _ label ∷ around) line = Ok (label, with_open now around)
 ahead_ended now (Loop _ _ ∷ around) line = refuse_line line Unmatched
@@ -306,7 +306,7 @@ of_kind WordKind line asks = asks
 of_kind LongLineKind line asks = refuse_line line LongLine
 of_kind OpenCommentKind line asks = refuse_line line OpenComment
 
--- one word more
+-- what words ask for with one word more
 abbrev pub hear : Asking → Said → List ℕ → Result Asking Refusal
 hear now said next = of_kind said.kind said.line (expected (record now { expect = Word }) now.expect said.line said.text next)
 
@@ -343,7 +343,7 @@ finished now last =
 
 -- ---- the words of a node
 
--- the text behind
+-- the text of the next word, empty where there is none
 abbrev pub next_text : List Said → List ℕ
 next_text [] = []
 next_text (said ∷ rest) = said.text

@@ -38,7 +38,7 @@ source_words line = filter has_bytes (parted is_blank line)
 abbrev pub order_mark : List ℕ
 order_mark = 0xef ∷ 0xbb ∷ 0xbf ∷ []
 
--- a line without the mark, where it is the first and begins with one
+-- a line without the byte order mark, where it is the first and begins with one
 abbrev pub unmarked : ℕ → List ℕ → List ℕ
 unmarked line text = if line == 1 && bytes_eq (take 3 text) order_mark then drop 3 text else text
 
@@ -46,13 +46,13 @@ unmarked line text = if line == 1 && bytes_eq (take 3 text) order_mark then drop
 abbrev pub without_return : List ℕ → List ℕ
 without_return text = if slice_index text (length text - 1) == 13 then take (length text - 1) text else text
 
--- a line without either
+-- a line without the byte order mark, and without the carriage return at its end
 abbrev pub bare : ℕ → List ℕ → List ℕ
 bare line text = without_return (unmarked line text)
 
 -- ---- what a line says
 
--- the most bytes of a line, without these and its line feed
+-- the most bytes of a line, without a byte order mark, a carriage return and a line feed
 abbrev pub longest_source_line : ℕ
 longest_source_line = 200
 
@@ -96,7 +96,7 @@ said_by line text = if nat_lt longest_source_line (length text) then a_fault lin
 
 -- ---- what a text says
 
--- up to the first fault
+-- what is said, up to the first fault
 unfoldable pub up_to_fault : List Said → List Said
 up_to_fault [] = []
 up_to_fault (said ∷ rest) = said ∷ (if is_word said then up_to_fault rest else [])
@@ -105,7 +105,7 @@ up_to_fault (said ∷ rest) = said ∷ (if is_word said then up_to_fault rest el
 abbrev pub next_line : ℕ → ℕ
 next_line line = min (line + 1) (2 ^ 32 - 1)
 
--- the lines up to one that is `end`, numbered from here on
+-- what the lines say up to one that is `end`, numbered from here on
 unfoldable pub said_from : ℕ → List (List ℕ) → List Said
 said_from line [] = []
 said_from line (text ∷ texts) =
@@ -144,20 +144,20 @@ columns_spoken column false (part ∷ parts) =
     else part_column column part ++ columns_spoken (column + length part + 1) false parts
 columns_spoken column true (part ∷ parts) = columns_spoken (column + length part + 1) (not (closes part)) parts
 
--- of what a line says
+-- the columns of what a line says
 abbrev pub columns_by : List ℕ → List ℕ
 columns_by text = if nat_lt longest_source_line (length text) then 1 ∷ [] else columns_spoken 1 false (parted is_blank text)
 
--- of what the lines say up to one that is `end`, numbered from here on
+-- the columns of what the lines say up to one that is `end`, numbered from here on
 unfoldable pub columns_from : ℕ → List (List ℕ) → List ℕ
 columns_from line [] = []
 columns_from line (text ∷ texts) =
     if bytes_eq (bare line text) (codes "end") then [] else columns_by (bare line text) ++ columns_from (next_line line) texts
 
--- of all that a source says
+-- the columns of all that a source says
 abbrev pub columns_in : List ℕ → List ℕ
 columns_in source = columns_from 1 (source_lines source)
 
--- of words that were read
+-- the columns of words that were read
 abbrev pub columns_of : List Token → List ℕ
 columns_of tokens = map (λ (token : Token). token.column) tokens

@@ -30,7 +30,7 @@ is_numeral base text = has_bytes text && list_all (λ byte. is_digit byte base) 
 abbrev pub digits_in : ℕ → List ℕ → Option ℕ
 digits_in base text = if is_numeral base text then Some (digits_value base text) else None
 
--- the text begins so
+-- the text begins with this front
 abbrev pub has_prefix : List ℕ → List ℕ → Bool
 has_prefix text front = bytes_eq (take (length front) text) front
 
@@ -168,7 +168,7 @@ bound_of B = 0x200
 
 -- ---- names
 
--- the number is one, in range or not
+-- what a word says is a number, in range or not
 abbrev pub is_a_number : Number → Bool
 is_a_number (Of _) = true
 is_a_number OutOfRange = true

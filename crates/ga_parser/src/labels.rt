@@ -13,7 +13,7 @@ use std::marker::Model;
 /// A label of the node, by its name, or one without a name that a control word made.
 #[derive(Clone, Copy)]
 pub struct Label<'s> {
-    /// Empty where it has none.
+    /// The label's name, empty where it has none.
     pub name: &'s [u8],
     /// The line that names it first.
     pub line: u32,

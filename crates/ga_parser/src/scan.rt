@@ -14,9 +14,9 @@ use std::alloc::{AllocError, Global};
 #[derive(Clone, Copy)]
 pub struct Token<'s> {
     pub line: u32,
-    /// That of the word's first byte, in bytes from 1 on, behind a byte order mark; 1 where the line is at fault.
+    /// The column of the word's first byte, in bytes from 1 on, behind a byte order mark; 1 where the line is at fault.
     pub column: u32,
-    /// Empty where the line is at fault.
+    /// The text of the word, empty where the line is at fault.
     pub text: &'s [u8],
     pub kind: TokenKind,
 }

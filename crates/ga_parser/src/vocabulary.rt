@@ -95,7 +95,7 @@ pub(crate) fn is_taken(text: &[u8]) -> bool
         || is_sign(text)
 }
 
-/// Whether the word is one, in range or not.
+/// Whether what a word says is a number, in range or not.
 fn is_number(number: Number) -> bool
     ensures { result ≡ is_number_in number }
 {

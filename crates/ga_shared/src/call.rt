@@ -31,7 +31,7 @@ pub struct Entry {
     pub worker: u32,
     /// The call.
     pub call: Call,
-    /// What it answered.
+    /// What the call answered.
     pub answer: Answer,
 }
 
@@ -42,7 +42,7 @@ pub struct Receipt {
     pub place: u64,
     /// The call.
     pub call: Call,
-    /// What it answered.
+    /// What the call answered.
     pub answer: Answer,
 }
 

@@ -162,7 +162,7 @@ pub fn receipts_match(log: &[Entry], worker: u32, receipts: &[Receipt]) -> bool
     left.is_empty()
 }
 
-/// The others, where this receipt is the first.
+/// The receipts behind the first, where that is this one.
 fn after_first<'a>(receipts: &'a [Receipt], receipt: &Receipt) -> Option<&'a [Receipt]>
     ensures some { IfSome result (λ others. receipts.now ≡ receipt.now ∷ others.now) }
     ensures none { IfNone result ((others : List Receipt) → receipts.now ≢ receipt.now ∷ others) }

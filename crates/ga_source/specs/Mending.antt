@@ -56,7 +56,7 @@ is_leading text = is_node text || takes_word (directive_in text)
 abbrev pub first_gone : List Token → ℕ → ℕ
 first_gone words at = if nat_lt 0 at && is_leading (token_text words (at - 1)) then at - 1 else at
 
--- behind the word at fault, and behind a `,` that makes it a cell
+-- the place behind the word at fault, and behind a `,` that makes it a cell
 abbrev pub behind_gone : List Token → ℕ → ℕ
 behind_gone words at = if bytes_eq (token_text words (at + 1)) (codes ",") then at + 2 else at + 1
 
@@ -68,7 +68,7 @@ begins_node word = is_node word.text.now
 abbrev pub tokens_past : List Token → ℕ → List Token
 tokens_past words count = drop (min count (length words)) words
 
--- from the next `node` on
+-- the words from the next `node` on
 abbrev pub from_node : List Token → List Token
 from_node words = drop (place_in (position begins_node words) (length words)) words
 
@@ -76,7 +76,7 @@ from_node words = drop (place_in (position begins_node words) (length words)) wo
 abbrev pub is_head : List Token → ℕ → Bool
 is_head words first = first == 0 || is_node (token_text words first)
 
--- what stands behind: of a node's beginning all up to the next `node` goes
+-- the words behind those that go: of a node's beginning all up to the next `node` goes
 abbrev pub back : List Token → ℕ → ℕ → List Token
 back words first at = if is_head words first then from_node (tokens_past words (if first == at then at + 1 else at)) else tokens_past words (behind_gone words at)
 

@@ -134,7 +134,7 @@ pub record IsWalked (packer : Packer) (asked : List Asked) : Type 0 where
   pub groups_fit : (labels : List (Option ℕ)) → Extends packer.labels.items labels → All (IsFitGroup labels) packer.groups.items
   pub open_fits : (labels : List (Option ℕ)) → Extends packer.labels.items labels → IsFit labels packer.spot.at packer.filling.items
 
--- The same where the last request asks for an item that is still to be put, at the packer's spot.
+-- The requests so far are laid out, where the last asks for an item that is still to be put, at the packer's spot.
 pub record IsPending (packer : Packer) (asked : List Asked) (item : Item) : Type 0 where
   pub here : behind_all (begin_at packer.spot.at) packer.filling.items ≡ packer.spot
   pub fit : (labels : List (Option ℕ)) → Extends packer.labels.items labels → fits labels packer.spot item ≡ true
@@ -202,7 +202,7 @@ pub record TakesOn (old new : Packer) (asked : Asked) : Type 0 where
   pub walked : (before : List Asked) → IsWalked old before → IsWalked new (before ++ asked ∷ [])
   pub grouped : (before : List Asked) → IsWalked old before → IsGrouped old before → IsGrouped new (before ++ asked ∷ [])
 
--- The same where the last request asks for an item that is still to be put, at the packer's spot.
+-- The groups, the open cell and an item that is still to be put at the packer's spot are what the requests so far ask for.
 pub record IsPutting (packer : Packer) (asked : List Asked) (item : Item) (line : ℕ) : Type 0 where
   pub places : (labels : List (Option ℕ)) → Extends packer.labels.items labels → placed_from labels (begin_at 0) asked ≡ packer_places packer ++ placed_at packer.spot item line ∷ []
   pub groups : All HasLines packer.groups.items
@@ -315,7 +315,7 @@ IsPlainRequest (Put (Cell (Number n))) = n < 2 ^ 18
 IsPlainRequest (Go address) = Unit {0}
 IsPlainRequest _ = ⊥
 
--- each request is such
+-- each request is a cell of data with a number, or an address to go on at
 unfoldable pub ArePlain : List Request → Type 0
 ArePlain [] = Unit {0}
 ArePlain (request ∷ requests) = IsPlainRequest request × ArePlain requests
@@ -377,7 +377,7 @@ AreOfFirst bodies [] left = bodies ≡ left
 AreOfFirst [] (program ∷ programs) left = ⊥
 AreOfFirst (words ∷ bodies) (program ∷ programs) left = IsOf words program × AreOfFirst bodies programs left
 
--- the same of words with their lines
+-- the programs are those of the first of these words with their lines, and the other words are left
 unfoldable pub AreAskedFirst : List (List Said) → List Program → List (List Said) → Type 0
 AreAskedFirst bodies [] left = bodies ≡ left
 AreAskedFirst [] (program ∷ programs) left = ⊥
@@ -391,7 +391,7 @@ pub record AreSound (begun : List Bool) (bodies : List (List (List ℕ))) : Type
   pub apart : (j k : ℕ) → j < k → k < length bodies → node_number_of_words bodies j ≢ node_number_of_words bodies k
   pub fresh : (k n : ℕ) → k < length bodies → node_number_of_words bodies k ≡ Some n → slice_index_or begun n false ≡ false
 
--- the same of words that are left
+-- the words that are left are those of nodes that haven't begun, each once
 pub record IsSoundFrom (begun : List Bool) (words : List Token) : Type 0 where
   pub kinds : All (λ token. token.kind ≡ Word) words
   pub begins : body_in (texts_of words) ≡ []

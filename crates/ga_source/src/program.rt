@@ -274,10 +274,10 @@ pub fn assemble_words<'s>(alloc: Global, words: &[Token<'s>]) -> Result<Assemble
     // Each program is that of the words behind a `node`, in order, and asks for just what these ask for.
     ensures asked { IfOk result (λ all. AreAskedBy (said_bodies (all_said words.now)) all.programs.items) }
 
-    // Its groups are the cells that these requests make, in order.
+    // The groups of each program are the cells that its requests make, in order.
     ensures groups { IfOk result (λ all. All HasGroups all.programs.items) }
 
-    // So it asks for what they ask for as plain words, where they are.
+    // Each program asks for what its words ask for as plain words, where they are.
     ensures read { IfOk result (λ all. AreOf (bodies_in (texts_in (all_said words.now))) all.programs.items) }
 
     // The words of a source of plain words that give each cell once are refused for want of memory alone.
@@ -308,22 +308,22 @@ pub fn assemble(alloc: Global, source: &[u8]) -> Result<Assembled<'_>, Fault<'_>
     // the labels and the registers.
     ensures asked { IfOk result (λ all. AreAsked source.now all.programs.items) }
 
-    // Its groups are the cells that these requests make, in order: each has just their items, each item with its request's line.
+    // The groups of each program are the cells that its requests make, in order: each has just their items, each with its request's line.
     ensures groups { IfOk result (λ all. All HasGroups all.programs.items) }
 
-    // So it asks for what they ask for as plain words, where they are.
+    // Each program asks for what its words ask for as plain words, where they are.
     ensures read { IfOk result (λ all. AreRead source.now all.programs.items) }
 
-    // So the words behind a `node` make its node, where they are plain, and a node that isn't named is as at load.
+    // The words behind a `node` make its node, where they are plain, and a node that isn't named is as at load.
     ensures made { IfOk result (λ all. IsChipOfSource source.now all.chip) }
 
     // A source of plain words that give each cell once is refused for want of memory alone.
     ensures refused { IfErr result (λ fault. IsSoundSource source.now → fault.cause ≡ Memory) }
 
-    // So each cell that nobody names is 0.
+    // Each cell that nobody names is 0.
     ensures empty { IfOk result (λ all. IsEmptyElsewhere all.chip all.programs.items) }
 
-    // And no node waits, so that the chip has an image.
+    // No node waits, so that the chip has an image.
     ensures steady { IfOk result (λ all. AreSteady (records_of all.chip)) }
 {
     let tokens = words_up_to_fault(alloc, source)?;

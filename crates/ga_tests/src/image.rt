@@ -66,7 +66,7 @@ const SMALL: (&[u8], &[Places]) = (
     ],
 );
 
-/// Those of `ga144 2`, `node 717`, `slot 1`, `wait read r---`, `end`.
+/// The places of `ga144 2`, `node 717`, `slot 1`, `wait read r---`, `end`.
 const STATES: (&[u8], &[Places]) = (
     b"ga144 2\nnode 717\nslot 1\nwait read r---\nend\n",
     &[

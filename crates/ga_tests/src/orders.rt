@@ -20,11 +20,11 @@ const LIMIT: u32 = 10_000;
 const SERVER_2X1: &[u8] =
     b"ga144 1\nnode 101\np 000000\nram 00 004b12 0001f5 000020 02bdba 000001 00187d 004852 000115\nnode 102\np 000000\nram 00 004b12 000175 000000 02e9b2 026dbf 000100 02c122 01e004\nram 08 004852 000115\nnode 100\np 000000\nram 00 004b12 0001d5 000000 02e9b2 026dbf 000200 02c122 01e004\nram 08 004852 000115\nend\n";
 
-/// Two words each.
+/// Two clients send two words each to a server, which stores what comes.
 const SERVER_2X2: &[u8] =
     b"ga144 1\nnode 101\np 000000\nram 00 004b12 0001f5 000020 02bdba 000003 00187d 004852 000115\nnode 102\np 000000\nram 00 004b12 000175 000001 02e9b2 026dbf 000100 02c122 01e004\nram 08 004852 000115\nnode 100\np 000000\nram 00 004b12 0001d5 000001 02e9b2 026dbf 000200 02c122 01e004\nram 08 004852 000115\nend\n";
 
-/// Three words each.
+/// Two clients send three words each to a server, which stores what comes.
 const SERVER_2X3: &[u8] =
     b"ga144 1\nnode 101\np 000000\nram 00 004b12 0001f5 000020 02bdba 000005 00187d 004852 000115\nnode 102\np 000000\nram 00 004b12 000175 000002 02e9b2 026dbf 000100 02c122 01e004\nram 08 004852 000115\nnode 100\np 000000\nram 00 004b12 0001d5 000002 02e9b2 026dbf 000200 02c122 01e004\nram 08 004852 000115\nend\n";
 
@@ -32,7 +32,7 @@ const SERVER_2X3: &[u8] =
 const SERVER_3X1: &[u8] =
     b"ga144 1\nnode 101\np 000000\nram 00 004b12 0001e5 000020 02bdba 000002 00187d 004852 000115\nnode 102\np 000000\nram 00 004b12 000175 000000 02e9b2 026dbf 000100 02c122 01e004\nram 08 004852 000115\nnode 100\np 000000\nram 00 004b12 0001d5 000000 02e9b2 026dbf 000200 02c122 01e004\nram 08 004852 000115\nnode 201\np 000000\nram 00 004b12 000145 000000 02e9b2 026dbf 000300 02c122 01e004\nram 08 004852 000115\nend\n";
 
-/// Two words each.
+/// Three clients send two words each to a server, which stores what comes.
 const SERVER_3X2: &[u8] =
     b"ga144 1\nnode 101\np 000000\nram 00 004b12 0001e5 000020 02bdba 000005 00187d 004852 000115\nnode 102\np 000000\nram 00 004b12 000175 000001 02e9b2 026dbf 000100 02c122 01e004\nram 08 004852 000115\nnode 100\np 000000\nram 00 004b12 0001d5 000001 02e9b2 026dbf 000200 02c122 01e004\nram 08 004852 000115\nnode 201\np 000000\nram 00 004b12 000145 000001 02e9b2 026dbf 000300 02c122 01e004\nram 08 004852 000115\nend\n";
 
@@ -60,19 +60,19 @@ const POLL_1X1: &[u8] =
 const TIMEOUT_3: &[u8] =
     b"ga144 1\nnode 101\np 000000\nram 00 0048b2 000002 004b07 00015d 008000 03f30b 03acef 0001d5\nram 08 029f12 000115 02f5b2 03b002 005dbd 03ffff 000115\nnode 100\np 000000\nram 00 004b12 0001d5 000007 02e9b2 00427c 000003 005b12 000005\nram 08 000115 02f5b2\nend\n";
 
-/// Two words.
+/// An arbiter that looks who waits, for one client that sends two words.
 const POLL_1X2: &[u8] =
     b"ga144 1\nnode 101\np 000000\nram 00 005da2 000002 00003b 009daa 000020 004b03 00015d 0040b2\nram 08 000800 01800d 03a212 000175 01000f 03a2b2 010005 029f3f\nram 10 00003b 029f12 03ffff 03cd22 018016 03b705 03bdbd 000115\nnode 102\np 000000\nram 00 004b12 000175 000001 02e9b2 026dbf 000100 02c122 01e004\nram 08 004852 000115\nend\n";
 
-/// Two clients.
+/// An arbiter that looks who waits, for two clients that send a word each.
 const POLL_2X1: &[u8] =
     b"ga144 1\nnode 101\np 000000\nram 00 005da2 000002 00003b 009daa 000020 004b03 00015d 0040b2\nram 08 000800 01800d 03a212 000175 010015 03ad12 008000 03f313\nram 10 03a212 0001d5 010015 03a2b2 010005 029f3f 00003b 029f12\nram 18 03ffff 03cd22 01801c 03b705 03bdbd 000115\nnode 102\np 000000\nram 00 004b12 000175 000000 02e9b2 026dbf 000100 02c122 01e004\nram 08 004852 000115\nnode 100\np 000000\nram 00 004b12 0001d5 000000 02e9b2 026dbf 000200 02c122 01e004\nram 08 004852 000115\nend\n";
 
-/// Ten times.
+/// A node that looks ten times, and gives up.
 const TIMEOUT_10: &[u8] =
     b"ga144 1\nnode 101\np 000000\nram 00 0048b2 000009 004b07 00015d 008000 03f30b 03acef 0001d5\nram 08 029f12 000115 02f5b2 03b002 005dbd 03ffff 000115\nnode 100\np 000000\nram 00 004b12 0001d5 000007 02e9b2 00427c 000003 005b12 000005\nram 08 000115 02f5b2\nend\n";
 
-/// Three clients.
+/// An arbiter that looks who waits, for three clients that send a word each.
 const POLL_3X1: &[u8] =
     b"ga144 1\nnode 101\np 000000\nram 00 005da2 000003 00003b 009daa 000020 004b03 00015d 0040b2\nram 08 000800 01800d 03a212 000175 01001b 03ad12 008000 03f313\nram 10 03a212 0001d5 01001b 03ad12 000200 03f319 03a212 000145\nram 18 01001b 03a2b2 010005 029f3f 00003b 029f12 03ffff 03cd22\nram 20 018022 03b705 03bdbd 000115\nnode 102\np 000000\nram 00 004b12 000175 000000 02e9b2 026dbf 000100 02c122 01e004\nram 08 004852 000115\nnode 100\np 000000\nram 00 004b12 0001d5 000000 02e9b2 026dbf 000200 02c122 01e004\nram 08 004852 000115\nnode 201\np 000000\nram 00 004b12 000145 000000 02e9b2 026dbf 000300 02c122 01e004\nram 08 004852 000115\nend\n";
 
@@ -274,7 +274,7 @@ fn settled(alloc: Global, image: &[u8]) -> Result<Lab, Fail> {
     Ok(lab)
 }
 
-// What is met from there of a program whose nodes look.
+// What is met of a program whose nodes look, from where its idle nodes have come to rest.
 fn looked(alloc: Global, image: &[u8], runs: u64) -> Result<Tally, Fail> {
     let mut lab = settled(alloc, image)?;
     let tally = check_looks(alloc, &mut lab, bounds(runs), 0, &AtomicU64::new(0))?;

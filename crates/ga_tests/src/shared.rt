@@ -249,7 +249,7 @@ fn after_four<L: Ledger, R: Wait>(
     Ok((shared, seats))
 }
 
-/// The log of these four steps.
+/// The log of two workers, of whom each made two steps of its node: 0, 1, 0, 1.
 fn log_of_four<L: Ledger, R: Wait>(rt: &R, alloc: Global, blank: Blank) -> Result<Closed, Fail>
     requires ledger { (blank.name ≡ L.name) × (blank.parts ≡ L.parts) }
     requires parts { blank.parts ≡ 2 }

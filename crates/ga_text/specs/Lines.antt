@@ -39,7 +39,7 @@ HasNoFeed part = All (λ b. ends_line b ≡ false) part
 abbrev pub ended : Line → Text
 ended line = line ++ 10 ∷ []
 
--- the text of such lines
+-- the text of lines, each with its line feed
 abbrev pub text_of : List Line → Text
 text_of lines = flat_map ended lines
 

@@ -50,7 +50,7 @@ pub record IsCut (contents : Option Bytes) (before said : Text) : Type 0 where
   pub held : contents ≡ Some (before ++ sent)
   pub front : Begins said sent
 
--- by whether the writes succeeded
+-- by whether the writes succeeded: a text is said, of which the rest is pending, or it is cut short
 abbrev pub IsSaidOrCut : {T : Type 0} → Result T WriteFailed → Option Bytes → Bytes → Text → Text → Type 0
 IsSaidOrCut (Ok done) contents before said pending = IsSaid contents before said pending
 IsSaidOrCut (Err failed) contents before said pending = IsCut contents before said
@@ -75,7 +75,7 @@ SaysExactly result text contents old new =
     → IsSaid (contents old.stream.now) before said old.pending.items
     → IsSaidOrCut result (contents new.stream.now) before (said ++ text) new.pending.items)
 
--- Such a text is said, or cut short by a failed write.
+-- A text of this kind is said, or cut short by a failed write.
 abbrev pub Says : {T W : Type 0} → Result T WriteFailed → (Text → Type 0) → (W → Option Bytes) → Writer W → Writer W → Type 0
 Says result IsText contents old new =
     IsSameStream old new
@@ -87,7 +87,7 @@ Says result IsText contents old new =
 
 -- ---- what a call does with streams that tell their bytes
 
--- Behind what a stream held before, it holds such a text.
+-- Behind what a stream held before, it holds a text of this kind.
 abbrev pub WritesText : (Text → Type 0) → Option Bytes → Option Bytes → Type 0
 WritesText IsText old new = (before : Bytes) → old ≡ Some before → (text : Text) × (new ≡ Some (before ++ text)) × IsText text
 

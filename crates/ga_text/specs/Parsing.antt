@@ -36,7 +36,7 @@ with_digit n byte =
       digit ← decimal_digit byte
       fitting (10 * n + digit))
 
--- with all of these digits more
+-- a number with all of these decimal digits more
 abbrev pub with_digits : ℕ → Text → Option ℕ
 with_digits n [] = Some n
 with_digits n (byte ∷ text) = do

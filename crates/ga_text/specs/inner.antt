@@ -33,7 +33,7 @@ Fills taken input bytes rest End = (input ≡ []) × (rest ≡ [])
 Fills taken input bytes rest Past = (taken ≡ input_limit) × ((b : ℕ) × (input ≡ b ∷ rest))
 Fills taken input bytes rest Failed = rest ≡ input
 
--- there are bytes now, or none
+-- after a read of more there are bytes, or none
 abbrev pub HasFilled : Bytes → Fill → Type 0
 HasFilled bytes More = 0 < length bytes
 HasFilled bytes End = bytes ≡ []

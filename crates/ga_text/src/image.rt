@@ -11,7 +11,7 @@ use std::io::Read;
 /// Where the reading of an image stopped.
 #[derive(Clone, Copy, PartialEq, Eq)]
 pub enum ImageEnd {
-    /// After its line `end`.
+    /// After the image's line `end`.
     EndLine,
     /// The input ended.
     Ended,

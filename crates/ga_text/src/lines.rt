@@ -15,7 +15,7 @@ pub type LineBuffer = ArrayVec<u8, 201>;
 /// How a line ended.
 #[derive(Clone, Copy, PartialEq, Eq)]
 pub enum LineEnd {
-    /// By a line feed.
+    /// The line ended by a line feed.
     Feed,
     /// The input ended. The line may be empty: then there is none.
     Last,

@@ -29,7 +29,7 @@ pub const PENDING_ROOM: usize = 65536;
 pub struct Writer<'w, W: Write> {
     /// What was said and is not written yet.
     pub pending: ArrayVec<u8, PENDING_ROOM>,
-    /// Where it is written.
+    /// The stream to which what was said is written.
     pub stream: &'w mut W,
 }
 

@@ -54,7 +54,7 @@ pub fn push_number<const ROOM: usize>(out: &mut ArrayVec<u8, ROOM>, number: u64)
     }
 }
 
-/// The same for a number of any length.
+/// Adds a number of any length in decimal digits.
 #[tactic(auto, using(crate::proofs::DigitLemmas::short_decimal))]
 fn push_long<const ROOM: usize>(out: &mut ArrayVec<u8, ROOM>, number: u64)
     requires { array_vec_len out.old + NUMBER_ROOM ≤ ROOM }
@@ -66,7 +66,7 @@ fn push_long<const ROOM: usize>(out: &mut ArrayVec<u8, ROOM>, number: u64)
     push_text(out, &digits[start..]);
 }
 
-/// The same for a number of at most eight digits, in pieces of fixed size.
+/// Adds a number of at most eight decimal digits, in pieces of fixed size.
 #[inline(always)]
 pub fn push_eight<const ROOM: usize>(out: &mut ArrayVec<u8, ROOM>, number: u64)
     requires small { number < 100000000 }

@@ -31,7 +31,7 @@ pub fn node_in(word: &[u8]) -> Option<NodeId>
     }
 }
 
-/// The node of three such digits.
+/// The node of three decimal digits: one of its row, and two of its column.
 #[tactic(auto, unfolding(crate::specs::Parsing::node_in, ga_grid::specs::Grid::node_number))]
 #[inline(always)]
 pub fn node_named(row: u8, tens: u8, ones: u8) -> Option<NodeId>

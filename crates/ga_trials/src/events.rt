@@ -22,7 +22,7 @@ fn sum_kinds(node: &mut Node, count: u32) -> u32 {
     sum
 }
 
-/// The same, where each event is taken back and made again.
+/// Makes so many events, each of which is taken back and made again, and sums their codes.
 #[inline(never)]
 #[tactic(auto, using(ga_node::proofs::Restoring::apart_from_ready))]
 fn sum_backs(node: &mut Node, count: u32) -> u32 {

@@ -22,7 +22,7 @@ pub enum Outcome {
     Answered,
     /// This alone was refused for want of memory. It changed nothing, and was answered when it was asked for again.
     Refused(&'static str),
-    /// The same, with its number.
+    /// This, with its number, alone was refused for want of memory. It changed nothing, and was answered when it was asked for again.
     RefusedAt(&'static str, usize),
     /// This is not as it should be.
     Wrong(&'static str),

@@ -77,7 +77,7 @@ pub fn passed_late(alloc: Global, count: u32) -> Option<Lab> {
 /// What is rolled back.
 #[derive(Clone, Copy)]
 pub enum Goes {
-    /// Of each pair the word, with the wait to send it: three entries of two nodes.
+    /// The word of each pair, with the wait to send it: three entries of two nodes.
     Pairs,
     /// The word of node 000 and the wait to send it.
     Word,
@@ -107,7 +107,7 @@ fn taken_of_pairs(lab: &mut Lab, is_done: bool) -> u32 {
     removed
 }
 
-/// The events that go.
+/// Rolls back what is to go, or asks what that would take: the events that go.
 #[inline(never)]
 fn go(lab: &mut Lab, goes: Goes, wait: u32, is_done: bool) -> u32 {
     match goes {

@@ -55,7 +55,7 @@ fn answers() -> [Answer; CALLS] {
 /// How many events are kept before the first call, and behind each.
 static KEPT: [u32; 10] = [0, 1, 2, 3, 4, 2, 3, 4, 4, 0];
 
-/// How many events were made by then.
+/// How many events were made before the first call, and behind each.
 static MADE: [u64; 10] = [0, 1, 2, 3, 4, 4, 5, 6, 6, 6];
 
 fn made(step: u32, kind: Kind) -> Answer {

@@ -54,7 +54,7 @@ fn choice_of(node: &Node, due: Due) -> Choice
     }
 }
 
-// The same of an opcode.
+// What decides an opcode that comes next, beside the opcode itself.
 #[tactic(auto, unfolding(ga_node::specs::Record::record_of))]
 fn choice_by(node: &Node, op: Op) -> Choice
     ensures value { result ≡ choice (Due.Run op) (record_of node.now) }
@@ -74,7 +74,7 @@ fn choice_by(node: &Node, op: Op) -> Choice
     }
 }
 
-// Before a word was read at the address and pushed, where this stands before what came after it.
+// A part followed back over a word read at the address and pushed, where `later` is followed back over what came after it.
 fn before_read(choice: Choice, part: Part, later: Sought) -> Sought
     requires choice { IsTarget (target_of choice) }
     requires part { IsPart part }
@@ -91,7 +91,7 @@ fn before_read(choice: Choice, part: Part, later: Sought) -> Sought
     }
 }
 
-// Before T was written at the address, where this stands before what came after it.
+// A part followed back over T written at the address, where `later` is followed back over what came after it.
 fn before_write(choice: Choice, part: Part, later: Sought) -> Sought
     requires choice { IsTarget (target_of choice) }
     requires part { IsPart part }
@@ -114,7 +114,7 @@ fn before_write(choice: Choice, part: Part, later: Sought) -> Sought
     }
 }
 
-// Before the instruction word was fetched from there.
+// A part followed back over an instruction word fetched from the source.
 fn before_word(part: Part, source: Part) -> Sought
     requires part { IsPart part }
     requires source { IsSource source }
@@ -127,7 +127,7 @@ fn before_word(part: Part, source: Part) -> Sought
         .set(Part::I, Flow::Same(source))
 }
 
-// Before a fetch.
+// A part followed back over a fetch.
 fn before_fetch(choice: Choice, part: Part) -> Sought
     requires choice { IsTarget (target_of choice) }
     requires part { IsPart part }
@@ -143,7 +143,7 @@ fn before_fetch(choice: Choice, part: Part) -> Sought
     }
 }
 
-// Before `ex`.
+// A part followed back over `ex`.
 fn before_execute(at: Sought) -> Sought
     requires { IsSought (sought_of at) }
     ensures value { sought_of result ≡ before_all execute_moves (sought_of at) }
@@ -154,7 +154,7 @@ fn before_execute(at: Sought) -> Sought
         .set(Part::P, from_one(Part::R))
 }
 
-// Before `+*`.
+// A part followed back over `+*`.
 fn before_multiply(at: Sought) -> Sought
     requires { IsSought (sought_of at) }
     ensures value { sought_of result ≡ before_all multiply_moves (sought_of at) }
@@ -165,7 +165,7 @@ fn before_multiply(at: Sought) -> Sought
         .set(Part::A, from_three(Part::T, Part::S, Part::A))
 }
 
-// Before the writer's half of a transfer.
+// A part followed back over the writer's half of a transfer.
 fn before_send(part: Part) -> Sought
     requires { IsPart part }
     ensures value { sought_of result ≡ before_all send_moves (At part) }
@@ -174,7 +174,7 @@ fn before_send(part: Part) -> Sought
     Sought::At(part).go_on().pop_data().set_wait()
 }
 
-// Before the reader's half, of a node that waited for this.
+// A part followed back over the reader's half of a transfer, of a node that waited for this.
 fn before_take(wait: Wait, part: Part) -> Sought
     requires { IsPart part }
     ensures value { sought_of result ≡ before_all (take_moves wait) (At part) }
@@ -194,7 +194,7 @@ fn before_take(wait: Wait, part: Part) -> Sought
     }
 }
 
-// Before the opcode.
+// A part followed back over the opcode.
 #[tactic(auto, using(crate::proofs::Following::read_found, crate::proofs::Following::write_found, crate::proofs::Following::count_found))]
 fn before_op(op: Op, choice: Choice, part: Part) -> Sought
     requires choice { IsTarget (target_of choice) }
@@ -239,7 +239,7 @@ fn before_op(op: Op, choice: Choice, part: Part) -> Sought
     }
 }
 
-// Before R was popped, where it had ended, or else counted down, where these stand before what came after each.
+// A part followed back over R popped, where it had ended, or else counted down; what came after each is followed back already.
 fn before_count(ends: bool, last: Sought, again: Sought) -> Sought
     requires last { IsSought (sought_of last) }
     requires again { IsSought (sought_of again) }
@@ -253,7 +253,7 @@ fn before_count(ends: bool, last: Sought, again: Sought) -> Sought
     }
 }
 
-// Before `+`.
+// A part followed back over `+`.
 fn before_plus(choice: Choice, at: Sought) -> Sought
     requires { IsSought (sought_of at) }
     ensures value { sought_of result ≡ before_all (moves_where (Due.Run Op.Plus) choice) (sought_of at) }
@@ -268,7 +268,7 @@ fn before_plus(choice: Choice, at: Sought) -> Sought
     }
 }
 
-// Before what comes next.
+// A part followed back over what comes next in its node.
 fn before_due(due: Due, choice: Choice, part: Part) -> Sought
     requires choice { IsTarget (target_of choice) }
     requires part { IsPart part }
@@ -293,7 +293,8 @@ pub fn own_flow(node: &Node, part: Part) -> Flow
     flow_where(due, choice_of(node, due), part)
 }
 
-/// The same of what comes next, where this decides it: by the opcode and the choice alone, whatever else stands in the node.
+/// Where the value of a part comes from after what comes next in its node, where this decides it: by the opcode and the choice alone,
+/// whatever else stands in the node.
 pub fn flow_where(due: Due, choice: Choice, part: Part) -> Flow
     requires choice { IsTarget (target_of choice) }
     requires part { IsPart part }
@@ -303,7 +304,7 @@ pub fn flow_where(due: Due, choice: Choice, part: Part) -> Flow
     before_due(due, choice, part).settle()
 }
 
-/// The same of the writer's half of a transfer.
+/// Where the value of a part comes from after the writer's half of a transfer.
 pub fn send_flow(part: Part) -> Flow
     requires { IsPart part }
     ensures value { flow_of result ≡ send_flow part }
@@ -312,7 +313,7 @@ pub fn send_flow(part: Part) -> Flow
     before_send(part).settle()
 }
 
-/// The same of the reader's half, of a node that waits for this.
+/// Where the value of a part comes from after the reader's half of a transfer, of a node that waits for this.
 pub fn take_flow(wait: Wait, part: Part) -> Flow
     requires { IsPart part }
     ensures value { flow_of result ≡ take_flow wait part }

@@ -5,9 +5,9 @@ use super::{Flow, Part, from_none, from_one, from_three};
 /// A part followed back through the changes of an event, the last of them first.
 #[derive(Drop)]
 pub(crate) enum Sought {
-    /// Its value is the one that this part has before the changes so far.
+    /// The part's value is the one that this part has before the changes so far.
     At(Part),
-    /// Its value comes from there.
+    /// Where the part's value was found to come from.
     Found(Flow),
 }
 
@@ -17,7 +17,7 @@ impl Sought {
     ghost use Rattle.ga_event.specs.Flow as move;
     ghost use Rattle.ga_event.specs.inner.{sought_of, set_at, push_data, pop_data, push_return, pop_return, before, before_all, settled, IsSought};
 
-    /// Before a part got a word that comes from there.
+    /// The part followed back over a part that got a word of this flow.
     pub(crate) fn set(self, at: Part, flow: Flow) -> Sought
         requires known { IsSought (sought_of self) }
         requires sources { AreSources (flow_of flow) }
@@ -36,7 +36,7 @@ impl Sought {
         }
     }
 
-    /// Before a word that comes from there was pushed on the data stack.
+    /// The part followed back over a word of this flow pushed on the data stack.
     pub(crate) fn push_data(self, flow: Flow) -> Sought
         requires known { IsSought (sought_of self) }
         requires sources { AreSources (flow_of flow) }
@@ -51,7 +51,7 @@ impl Sought {
         }
     }
 
-    /// Before the data stack was popped.
+    /// The part followed back over a pop of the data stack.
     pub(crate) fn pop_data(self) -> Sought
         requires known { IsSought (sought_of self) }
         ensures value { sought_of result ≡ pop_data (sought_of self) }
@@ -65,7 +65,7 @@ impl Sought {
         }
     }
 
-    /// Before a word that comes from there was pushed on the return stack.
+    /// The part followed back over a word of this flow pushed on the return stack.
     pub(crate) fn push_return(self, flow: Flow) -> Sought
         requires known { IsSought (sought_of self) }
         requires sources { AreSources (flow_of flow) }
@@ -80,7 +80,7 @@ impl Sought {
         }
     }
 
-    /// Before the return stack was popped.
+    /// The part followed back over a pop of the return stack.
     pub(crate) fn pop_return(self) -> Sought
         requires known { IsSought (sought_of self) }
         ensures value { sought_of result ≡ pop_return (sought_of self) }
@@ -94,7 +94,7 @@ impl Sought {
         }
     }
 
-    /// Before all changes.
+    /// Where the part's value comes from, once it is followed back over all changes.
     pub(crate) fn settle(self) -> Flow
         requires known { IsSought (sought_of self) }
         ensures value { flow_of result ≡ settled (sought_of self) }
@@ -106,7 +106,7 @@ impl Sought {
         }
     }
 
-    /// Before the next slot came.
+    /// The part followed back over the move to the next slot of the instruction word.
     pub(crate) fn go_on(self) -> Sought
         requires { IsSought (sought_of self) }
         ensures value { sought_of result ≡ before GoOn (sought_of self) }
@@ -115,7 +115,7 @@ impl Sought {
         self.set(Part::Slot, from_one(Part::Slot))
     }
 
-    /// Before the rest of the word was passed over.
+    /// The part followed back over a skip of the rest of the instruction word.
     pub(crate) fn skip(self) -> Sought
         requires { IsSought (sought_of self) }
         ensures value { sought_of result ≡ before Skip (sought_of self) }
@@ -124,7 +124,7 @@ impl Sought {
         self.set(Part::Slot, from_none())
     }
 
-    /// Before the first slot came.
+    /// The part followed back over the move to the first slot of the instruction word.
     pub(crate) fn start_again(self) -> Sought
         requires { IsSought (sought_of self) }
         ensures value { sought_of result ≡ before StartAgain (sought_of self) }
@@ -133,7 +133,7 @@ impl Sought {
         self.set(Part::Slot, from_none())
     }
 
-    /// Before a wait began or ended.
+    /// The part followed back over a wait that began or ended.
     pub(crate) fn set_wait(self) -> Sought
         requires { IsSought (sought_of self) }
         ensures value { sought_of result ≡ before SetWait (sought_of self) }
@@ -142,7 +142,7 @@ impl Sought {
         self.set(Part::Wait, from_none())
     }
 
-    /// Before the node stopped.
+    /// The part followed back over a stop of the node.
     pub(crate) fn set_stop(self) -> Sought
         requires { IsSought (sought_of self) }
         ensures value { sought_of result ≡ before SetStop (sought_of self) }
@@ -151,7 +151,7 @@ impl Sought {
         self.set(Part::Stop, from_none())
     }
 
-    /// Before the data stack was popped and its top got a word that comes from there.
+    /// The part followed back over a pop of the data stack whose top then got a word of this flow.
     pub(crate) fn pop_to(self, flow: Flow) -> Sought
         requires known { IsSought (sought_of self) }
         requires sources { AreSources (flow_of flow) }
@@ -161,7 +161,7 @@ impl Sought {
         self.set(Part::T, flow).pop_data()
     }
 
-    /// Before the address in a register advanced.
+    /// The part followed back over the address in a register that advanced.
     pub(crate) fn advance(self, register: Part) -> Sought
         requires known { IsSought (sought_of self) }
         requires part { IsPart register }
@@ -171,7 +171,7 @@ impl Sought {
         self.set(register, from_one(register))
     }
 
-    /// Before R counted down.
+    /// The part followed back over R that counted down.
     pub(crate) fn count_down(self) -> Sought
         requires { IsSought (sought_of self) }
         ensures value { sought_of result ≡ set_at top_return (From (top_return ∷ [])) (sought_of self) }
@@ -180,7 +180,7 @@ impl Sought {
         self.set(Part::R, from_one(Part::R))
     }
 
-    /// Before a jump where a condition holds; else the rest of the word was passed over.
+    /// The part followed back over a jump where a condition holds, else over a skip of the rest of the instruction word.
     pub(crate) fn jump_where(self, is_so: bool) -> Sought
         requires { IsSought (sought_of self) }
         ensures value { sought_of result ≡ before_all (if is_so then jump_moves else Skip ∷ []) (sought_of self) }
@@ -189,7 +189,7 @@ impl Sought {
         if is_so { self.jump() } else { self.skip() }
     }
 
-    /// Before a jump to the address that the slot names.
+    /// The part followed back over a jump to the address that the slot names.
     pub(crate) fn jump(self) -> Sought
         requires { IsSought (sought_of self) }
         ensures value { sought_of result ≡ before_all jump_moves (sought_of self) }

@@ -53,7 +53,7 @@ pub record Heard : Type 0 where
   pub expect : Expect
   pub plain : Plain
 
--- before the first word
+-- what is heard before the first word
 abbrev pub nothing_heard : Heard
 nothing_heard = record { expect = Word; plain = no_request }
 
@@ -87,7 +87,7 @@ hear_word plain word next =
     if bytes_eq next (codes ",") then by_number (number_by_word word) (λ n. Some (record { expect = Nothing; plain = with_request plain (Put (Cell (Number n))) }))
     else (by_name directives word >>= next_of) >>= (λ e. Some (record { expect = e; plain = plain }))
 
--- one word
+-- what is heard with one word more
 abbrev pub hear : Heard → List ℕ → List ℕ → Option Heard
 hear heard word next = elim heard.expect as (λ _. Option Heard) [
   | Word ↦ hear_word heard.plain word next
@@ -97,7 +97,7 @@ hear heard word next = elim heard.expect as (λ _. Option Heard) [
   | Nothing ↦ Some (record { expect = Word; plain = heard.plain })
 ]
 
--- at the end
+-- what is asked for where the words end
 abbrev pub end_of : Heard → Option Plain
 end_of heard = elim heard.expect as (λ _. Option Plain) [
   | Word ↦ Some heard.plain
@@ -107,7 +107,7 @@ end_of heard = elim heard.expect as (λ _. Option Plain) [
   | Nothing ↦ Some heard.plain
 ]
 
--- words, one by one
+-- what words ask for, heard one by one up to the last
 unfoldable pub hear_all : Heard → List (List ℕ) → Option Plain
 hear_all heard [] = end_of heard
 hear_all heard (word ∷ words) = hear heard word (slice_index_or words 0 []) >>= (λ now. hear_all now words)
