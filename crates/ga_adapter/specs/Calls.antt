@@ -23,7 +23,7 @@ abbrev pub kept_from : Flow → ℕ → Option ℕ
 kept_from (Same (part.Return from)) place = if place == 8 && from == 1 then None else Some from
 kept_from _ place = None
 
--- of each place where the entry that stands there behind the step after so many of a node stood before it
+-- of each place of the return stack, where the entry that stands there behind the step after so many of a node stood before it
 abbrev pub entries_from : State → NodeId → ℕ → List (Option ℕ)
 entries_from s node k = map (λ place. kept_from (flow_at s node.number k (part.Return place)) place) (range_with_len 0 9)
 
@@ -50,7 +50,7 @@ is_calling s node (suc k) = is_call (slice_get (history_of s node.number) k)
 abbrev pub open_steps : State → NodeId → ℕ → List ℕ
 open_steps s node step = filter (is_calling s node) (map (put_by s node step) (range_with_len 0 9))
 
--- with where the node stood before each, at the call
+-- an open call, with where the node stood before its step
 abbrev pub open_call : State → NodeId → ℕ → OpenCall
 open_call s node step = record { step = step; at = spot_behind s node (step - 1) }
 

@@ -80,7 +80,7 @@ abbrev pub instruction_words : Notes → NodeId → ℕ → ℕ → Text
 instruction_words notes node cell word =
     if is_data (note_of_cell notes node cell) then codes "word " ++ decimal word else slots_words notes node (advanced cell) word 0 4
 
--- its line and its label, where the source has them
+-- the line and the label of a cell, where the source has them
 abbrev pub with_source_line : SourceFile → Option Note → Members → Members
 with_source_line file None members = members
 with_source_line file (Some note) members = put (codes "location") (source_object file) (put (codes "line") (whole_number note.line) members)
@@ -93,14 +93,14 @@ abbrev pub instruction_members : Text → Text → Text → Members
 instruction_members address words bytes =
     put (codes "instructionBytes") (string bytes) (put (codes "instruction") (string words) (put (codes "address") (string address) no_members))
 
--- the cell at an address of the node
+-- the cell at an address of the node, as an instruction
 abbrev pub instruction : SourceFile → Notes → State → NodeId → ℕ → ℕ → Data
 instruction file notes s node address cell =
     let word = word_at (record_at (chip_of s) node.number) cell in
     object (with_label (label_of_cell notes.names.items node cell) (with_source_line file (note_of_cell notes node cell)
     (instruction_members (memory_reference (chip_address node.number address)) (instruction_words notes node cell word) (hex6_of word))))
 
--- where a node has no cell
+-- what is told of an address where a node has no cell
 unfoldable pub no_instruction : Text → Data
 no_instruction address =
     object (member (codes "address") (string address) (member (codes "instruction") (string (codes "no memory"))

@@ -19,23 +19,23 @@ use Rattle.ga_adapter.specs.Numbers.{frame_of, chip_address}
 use Rattle.ga_adapter.specs.Spots.{present_spot}
 use Rattle.ga_adapter.specs.Variables.{memory_reference, places_asked}
 
--- the file ("Source")
+-- the file of the source ("Source")
 unfoldable pub source_object : SourceFile → Data
 source_object file = object (member (codes "name") (string file.name.now) (member (codes "path") (string file.path.now) no_members))
 
--- at a word of the source, of so many bytes from the beginning of its line
+-- a frame at a word of the source, of so many bytes from the beginning of its line
 unfoldable pub lined_frame : Data → ℕ → Text → Text → ℕ → ℕ → Data
 lined_frame source id name pointer line column =
     object (member (codes "column") (whole_number column) (member (codes "id") (whole_number id) (member (codes "instructionPointerReference") (string pointer)
     (member (codes "line") (whole_number line) (member (codes "name") (string name) (member (codes "source") source no_members))))))
 
--- in memory that the source says nothing of
+-- a frame in memory that the source says nothing of
 unfoldable pub bare_frame : ℕ → Text → Text → Data
 bare_frame id name pointer =
     object (member (codes "column") (whole_number 0) (member (codes "id") (whole_number id) (member (codes "instructionPointerReference") (string pointer)
     (member (codes "line") (whole_number 0) (member (codes "name") (string name) no_members)))))
 
--- where no memory is: the code came over a port, or stood in the node at load
+-- a frame where no memory is: the code came over a port, or stood in the node at load
 unfoldable pub outside_frame : ℕ → Text → Data
 outside_frame id name =
     object (member (codes "column") (whole_number 0) (member (codes "id") (whole_number id) (member (codes "line") (whole_number 0) (member (codes "name") (string name)

@@ -9,11 +9,11 @@ use Rattle.ga_adapter.specs.declared.variable.Variable.TheVariants.{State, Step,
 use Rattle.ga_adapter.specs.declared.scope.Scope.{Scope}
 use Rattle.ga_adapter.specs.declared.scope.Scope.TheVariants as scope
 
--- the registers
+-- the variables of the registers
 abbrev pub register_variables : List Variable
 register_variables = State ∷ Step ∷ P ∷ DataWord 0 ∷ DataWord 1 ∷ ReturnWord 0 ∷ A ∷ B ∷ I ∷ Slot ∷ Carry ∷ Io ∷ []
 
--- and of the links
+-- the variables of the links
 abbrev pub link_variables : List Variable
 link_variables = Neighbour Right ∷ Neighbour Down ∷ Neighbour Left ∷ Neighbour Up ∷ Stuck ∷ []
 

@@ -16,7 +16,7 @@ spot slot cell = record { cell = cell; slot = slot }
 abbrev pub spot_by : NodeRecord → Option ℕ → Option Spot
 spot_by n fetched = if n.slot == 4 then option_map (spot 0) (cell_of_address n.p) else option_map (spot n.slot) fetched
 
--- behind so many steps of a node
+-- where a node stands behind so many of its steps
 abbrev pub spot_behind : State → NodeId → ℕ → Option Spot
 spot_behind s node step = spot_by (node_after s node.number step) (fetched_cell s node step)
 

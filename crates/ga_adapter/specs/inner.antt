@@ -16,7 +16,7 @@ use Rattle.ga_origin.specs.Origins.{node_after}
 use Rattle.ga_adapter.specs.declared.calls.Shift.{Shift}
 use Rattle.ga_adapter.specs.declared.calls.Window.{Window}
 
--- what an opcode does, where R is 0 before it or not
+-- what an opcode that counts R down does to the entries, where R is 0 before it or not
 abbrev pub counted : Bool → Shift
 counted true = shift.Pops
 counted false = shift.Replaces
@@ -31,7 +31,7 @@ shift_op op.Pop last = shift.Pops  -- 19 pop
 shift_op op.Push last = shift.Pushes  -- 1d push
 shift_op _ last = shift.Stays
 
--- an event of a node's own, and a step of which this is told
+-- what an event of a node's own does to the entries, and what a step does of which this is told
 abbrev pub shift_kind : Kind → Bool → Shift
 shift_kind (kind.Run code) last = shift_op (op_of (code % 32)) last
 shift_kind _ last = shift.Stays
@@ -43,7 +43,7 @@ shift_told _ last = shift.Stays
 abbrev pub shift_at : State → ℕ → ℕ → Shift
 shift_at s n k = shift_told (slice_get (history_of s n) k) (r (node_after s n k) == 0)
 
--- where the entry stood before that stands at a place behind it; none where it is new, or a copy in the last place
+-- where the entry stood before a step that stands at a place behind it; none where it is new, or a copy in the last place
 abbrev pub entry_before : Shift → ℕ → Option ℕ
 entry_before shift.Stays place = Some place
 entry_before shift.Calls place = if place == 0 then None else Some (place - 1)
@@ -55,7 +55,7 @@ abbrev pub is_calls : Shift → Bool
 is_calls shift.Calls = true
 is_calls _ = false
 
--- of so many places from one on, what is found there and is called for
+-- what is found at so many places from one on, and is called for
 abbrev pub picked : (ℕ → Bool) → (ℕ → ℕ) → ℕ → ℕ → List ℕ
 picked calls f place left = filter calls (map f (range_with_len place left))
 

@@ -21,18 +21,18 @@ pub(crate) const RETURN_PLACES: usize = 9;
 /// A call from which a node did not come back.
 #[derive(Clone, Copy, Default)]
 pub struct OpenCall {
-    /// The number of its step.
+    /// The number of the call's step.
     pub step: u32,
-    /// Where the node stood before it, at the call; none where its code stood in no memory.
+    /// Where the node stood before the call's step; none where its code stood in no memory.
     pub at: Option<Spot>,
 }
 
 /// What a step does to the entries of the return stack.
 #[derive(Clone, Copy)]
 pub(crate) enum Shift {
-    /// Each keeps its place.
+    /// Each entry keeps its place.
     Stays,
-    /// A call puts one on top.
+    /// A call puts an entry on top.
     Calls,
     /// Another word comes on top.
     Pushes,
@@ -49,7 +49,7 @@ struct Window {
     left: u8,
 }
 
-/// What an opcode does to them; none where R decides it.
+/// What an opcode does to the entries of the return stack; none where R decides it.
 fn shift_of(op: Op) -> Option<Shift>
     ensures sure { IfSome result (λ shift. (last : Bool) → shift ≡ shift_op op last) }
     ensures unsure { IfNone result ((last : Bool) → counted last ≡ shift_op op last) }
@@ -76,7 +76,7 @@ fn counts_out(walk: &mut Walk<'_>, at: u32) -> bool
     walk.node().r(0) == 0
 }
 
-/// What the step at a place does to them. The node is walked back there only where R decides it.
+/// What the step at a place does to the entries of the return stack. The node is walked back there only where R decides it.
 pub(crate) fn shift_by(lab: &Lab, walk: &mut Walk<'_>, node: NodeId, at: u32) -> Shift
     requires walk { walk.old ≡ standing lab.now node walk.old.step }
     requires order { at ≤ walk.old.step }
@@ -128,7 +128,7 @@ fn before_push(window: Window) -> Window
     }
 }
 
-/// The same of a step by which the top goes.
+/// Where the entries of a window stood before a step by which the top goes.
 fn before_pop(window: Window) -> Window
     requires some { 0 < window.left }
     requires within { window.place + window.left ≤ 9 }
@@ -150,7 +150,7 @@ fn before_pop(window: Window) -> Window
     }
 }
 
-/// The same of a step by which another word comes in the place of the top.
+/// Where the entries of a window stood before a step by which another word comes in the place of the top.
 fn before_exchange(window: Window) -> Window
     requires some { 0 < window.left }
     requires within { window.place + window.left ≤ 9 }

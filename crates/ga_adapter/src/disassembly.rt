@@ -170,7 +170,7 @@ fn bytes_text(alloc: Global, word: Word18) -> Result<String, AllocError>
     Ok(text)
 }
 
-/// Puts a text.
+/// Puts a text as a member.
 fn put_text(
     alloc: Global,
     members: &mut Map<String, Value>,
@@ -199,7 +199,7 @@ fn put_line(
     put(members, alloc, "location", source)
 }
 
-/// Puts the label, where one stands there.
+/// Puts the label of a cell, where one stands there.
 fn put_label(
     alloc: Global,
     members: &mut Map<String, Value>,
@@ -237,7 +237,7 @@ fn instruction_members(
     Ok(members)
 }
 
-/// The cell at an address of the chip.
+/// The cell at an address of the chip, as an instruction.
 fn instruction(
     alloc: Global,
     file: SourceFile<'_>,
@@ -264,7 +264,7 @@ fn invalid_instruction(alloc: Global, address: &str) -> Result<Value, AllocError
     json!(in alloc; {"address": address, "instruction": "no memory", "presentationHint": "invalid"})
 }
 
-/// Where there is no cell.
+/// What is told of an address where there is no cell.
 fn no_instruction(alloc: Global, address: u32) -> Result<Value, AllocError>
     requires { address < 2 ^ 24 }
     ensures { IfOk result (λ v. view v ≡ no_instruction (memory_reference address)) }

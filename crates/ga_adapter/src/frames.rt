@@ -66,7 +66,7 @@ fn outside_frame(alloc: Global, id: u64, name: &str) -> Result<Value, AllocError
     json!(in alloc; {"column": 0u64, "id": id, "line": 0u64, "name": name, "presentationHint": "subtle"})
 }
 
-/// Adds where in a node that is.
+/// Adds where in a node a slot is.
 fn add_place(
     alloc: Global,
     text: &mut String,
@@ -204,7 +204,7 @@ fn stack_object(alloc: Global, frames: Vec<Value>, total: u64) -> Result<Value, 
     json!(in alloc; {"stackFrames": frames, "totalFrames": total})
 }
 
-/// How many of those that are left are asked for.
+/// How many of the frames that are left are asked for.
 fn many_asked(left: u64, count: u64) -> u64
     ensures value { result ≡ (if count == 0 then left else min count left) }
     ensures within { result ≤ left }
@@ -212,7 +212,7 @@ fn many_asked(left: u64, count: u64) -> u64
     if count == 0 { left } else { count.min(left) }
 }
 
-/// The levels that are asked for: the first, and the one behind the last.
+/// The levels of frames that are asked for: the first, and the one behind the last.
 #[tactic(auto, using(crate::proofs::Lists::places_so))]
 fn levels_asked(total: u64, start: u64, count: u64) -> (u8, u8)
     requires { total ≤ 16 }
@@ -226,7 +226,7 @@ fn levels_asked(total: u64, start: u64, count: u64) -> (u8, u8)
     (first as u8, end as u8)
 }
 
-/// The response, where these are the calls.
+/// The body of the response to `stackTrace`, where these are the calls.
 fn stack_body(
     alloc: Global,
     file: SourceFile<'_>,

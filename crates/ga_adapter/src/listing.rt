@@ -48,7 +48,7 @@ fn memory_object(alloc: Global, cells: u8, name: &str, reference: u64) -> Result
     json!(in alloc; {"expensive": true, "indexedVariables": u64::from(cells), "name": name, "variablesReference": reference})
 }
 
-/// Another scope.
+/// A scope that is no memory.
 #[tactic(auto, unfolding(crate::specs::Variables::scope_object))]
 fn plain_scope(alloc: Global, name: &str, reference: u64) -> Result<Value, AllocError>
     ensures { IfOk result (λ v. (cells : ℕ) → view v ≡ scope_object false cells name.now reference) }

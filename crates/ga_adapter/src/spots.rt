@@ -16,9 +16,9 @@ use ga_ports::{Target, classify};
 /// A slot of a cell.
 #[derive(Clone, Copy, PartialEq, Eq, Debug)]
 pub struct Spot {
-    /// 0 to 63 of RAM, 128 to 191 of ROM.
+    /// The cell: 0 to 63 of RAM, 128 to 191 of ROM.
     pub cell: u8,
-    /// 0 to 3.
+    /// The slot: 0 to 3.
     pub slot: u8,
 }
 
@@ -59,7 +59,7 @@ fn spot_at(lab: &Lab, walk: &Walk<'_>, node: NodeId) -> Option<Spot>
     }
 }
 
-/// Where a node stands that is to fetch there.
+/// Where a node stands that is to fetch at this address.
 fn due_spot(p: u32) -> Option<Spot>
     ensures { result ≡ option_map (spot 0) (cell_of_address p) }
 {
@@ -69,7 +69,7 @@ fn due_spot(p: u32) -> Option<Spot>
     }
 }
 
-/// The same behind so many steps, to which the node is walked back.
+/// Where a node stood behind so many of its steps, to which it is walked back.
 pub fn spot_back(lab: &Lab, walk: &mut Walk<'_>, node: NodeId, step: u32) -> Option<Spot>
     requires walk { walk.old ≡ standing lab.now node walk.old.step }
     requires order { step ≤ walk.old.step }

@@ -25,19 +25,19 @@ use Rattle.ga_breakpoints.specs.Conditions.{meets_test, is_hit_asked}
 
 -- ---- where a breakpoint stands
 
--- that a node comes to a slot of a cell
+-- a breakpoint that a node hits by coming to a slot of a cell
 abbrev pub on_slot : NodeId → ℕ → ℕ → Breakpoint
 on_slot node cell slot = record { node = node; watched = Comes (spot slot cell); condition = None; hits = None }
 
--- on the first slot of a word, with its line
+-- a breakpoint on the first slot of a word, with its line
 abbrev pub on_word : SlotWord → LineBreakpoint
 on_word word = record { breakpoint = on_slot word.node word.cell (worded_slot word.first); line = word.line }
 
--- on the first word of a line, or of the next line that has one, from which a slot of an instruction word comes
+-- a breakpoint on the first word of a line, or of the next line that has one, from which a slot of an instruction word comes
 abbrev pub breakpoint_of_line : Notes → ℕ → Option LineBreakpoint
 breakpoint_of_line notes line = option_map on_word (nearest_word line None notes.words.items)
 
--- on the first slot of the cell at an address
+-- a breakpoint on the first slot of the cell at an address
 abbrev pub breakpoint_of_address : NodeId → ℕ → Option Breakpoint
 breakpoint_of_address node address = option_map (λ cell. on_slot node cell 0) (cell_of_address address)
 
@@ -49,7 +49,7 @@ abbrev pub has_done : Watched → NodeId → Made → State → Bool
 has_done (Comes at) node told s = is_step_of node.number told && comes_to s node at (steps_of node.number s.kept - 1)
 has_done (Writes address) node told s = holds (condition.Writes node (address % 64) None) told s
 
--- it did that, and meets the condition behind it
+-- behind what was made, a node did what the breakpoint watches for, and meets its condition
 abbrev pub is_hit : Made → State → Breakpoint → Bool
 is_hit told s one =
     has_done one.watched one.node told s && meets_test one.condition (record_at (chip_of s) one.node.number) (steps_of one.node.number s.kept)
@@ -62,7 +62,7 @@ counts_at counts place = slice_index_or counts place 0
 abbrev pub one_hit_more : ℕ → List ℕ → List ℕ
 one_hit_more place counts = if nat_lt place 64 then slice_set counts place ((counts_at counts place + 1) % 2 ^ 32) else counts
 
--- what ends the move, where nothing before it does
+-- the place of a breakpoint, where the hit of this number is asked for
 abbrev pub asked_place : Option HitCount → ℕ → ℕ → Option ℕ
 asked_place hits place number = if is_hit_asked hits number then Some place else None
 
@@ -75,18 +75,18 @@ hit_counted one place tally =
 abbrev pub one_counted : Made → State → Breakpoint → ℕ → HitTally → HitTally
 one_counted told s one place tally = if is_hit told s one then hit_counted one place tally else tally
 
--- those of the list from a place on
+-- the breakpoints of the list from a place on are counted, where what was made hits them
 abbrev pub counted_from : Made → State → ℕ → List Breakpoint → HitTally → HitTally
 counted_from told s place [] tally = tally
 counted_from told s place (one ∷ rest) tally = counted_from told s (place + 1) rest (one_counted told s one place tally)
 
--- behind what was made, on the machine that it left
+-- how often each breakpoint was hit, behind what was made, on the machine that it left
 abbrev pub tally_behind : List Breakpoint → Made → State → HitTally → HitTally
 tally_behind breakpoints told s tally = counted_from told s 0 breakpoints (record tally { hit = None })
 
 -- ---- what ends a move early
 
--- it was the stop of a node: of any where that is asked for, and of the node that is moved
+-- what was made is the stop of a node: of any where that is asked for, and of the node that is moved
 abbrev pub is_stop_at : Option NodeId → Made → Bool
 is_stop_at None told = false
 is_stop_at (Some node) told = is_own_at node.number is_stop told
@@ -94,6 +94,6 @@ is_stop_at (Some node) told = is_own_at node.number is_stop told
 abbrev pub is_stopping : Bool → Option NodeId → Made → Bool
 is_stopping stops node told = stops && is_own is_stop told || is_stop_at node told
 
--- with the hits so far
+-- what was made ends a move early: it hits a breakpoint, with the hits so far, or is a stop that ends the move
 abbrev pub ends_early : List Breakpoint → HitTally → Bool → Option NodeId → Made → State → Bool
 ends_early breakpoints tally stops node told s = is_some (tally_behind breakpoints told s tally).hit || is_stopping stops node told

@@ -23,7 +23,7 @@ held_data n place = if nat_lt place 10 then slice_index n.d place else 0
 abbrev pub held_return : NodeRecord → ℕ → ℕ
 held_return n place = if nat_lt place 9 then slice_index n.r place else 0
 
--- of a node that made so many steps; 0 where what is shown is no number
+-- a value of a node that made so many steps; 0 where what is shown is no number
 abbrev pub held_value : NodeRecord → ℕ → Variable → ℕ
 held_value n step variable.Step = step
 held_value n step variable.P = n.p
@@ -50,7 +50,7 @@ is_so comparison.AtMost value number = nat_le value number
 is_so comparison.More value number = nat_lt number value
 is_so comparison.AtLeast value number = nat_le number value
 
--- a node that made so many steps meets it, where there is one
+-- a node that made so many steps meets a condition, where there is one
 abbrev pub meets_test : Option ValueTest → NodeRecord → ℕ → Bool
 meets_test None n step = true
 meets_test (Some test) n step = is_so test.comparison (held_value n step test.variable) test.number

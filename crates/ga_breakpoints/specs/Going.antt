@@ -36,7 +36,7 @@ pub record Course : Type 0 where
   pub stops : Bool
   pub ends : ℕ → Made → State → Bool
 
--- it ends behind the event after so many
+-- a move ends behind the event after so many
 abbrev pub halts_told : Course → ℕ → Option Made → State → Bool
 halts_told by k None s = false
 halts_told by k (Some told) s = ends_early by.breakpoints (by.tally k) by.stops by.node told s || by.ends k told s
@@ -47,13 +47,13 @@ halts_behind by r k = halts_told by k (told_first by.node (after_first by.node r
 abbrev pub NeverHalts : Course → Running → ℕ → Type 0
 NeverHalts by r events = (k : ℕ) → k < events → halts_behind by r k ≡ false
 
--- the event after so many, of which this is told, is the first behind which it ends, and the last that was made
+-- the event after so many, of which this is told, is the first behind which a move can end, and the last that was made
 pub record IsFirst (by : Course) (r : Running) (events k : ℕ) (told : Made) : Type 0 where
   pub last : events ≡ k + 1
   pub before : NeverHalts by r k
   pub made : told_first by.node (after_first by.node r k) ≡ Some told
 
--- how it ended after so many events, of which no more were asked for
+-- how a move ended after so many events, of at most so many that were asked for
 abbrev pub HasGone : Course → Running → ℕ → ℕ → Halt → Type 0
 HasGone by r most events (the_halt.Hit told which) =
     (k : ℕ) × IsFirst by r events k told × ((tally_behind by.breakpoints told (first_moved by.node (after_first by.node r k)).state (by.tally k)).hit ≡ Some which)
@@ -68,7 +68,7 @@ HasGone by r most events the_halt.Quiet = (events < most) × NeverHalts by r eve
 HasGone by r most events (the_halt.Refused why) =
     (events < most) × NeverHalts by r events × IsHaltedFirst by.node (after_first by.node r events) (the_end.Refused why)
 
--- `continue`: by breakpoints and stops alone
+-- `continue`: a move that ends by breakpoints and stops alone
 abbrev pub going_on : List Breakpoint → HitTally → Bool → Running → Course
 going_on breakpoints tally stops r =
     record { node = None; breakpoints = breakpoints; tally = tally_on None breakpoints tally r; stops = stops; ends = λ k told s. false }

@@ -32,11 +32,11 @@ abbrev pub did : State → NodeId → Watched → ℕ → Bool
 did s node (Comes at) k = comes_to s node at k
 did s node (Writes address) k = stores_told (address % 64) (node_after s node.number k) (slice_get (history_of s node.number) k)
 
--- and the node met the condition behind it
+-- the step behind so many hit the breakpoint: it did what is watched, and the node met the condition behind it
 abbrev pub has_hit : State → NodeId → Breakpoint → ℕ → Bool
 has_hit s node one k = meets_test one.condition (node_after s node.number (k + 1)) (k + 1) && did s node one.watched k
 
--- of so many steps
+-- how many of so many steps hit the breakpoint
 abbrev pub hits_among : State → NodeId → Breakpoint → ℕ → ℕ
 hits_among s node one zero = 0
 hits_among s node one (suc k) = hits_among s node one k + from_bool (has_hit s node one k)
@@ -68,13 +68,13 @@ newest_asked s node one zero = None
 newest_asked s node one (suc k) =
     if has_hit s node one k && is_hit_asked one.hits (hits_among s node one (k + 1)) then Some (k + 1) else newest_asked s node one k
 
--- How many steps stay where this step is gone back to, by one at least: a node stands behind the step by which it came to a slot, and right before the one
--- by which it wrote a cell.
+-- How many steps stay where the newest hit is gone back to, by one at least. A node stands behind the step by which it came to a slot, and
+-- right before the one by which it wrote a cell.
 abbrev pub steps_left_by : Watched → State → NodeId → Breakpoint → Option ℕ
 steps_left_by (Comes at) s node one = newest_asked s node one (steps_of node.number s.kept - 1)
 steps_left_by (Writes address) s node one = option_map (λ step. step - 1) (newest_asked s node one (steps_of node.number s.kept))
 
--- where it is one of the node
+-- how many steps stay where the newest hit of a breakpoint of the node is gone back to
 abbrev pub steps_left_of : State → NodeId → Breakpoint → Option ℕ
 steps_left_of s node one = if one.node.number == node.number then steps_left_by one.watched s node one else None
 
@@ -83,11 +83,11 @@ later_of None other = other
 later_of (Some a) None = Some a
 later_of (Some a) (Some b) = if nat_lt a b then Some b else Some a
 
--- the latest of this and of those of the breakpoints
+-- the most steps that stay, of this number and of those by the breakpoints
 abbrev pub latest_hit : State → NodeId → Option ℕ → List Breakpoint → Option ℕ
 latest_hit s node best [] = best
 latest_hit s node best (one ∷ rest) = latest_hit s node (later_of best (steps_left_of s node one)) rest
 
--- to the newest of these, and else to the load
+-- the node is gone back to the newest hit of one of its breakpoints, and else to the load
 abbrev pub reversed_to : State → NodeId → List Breakpoint → State
 reversed_to s node breakpoints = gone_back s node (unwrap_or (latest_hit s node None breakpoints) 0)

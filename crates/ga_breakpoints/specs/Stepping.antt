@@ -22,18 +22,19 @@ abbrev pub is_from : ℕ → Option ℕ → Bool
 is_from place None = false
 is_from place (Some from) = from == place
 
--- behind the node's newest step: an entry is followed; and a call that is made is one, where calls are gone over
+-- The place of the call from which the node is to come back first, behind its newest step. Its entry is followed; and a call that is made
+-- is one, where calls are gone over.
 abbrev pub call_behind : State → NodeId → Bool → Option ℕ → Option ℕ
 call_behind s node over (Some place) = position (is_from place) (entries_from s node (steps_of node.number s.kept - 1))
 call_behind s node over None = if over && is_calling s node (steps_of node.number s.kept) then Some 0 else None
 
 -- ---- the moves
 
--- to the node's next step, or to where a line of its source begins
+-- a move of a node to its next step, or to where a line of its source begins
 abbrev pub step_in : NodeId → Grain → Stepping
 step_in node grain = record { node = node; grain = grain; over = false; call = None }
 
--- the same over the calls that it makes
+-- a move of a node to its next step, or to where a line of its source begins, over the calls that it makes
 abbrev pub step_over : NodeId → Grain → Stepping
 step_over node grain = record { node = node; grain = grain; over = true; call = None }
 
@@ -56,7 +57,7 @@ step_out s node = option_map (out_from node) (open_place s node)
 abbrev pub step_seen : Stepping → Made → State → Stepping
 step_seen by told s = if is_step_of by.node.number told then record by { call = call_behind s by.node by.over by.call } else by
 
--- the newest step of the node is one by which a move of that grain can end
+-- the newest step of the node is one by which a move of this grain can end
 abbrev pub reaches_end : Grain → Notes → NodeId → State → ℕ → Bool
 reaches_end Instruction notes node s k = true
 reaches_end Line notes node s k = begins_behind notes s node k

@@ -13,9 +13,9 @@ use ga_node::Kind;
 /// What is watched of a node.
 #[derive(Clone, Copy, PartialEq, Eq, Debug)]
 pub enum Watched {
-    /// It comes to a slot.
+    /// The node comes to a slot.
     Comes(Spot),
-    /// It writes the cell of RAM at an address.
+    /// The node writes the cell of RAM at an address.
     Writes(u8),
 }
 

@@ -15,24 +15,24 @@ use ga_notes::{Notes, SlotWord};
 pub struct Breakpoint {
     /// The node.
     pub node: NodeId,
-    /// That it comes to a slot, or writes a cell of its RAM.
+    /// What is watched: that the node comes to a slot, or writes a cell of its RAM.
     pub watched: Watched,
-    /// What has to hold of the node behind the step that did that.
+    /// What has to hold of the node behind the step that did what is watched.
     pub condition: Option<ValueTest>,
-    /// Which of the events that did that end a run.
+    /// Which of the events that did what is watched end a run.
     pub hits: Option<HitCount>,
 }
 
 /// A breakpoint on a line of the source.
 #[derive(Clone, Copy, PartialEq, Eq, Debug)]
 pub struct LineBreakpoint {
-    /// On the first slot of the line.
+    /// The breakpoint: on the first slot of the line.
     pub breakpoint: Breakpoint,
     /// The line on which it stands, from 1 on: the one that was asked for, or a later one.
     pub line: u32,
 }
 
-/// That a node comes to a slot of a cell.
+/// A breakpoint that a node hits by coming to a slot of a cell.
 fn on_slot(node: NodeId, cell: u8, slot: u8) -> Breakpoint
     ensures { result ≡ on_slot node cell slot }
 {
@@ -51,7 +51,7 @@ fn slot_of(first: usize) -> u8
     if first < 4 { first as u8 } else { 0 }
 }
 
-/// On the first slot of a word.
+/// A breakpoint on the first slot of a word, with its line.
 fn on_word(word: SlotWord) -> LineBreakpoint
     ensures { result ≡ on_word word }
 {

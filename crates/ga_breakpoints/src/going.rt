@@ -18,7 +18,7 @@ pub enum Halt {
     Hit { made: Made, which: usize },
     /// This event was a stop, and hit no breakpoint.
     Stopped(Made),
-    /// The move came to its end behind this event, which is neither.
+    /// The move came to its end behind this event, which hit no breakpoint and is no stop that ends it.
     Moved(Made),
     /// As many events were made as were asked for: the move can be gone on with.
     Cut,
@@ -31,9 +31,9 @@ pub enum Halt {
 /// How many events were made, why no more, and how the order goes on.
 #[derive(Clone, Copy)]
 pub struct Went {
-    /// How many.
+    /// How many events were made.
     pub events: u64,
-    /// Why no more.
+    /// Why no more events were made.
     pub halt: Halt,
     /// Where the schedule stands: a further move by it goes on with this one.
     pub schedule: Schedule,

@@ -39,7 +39,7 @@ fn is_return_op(op: Option<Op>) -> bool
     }
 }
 
-/// Whether it is a jump; `unext` stays in its cell.
+/// Whether an opcode is a jump; `unext` stays in its cell.
 fn is_jump(op: Option<Op>) -> bool
     ensures { result ≡ is_jump op }
 {
@@ -67,7 +67,7 @@ fn place_back(lab: &Lab, node: NodeId, place: u32) -> u32
     }
 }
 
-/// The line on which a node stands there.
+/// The line on which a node stands at a slot.
 fn line_on_spot(notes: &Notes, node: NodeId, spot: Option<Spot>) -> Option<u32>
     ensures { result ≡ line_on_spot notes.now node spot }
 {
@@ -84,7 +84,7 @@ fn begins_at(notes: &Notes, node: NodeId, line: u32, spot: Spot) -> bool
     }
 }
 
-/// Whether a node that stands there, by this step, came to a line: from another, or by a jump to its first slot.
+/// Whether a node that stands at a slot, by this step, came to a line: from another, or by a jump to its first slot.
 fn comes_on(
     notes: &Notes,
     node: NodeId,

@@ -23,9 +23,9 @@ pub enum Grain {
 pub struct Stepping {
     /// The node.
     pub node: NodeId,
-    /// How far it goes.
+    /// How far the move goes.
     pub grain: Grain,
-    /// Whether the calls that it makes are gone over.
+    /// Whether the calls that the node makes are gone over.
     pub over: bool,
     /// The place of the return stack, from 0 on, at which the entry of a call stands from which the node is to come back first.
     pub call: Option<usize>,
@@ -63,7 +63,7 @@ impl Stepping {
         }
     }
 
-    /// `next` (Debug Adapter Protocol, "NextRequest"): the same over the calls that the node makes.
+    /// `next` (Debug Adapter Protocol, "NextRequest"): a move of a node over the calls that it makes.
     pub fn next(node: NodeId, grain: Grain) -> Self
         ensures { result ≡ step_over node grain }
     {
@@ -75,7 +75,7 @@ impl Stepping {
         }
     }
 
-    /// Back from a call by where its entry stands.
+    /// A move back from a call, by where its entry stands.
     fn out_from(node: NodeId, newest: usize) -> Self
         ensures { result ≡ out_from node newest }
     {

@@ -66,7 +66,8 @@ pub(crate) fn word_behind(lab: &Lab, node: NodeId, step: u32) -> Option<u8>
     fetched_near(lab, &lab.walk(node, step), node, node, step)
 }
 
-/// The same behind the step at which a walk of the node stands, where the word before it came from this cell. Takes as long whatever is kept.
+/// The cell of a node's word behind the step at which a walk of the node stands, where the word before it came from this cell. Takes as
+/// long whatever is kept.
 pub(crate) fn word_after(lab: &Lab, walk: &Walk<'_>, node: NodeId, word: Option<u8>) -> Option<u8>
     requires walk { walk.now ≡ standing lab.now node walk.now.step }
     requires within { walk.now.step < steps_of node.number lab.now.kept }

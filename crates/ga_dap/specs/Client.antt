@@ -81,7 +81,7 @@ pub data AnswersContent {S : Type 0} (G : FileGiving S) (host : S) (s : Session)
 
 -- ---- a turn
 
--- what is sent is added to nothing
+-- no bytes to be written, or these, with the number of the last message
 abbrev pub sent_from : ℕ → SentMessages
 sent_from seq = record { bytes = []; seq = seq }
 
@@ -135,8 +135,8 @@ ServesFor {S} {A} G T begin (suc count) said last = (between : Serving S A) × (
 
 -- ---- how a session ends
 
--- at its end the client has said so, or the input is at its end between messages; or something comes that is no message. Else memory was refused to
--- the next message or to what had to be told, and the client has not said that the session ends; or a stream failed.
+-- at the end of a session the client has said so, or the input is at its end between messages; or something comes that is no message. Else
+-- memory was refused to the next message or to what had to be told, and the client has not said that the session ends; or a stream failed.
 abbrev pub EndsBy : {S A : Type 0} → Serving S A → SessionEnd → Type 0
 EndsBy s end.Done = (s.session.is_over ≡ true) ⊎ (untaken s ≡ [])
 EndsBy s (end.Broken why) = (s.session.is_over ≡ false) × IsBroken why (untaken s)

@@ -57,7 +57,7 @@ pub record IsLaunched (text : Bytes) (path : Text) (limit : ℕ) (schedule : Sch
   pub open_still : l.execution.is_configured ≡ false
   pub entry : l.execution.stops_on_entry ≡ stops_on_entry arguments
 
--- the response, what its source is warned of, where it is, and that the client may set breakpoints
+-- what is told of a launch: the response, what the source is warned of, where it is, and that the client may set breakpoints
 abbrev pub launch_told : ClientRequest → Messages → Messages
 launch_told request warned = (acknowledged request ∷ warned) ++ (event_alone (codes "initialized") ∷ [])
 
@@ -84,7 +84,7 @@ ReadsFile G host request path limit schedule messages after new =
 abbrev pub RefusesLaunch : {S : Type 0} → S → ClientRequest → Text → Messages → S → Option Launched → Type 0
 RefusesLaunch host request why messages after new = (messages ≡ refused_response request why ∷ []) × (after ≡ host) × (new ≡ None)
 
--- by what is asked for: a path, how many events are kept at most, and the order
+-- a launch by what is asked for: a path, how many events are kept at most, and the order
 abbrev pub LaunchesAsked : {S : Type 0} → FileGiving S → S → ClientRequest → Option Text → Option ℕ → Option Schedule → Messages → S → Option Launched → Type 0
 LaunchesAsked G host request None limit schedule messages after new = RefusesLaunch host request (codes "launch: there is no program") messages after new
 LaunchesAsked G host request (Some path) None schedule messages after new =

@@ -20,7 +20,7 @@ parts_explored lab notes = record { lab = lab; notes = notes }
 abbrev pub OpensProgram : Bytes → ℕ → Debuggee → Type 0
 OpensProgram text limit p = OpensExploring text limit (parts_explored p.lab p.source)
 
--- a text is none: an image with a fault, or source that isn't plain words which give each cell once
+-- a text is no program: an image with a fault, or source that isn't plain words which give each cell once
 abbrev pub IsNoProgram : Bytes → Type 0
 IsNoProgram text = ((begins_as_image text ≡ true) × (fault : ImageFault) × IsFirstFault (lines_of text) fault)
     ⊎ ((begins_as_image text ≡ false) × (IsSoundSource text → ⊥))

@@ -18,12 +18,12 @@ use Rattle.ga_dap.specs.Launches.{output_told}
 abbrev pub ThreadsChanged : (ℕ → Bool) → Debuggee → Messages → Type 0
 ThreadsChanged before new messages = (now : ℕ → Bool) × AreShown new now × (messages ≡ changed_below before now 144)
 
--- and then the chip stands
+-- the threads that came and went, and then that the chip stands
 abbrev pub StandsThen : (ℕ → Bool) → Debuggee → Text → Text → NodeId → Messages → Type 0
 StandsThen before new reason description node messages =
     (changed : Messages) × ThreadsChanged before new changed × (messages ≡ changed ++ (stopped reason description node.number ∷ []))
 
--- behind a slice of a run: why it ended, where it did
+-- what is told behind a slice of a run: why the run ended, where it did
 abbrev pub StopTold : Debuggee → Option StopReason → Messages → Type 0
 StopTold p None messages = messages ≡ []
 StopTold p (Some why) messages = (message : Message) × TellsStop p why message × (messages ≡ message ∷ [])
@@ -31,7 +31,7 @@ StopTold p (Some why) messages = (message : Message) × TellsStop p why message 
 abbrev pub SliceTold : (ℕ → Bool) → Debuggee → Option StopReason → Messages → Type 0
 SliceTold before new stop messages = (changed : Messages) × (ended : Messages) × ThreadsChanged before new changed × StopTold new stop ended × (messages ≡ changed ++ ended)
 
--- behind a move back: the response, what went, and that the chip stands
+-- what is told behind a move back: the response, what went, and that the chip stands
 abbrev pub BackTold : (ℕ → Bool) → Debuggee → ClientRequest → NodeId → Text → Text → Messages → Type 0
 BackTold before new request node gone reason messages = (rest : Messages) × StandsThen before new reason (codes "gone back") node rest
     × (messages ≡ acknowledged request ∷ output_told (codes "console") gone ∷ rest)
@@ -40,7 +40,7 @@ BackTold before new request node gone reason messages = (rest : Messages) × Sta
 abbrev pub has_moved : State → State → Bool
 has_moved old new = not (length old.kept == length new.kept) || not (old.made == new.made)
 
--- behind a command, by which the machine moved or not
+-- what is told behind a command, by which the machine moved or not
 abbrev pub CommandTold : Bool → (ℕ → Bool) → Debuggee → NodeId → Messages → Type 0
 CommandTold true before new node messages = StandsThen before new (codes "goto") (codes "by a command") node messages
 CommandTold false before new node messages = messages ≡ []

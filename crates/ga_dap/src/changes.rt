@@ -31,7 +31,7 @@ fn tell_threads(
     tell_changed(alloc, before, &now, out)
 }
 
-/// The same, and that the chip stands.
+/// Tells which threads came and went, and that the chip stands.
 fn tell_standing(
     alloc: Global,
     program: &Debuggee,

@@ -96,7 +96,7 @@ fn obey(
     }
 }
 
-/// The same, where the client may give commands.
+/// Carries a command of exploring out, where the client may give commands.
 fn obey_if(
     alloc: Global,
     program: &mut Debuggee,

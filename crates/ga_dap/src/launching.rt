@@ -28,7 +28,7 @@ fn refuse_launch(
     Ok(None)
 }
 
-/// The same of a file.
+/// Refuses to launch a file.
 fn refuse_file(
     alloc: Global,
     request: &ClientRequest,

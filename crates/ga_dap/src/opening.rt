@@ -30,7 +30,7 @@ pub enum LaunchError {
     /// Memory was refused.
     #[error("out of memory")]
     Memory,
-    /// Its text has a fault.
+    /// The program's text has a fault.
     #[error("{0}")]
     Fault(String),
 }

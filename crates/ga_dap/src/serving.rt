@@ -16,11 +16,11 @@ use std::io::{Read, Write};
 /// How a session ended.
 #[derive(Clone, Copy, PartialEq, Eq, Debug)]
 pub enum SessionEnd {
-    /// By `disconnect`, or by the end of the input.
+    /// The session ended by `disconnect`, or by the end of the input.
     Done,
     /// Memory was refused to the next message, to the refusal of a request before it was begun, or to what had to be told of a change.
     Memory,
-    /// By something that is no message: behind it none can be found again.
+    /// The session ended by something that is no message: behind it none can be found again.
     Broken(Broken),
     /// A stream failed.
     StreamFault,

@@ -25,12 +25,12 @@ use std::alloc::{AllocError, Global};
 #[derive(Drop)]
 pub(crate) struct Session {
     pub launched: Option<Launched>,
-    /// Whether the client ended it.
+    /// Whether the client ended the session.
     pub is_over: bool,
 }
 
 impl Session {
-    /// One in which nothing is launched.
+    /// A session in which nothing is launched.
     pub fn new() -> Self
         ensures { result ≡ new_session }
     {
@@ -222,7 +222,7 @@ fn answer_by(
     }
 }
 
-/// The same, where the chip stands or the request doesn't ask for that.
+/// Answers a request that needs a program, where the chip stands or the request doesn't ask for that.
 fn answer_standing(
     alloc: Global,
     launched: &mut Launched,

@@ -17,13 +17,13 @@ pub enum SourceError {
     /// No file has this path.
     #[error("no such file")]
     Missing,
-    /// It is a folder.
+    /// The path is that of a folder.
     #[error("a folder")]
     Folder,
-    /// It has more than 16777216 bytes.
+    /// The file has more than 16777216 bytes.
     #[error("more than 16777216 bytes")]
     TooLong,
-    /// It can't be read.
+    /// The file can't be read.
     #[error("it can't be read")]
     Unreadable,
 }

@@ -72,7 +72,7 @@ fn tell_no_request(alloc: Global, why: RequestError, out: &mut Outbox) -> Result
     tell_output(alloc, "stderr", text.as_str(), out)
 }
 
-/// The same, and once more where memory was refused to it.
+/// Tells that a message is no request, and once more where memory was refused to that.
 fn decline(alloc: Global, why: RequestError, out: &mut Outbox) -> Progress
     ensures { DeclinesOrEnds why out.old result out.new }
 {
@@ -97,7 +97,7 @@ fn refusal_of(alloc: Global, request: &ClientRequest, seq: u64) -> Result<Outbox
     Ok(out)
 }
 
-/// The same, and once more where memory was refused to it.
+/// The refusal of a request for want of memory, made once more where memory was refused to it.
 fn refusal_for(alloc: Global, request: &ClientRequest, seq: u64) -> Result<Outbox, AllocError>
     ensures { IfOk result (λ out. SendsAll (sent_from seq) (refused_for_memory request.now) out) }
 {
@@ -211,7 +211,7 @@ fn is_time<A: Arrivals>(session: &Session, inbox: &Inbox, arrivals: &mut A) -> b
     arrivals.have_come()
 }
 
-/// One turn.
+/// One turn of a session.
 #[tactic(auto, using(crate::proofs::Turned::turned_so, crate::proofs::Turned::gone_on_so))]
 pub(crate) fn turn<S: ProgramFiles, A: Arrivals, R: Read>(
     alloc: Global,

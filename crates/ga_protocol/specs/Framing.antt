@@ -10,7 +10,7 @@ use Rattle.ga_protocol.specs.declared.framing.Front.TheVariants.{Message, Part, 
 abbrev pub content_limit : ℕ
 content_limit = 131072
 
--- the most digits that its length is written with
+-- the most digits that the length of a content part is written with
 abbrev pub digit_limit : ℕ
 digit_limit = 7
 
@@ -50,7 +50,7 @@ framed content = header_part (decimal (length content)) ++ content
 abbrev pub BeginsOne : List ℕ → Type 0
 BeginsOne bytes = (content more : List ℕ) × (1 ≤ length more) × IsMessage content (bytes ++ more)
 
--- whatever comes behind them, no message stands first
+-- whatever comes behind some bytes, no message stands first
 abbrev pub BeginsNone : List ℕ → Type 0
 BeginsNone bytes = (content text more after : List ℕ) → IsMessage content text → bytes ++ more ≡ text ++ after → ⊥
 

@@ -10,7 +10,7 @@ use Rattle.ga_protocol.specs.declared.request.RequestError.TheVariants.{Memory, 
 unfoldable pub response : ℕ → ℕ → List ℕ → Data → Data
 response seq request command body = object (member (codes "body") body (member (codes "command") (string command) (member (codes "request_seq") (number (unsigned request)) (member (codes "seq") (number (unsigned seq)) (member (codes "success") (boolean true) (member (codes "type") (string (codes "response")) no_members))))))
 
--- the same without a body
+-- the response without a body to a request that was carried out
 unfoldable pub bare_response : ℕ → ℕ → List ℕ → Data
 bare_response seq request command = object (member (codes "command") (string command) (member (codes "request_seq") (number (unsigned request)) (member (codes "seq") (number (unsigned seq)) (member (codes "success") (boolean true) (member (codes "type") (string (codes "response")) no_members)))))
 
@@ -18,11 +18,11 @@ bare_response seq request command = object (member (codes "command") (string com
 unfoldable pub error_response : ℕ → ℕ → List ℕ → List ℕ → Data
 error_response seq request command why = object (member (codes "body") (object (member (codes "error") (object (member (codes "format") (string why) (member (codes "id") (number (unsigned 1)) no_members))) no_members)) (member (codes "command") (string command) (member (codes "message") (string why) (member (codes "request_seq") (number (unsigned request)) (member (codes "seq") (number (unsigned seq)) (member (codes "success") (boolean false) (member (codes "type") (string (codes "response")) no_members)))))))
 
--- an event
+-- an event with a body
 unfoldable pub event : ℕ → List ℕ → Data → Data
 event seq name body = object (member (codes "body") body (member (codes "event") (string name) (member (codes "seq") (number (unsigned seq)) (member (codes "type") (string (codes "event")) no_members))))
 
--- the same without a body
+-- an event without a body
 unfoldable pub bare_event : ℕ → List ℕ → Data
 bare_event seq name = object (member (codes "event") (string name) (member (codes "seq") (number (unsigned seq)) (member (codes "type") (string (codes "event")) no_members)))
 

@@ -5,7 +5,7 @@ use Rattle.serde_json.specs.Read.{max_depth, read}
 use Rattle.serde_json.specs.Written.{has_float, compact_text}
 use Rattle.ga_protocol.specs.Framing.{framed}
 
--- the bytes, and the number of the last message
+-- messages that are to be written: the bytes, and the number of the last message
 pub record SentMessages : Type 0 where
   pub bytes : List ℕ
   pub seq : ℕ

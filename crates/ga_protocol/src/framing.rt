@@ -72,7 +72,7 @@ fn length_of(digits: &[u8]) -> Option<usize>
     Some(number)
 }
 
-/// What stands first. Takes no memory, and time by the header alone.
+/// What stands first in some bytes. Takes no memory, and time by the header alone.
 pub fn front_of(bytes: &[u8]) -> Front
     ensures { Finds bytes.now result }
 {
@@ -98,7 +98,7 @@ fn value_behind(bytes: &[u8]) -> (&[u8], &[u8])
     behind.split_at(count)
 }
 
-/// What stands first, where the field's name does.
+/// What stands first in some bytes, where the field's name does.
 fn front_behind(bytes: &[u8]) -> Front
     requires long { 16 ≤ length bytes.now }
     requires name { take 16 bytes.now ≡ field }
@@ -127,7 +127,7 @@ fn front_behind(bytes: &[u8]) -> Front
     }
 }
 
-/// What stands first, where no digit stands behind the field's name.
+/// What stands first in some bytes, where no digit stands behind the field's name.
 fn without_digit(rest: &[u8]) -> Front
     requires { 0 < length rest.now → IsDigit (slice_index rest.now 0) → ⊥ }
     ensures { Finds (field ++ rest.now) result }

@@ -32,7 +32,7 @@ impl Outbox {
     ghost use Rattle.ga_protocol.specs.Messages.{response, bare_response, error_response, event as event_with, bare_event};
     ghost use Rattle.ga_protocol.specs.Sent.{next_seq, IsSent};
 
-    /// Nothing to be written.
+    /// An outbox with nothing to be written.
     pub fn new(alloc: Global) -> Self
         ensures { result ≡ record { bytes = []; seq = 0 } }
     {
@@ -104,7 +104,7 @@ impl Outbox {
         self.push(seq, message)
     }
 
-    /// The same for a request that has nothing to tell.
+    /// Adds the response without a body to a request that was carried out and has nothing to tell.
     ///
     /// # Errors
     /// Memory was refused; nothing is added.

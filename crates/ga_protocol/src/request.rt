@@ -13,11 +13,11 @@ use thiserror::Error;
 /// A request of the client.
 #[derive(Drop)]
 pub struct ClientRequest {
-    /// Its number, by which it is answered.
+    /// The number of the request, by which it is answered.
     pub seq: u64,
     /// What is asked for.
     pub command: String,
-    /// Its arguments; null where it has none.
+    /// The arguments of the request; null where it has none.
     pub arguments: Value,
 }
 
@@ -27,16 +27,16 @@ pub enum RequestError {
     /// Memory was refused.
     #[error("out of memory")]
     Memory,
-    /// It is no JSON, or nests deeper than 127.
+    /// The content part is no JSON, or nests deeper than 127.
     #[error("a message is no JSON")]
     Json,
-    /// Its type is not `request`.
+    /// The type of the value is not `request`.
     #[error("a message is no request")]
     Kind,
-    /// It has no number.
+    /// The request has no number.
     #[error("a request has no `seq`")]
     Seq,
-    /// It has no command.
+    /// The request has no command.
     #[error("a request has no `command`")]
     Command,
 }

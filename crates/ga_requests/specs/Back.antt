@@ -35,7 +35,8 @@ abbrev pub stepped_by : Grain → Debuggee → NodeId → Debuggee
 stepped_by Instruction p node = record p { lab = stepped_back p.lab node }
 stepped_by Line p node = record p { lab = stepped_back_line (program_notes p) p.lab node }
 
--- `reverseContinue`: to the newest step by which it came to a breakpoint of its own, or right before it wrote a watched cell
+-- `reverseContinue`: the node is gone back to the newest step by which it came to a breakpoint of its own, or right before it wrote a
+-- watched cell
 abbrev pub reversed_by : Debuggee → NodeId → List Breakpoint → Debuggee
 reversed_by p node points = record p { lab = reversed_to p.lab node points }
 
@@ -54,7 +55,7 @@ gone_with_it n before left = if nat_lt left before then gone_line n (left + 1) b
 abbrev pub gone_of : ℕ → List ℕ → State → ℕ → Text
 gone_of node before s n = if n == node then [] else gone_with_it n (slice_index_or before n 0) (steps_of n s.kept)
 
--- of the first nodes
+-- the lines for the first nodes of which steps went, but for the node that was gone back
 unfoldable pub gone_below : ℕ → List ℕ → State → ℕ → Text
 gone_below node before s zero = []
 gone_below node before s (suc n) = gone_below node before s n ++ gone_of node before s n
@@ -64,7 +65,7 @@ gone_head node removed s =
     codes "rewind " ++ name_of_node node ++ codes " " ++ decimal (steps_of node.number s.kept + 1) ++ codes ": removed " ++ decimal removed ++ codes " kept "
     ++ decimal (length s.kept) ++ codes "\n"
 
--- where these many steps of each node were kept before, and so many events went
+-- what is told where these many steps of each node were kept before, and so many events went
 abbrev pub gone_words : NodeId → List ℕ → ℕ → State → Text
 gone_words node before removed s = gone_head node removed s ++ gone_below node.number before s 144
 

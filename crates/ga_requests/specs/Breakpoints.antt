@@ -21,7 +21,7 @@ use Rattle.ga_responses.specs.Sending.{Message, answered, acknowledged, refused_
 
 -- ---- breakpoints
 
--- another request set it
+-- a request that sets breakpoints, by a number; and another request set a breakpoint
 abbrev pub family_number : Family → ℕ
 family_number family.Source = 0
 family_number family.Function = 1
@@ -31,11 +31,11 @@ family_number family.Data = 3
 abbrev pub is_of_another : Family → SetBy → Bool
 is_of_another kind one = not (family_number one.family == family_number kind)
 
--- those that other requests set stay, and those that are asked for come behind them
+-- the breakpoints that other requests set stay, and those that are asked for come behind them
 abbrev pub left_by : Family → Configuration → Placement
 left_by kind set = record { told = []; placed = filter (is_of_another kind) set.points.placed.items; next = set.points.next_id }
 
--- these are set now, and what else the client set stays
+-- these breakpoints are set now, and what else the client set stays
 pub record IsSetTo (placement : Placement) (set new : Configuration) : Type 0 where
   pub placed : new.points.placed.items ≡ placement.placed
   pub points : new.points.points.items ≡ map (λ (one : SetBy). one.breakpoint) placement.placed
@@ -50,7 +50,7 @@ SetsPoints p kind set request message new =
     (placement : Placement) × Places p kind (member_values (codes "breakpoints") (view request.arguments)) (left_by kind set) placement
     × (message ≡ answered request (breakpoints_body placement.told)) × IsSetTo placement set new
 
--- `setBreakpoints`, for the program's own file; in another none can stand
+-- `setBreakpoints`, for the program's own file; in another no breakpoint can stand
 abbrev pub is_same_text : Text → Option Text → Bool
 is_same_text name None = false
 is_same_text name (Some text) = bytes_eq text name
@@ -78,11 +78,11 @@ SetsLines p set request message new = SetsLinesIf (is_own_file p (view request.a
 abbrev pub is_text : Text → Data → Bool
 is_text name d = is_same_text name (as_str d)
 
--- a node that stops, or that can never go on, ends a run
+-- a filter: a node that stops, or that can never go on, ends a run
 abbrev pub is_filter : Data → Bool
 is_filter d = is_text (codes "stop") d || is_text (codes "stuck") d
 
--- the filters that are asked for, where each is one
+-- the filters that are asked for are set, where each is one
 abbrev pub SetsFiltersIf : Bool → List Data → Configuration → ClientRequest → Message → Configuration → Type 0
 SetsFiltersIf true names set request message new =
     (message ≡ acknowledged request) × (new ≡ record set { stops = list_any (is_text (codes "stop")) names; stuck = list_any (is_text (codes "stuck")) names })

@@ -22,7 +22,7 @@ use Rattle.ga_responses.specs.Events.{IsFirstShown}
 use Rattle.ga_requests.specs.Stopping.{stopped}
 use Rattle.ga_responses.specs.Sending.{Message, Messages, answered, acknowledged, refused_response}
 
--- a run for this is under way, that counts the kept hits first; the chip stands
+-- a run for this goal is under way, that counts the kept hits first; or none is, and the chip stands
 abbrev pub begun : Execution → Goal → Execution
 begun r goal = record r { goal = Some goal; tally = None }
 
@@ -36,7 +36,7 @@ continued = object (member (codes "allThreadsContinued") (boolean true) no_membe
 abbrev pub Continues : Execution → ClientRequest → Messages → Execution → Type 0
 Continues r request messages new = (messages ≡ answered request continued ∷ []) × (new ≡ begun r Continue)
 
--- the move of a node that is asked for: no call is open from which it could come back, or there is one
+-- the move of a node that is asked for; none where no call is open from which it could come back
 abbrev pub stepping_of : Debuggee → StepKind → NodeId → Data → Option Stepping
 stepping_of p Over node d = Some (step_over node (grain_asked p d))
 stepping_of p In node d = Some (step_in node (grain_asked p d))

@@ -49,7 +49,7 @@ is_label label name = bytes_eq name.text.items label
 abbrev pub at_name : Name → Option Breakpoint
 at_name name = breakpoint_of_address name.node name.address
 
--- of the first node that has it
+-- a breakpoint at the label of the first node that has it
 abbrev pub at_any_label : List Name → Text → Option Breakpoint
 at_any_label names label = option_and_then at_name (option_and_then (slice_get names) (position (is_label label) names))
 
@@ -120,7 +120,7 @@ then_hits before d (Ok place) = with_hits place before (member_text (codes "hitC
 abbrev pub asked_there : FoundPlace → ℕ → Data → Result FoundPlace Unplaced
 asked_there place before d = then_hits before d (with_condition place (member_text (codes "condition") d))
 
--- where so many stand before it
+-- the breakpoint that is asked for, where so many stand before it; else why it is not set
 abbrev pub asked_at : Option FoundPlace → ℕ → Data → Result FoundPlace Unplaced
 asked_at None before d = Err Nowhere
 asked_at (Some place) before d = asked_there place before d

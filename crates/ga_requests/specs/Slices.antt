@@ -39,12 +39,12 @@ slice_limit = 4096
 
 -- ---- the events
 
--- how often each breakpoint was hit before them: as the slice before left it, or as the kept events say
+-- how often each breakpoint was hit before a slice: as the slice before left it, or as the kept events say
 abbrev pub tally_begun : State → Configuration → Option HitTally → HitTally
 tally_begun s set None = kept_tally s set.points.points.items
 tally_begun s set (Some tally) = tally
 
--- of `continue`
+-- a slice of the events of `continue`
 abbrev pub GoesOn : Debuggee → Configuration → Execution → Debuggee → Execution → Went → Type 0
 GoesOn p set r new next went =
     (running new.lab went.schedule ≡ after_events (running p.lab r.schedule) went.events) × (went.events ≤ slice_limit)
@@ -52,7 +52,7 @@ GoesOn p set r new next went =
     × HasGone (going_on set.points.points.items (tally_begun p.lab set r.tally) set.stops (running p.lab r.schedule)) (running p.lab r.schedule) slice_limit went.events went.halt
     × (new ≡ record p { lab = new.lab }) × (next ≡ record r { schedule = went.schedule; tally = Some went.tally })
 
--- of a step of one node
+-- a slice of the events of a step of one node
 abbrev pub StepsOn : Stepping → Debuggee → Configuration → Execution → Debuggee → Execution → Went → Type 0
 StepsOn by p set r new next went =
     (running new.lab went.schedule ≡ after_first (Some by.node) (running p.lab r.schedule) went.events) × (went.events ≤ slice_limit)
@@ -72,7 +72,7 @@ abbrev pub node_told : Made → NodeId
 node_told (Own node step kind) = node
 node_told (Pass writer i reader j word) = reader
 
--- at a breakpoint
+-- why a run ends at a breakpoint of this number
 abbrev pub hit_by : NodeId → ℕ → Watched → StopReason
 hit_by node id (watched.Comes spot) = stop.Breakpoint node id
 hit_by node id (watched.Writes address) = stop.Write node id
@@ -88,12 +88,12 @@ id_of (Some placed) = placed.id
 abbrev pub hit_at : Configuration → Made → ℕ → StopReason
 hit_at set told place = hit_of (slice_get set.points.points.items place) (id_of (slice_get set.points.placed.items place)) told
 
--- at its end
+-- why a run ends where its move came to its end
 abbrev pub end_of_move : Goal → Made → StopReason
 end_of_move Continue told = stop.Step (node_told told)
 end_of_move (Step by) told = stop.Step by.node
 
--- where a node came to be stuck that was not before, and where the filter says so
+-- why a run ends: a node came to be stuck that was not before, where the filter says so; else another reason
 abbrev pub ended_stuck : Bool → Option NodeId → Option StopReason → Option StopReason
 ended_stuck true (Some node) other = Some (stop.Stuck node)
 ended_stuck asked stuck other = other
@@ -112,14 +112,14 @@ stop_by set goal stuck halt.Quiet = ended_stuck set.stuck stuck (Some stop.Quiet
 abbrev pub MarksStuck : List NodeRecord → (ℕ → Bool) → Type 0
 MarksStuck chip marks = AreStuck chip marks × ((others : ℕ → Bool) → AreStuck chip others → IsSubset others marks)
 
--- a node that has something to show, and isn't stopped, is in it now and was not before
+-- a node that has something to show, and isn't stopped, can never go on now and could before
 abbrev pub is_newly_by : Bool → Bool → Debuggee → ℕ → Bool
 is_newly_by before now p n = now && not before && has_thread p.lab p.nodes.items n && (record_at (chip_of p.lab) n).stop == 0
 
 abbrev pub is_newly : (ℕ → Bool) → (ℕ → Bool) → Debuggee → ℕ → Bool
 is_newly before now p n = is_newly_by (before n) (now n) p n
 
--- the first such node, if there is one
+-- the first node that has something to show, isn't stopped, and came to be stuck, if there is one
 abbrev pub IsFirstNewly : (ℕ → Bool) → (ℕ → Bool) → Debuggee → Option NodeId → Type 0
 IsFirstNewly before now p None = (n : ℕ) → n < 144 → is_newly before now p n ≡ false
 IsFirstNewly before now p (Some node) = (is_newly before now p node.number ≡ true) × ((n : ℕ) → n < node.number → is_newly before now p n ≡ false)

@@ -31,7 +31,7 @@ hit reason description n id = event_told (codes "stopped") (hit_body reason desc
 abbrev pub fault_message : Debuggee → ℕ → Text → Message
 fault_message p n behind = stopped (codes "exception") (codes "node " ++ named_activity (chip_of p.lab) n ++ behind) n
 
--- where a run ended so; where it did at no node, the first that has something to show is told
+-- `stopped` where a run ended for this reason; where it did at no node, the first that has something to show is told
 abbrev pub stop_message : Debuggee → ℕ → StopReason → Message
 stop_message p first (stop.Step node) = stopped (codes "step") (codes "step") node.number
 stop_message p first (stop.Breakpoint node id) = hit (codes "breakpoint") (codes "breakpoint") node.number id

@@ -46,7 +46,7 @@ fn step_by(program: &mut Debuggee, node: NodeId, grain: Grain)
     }
 }
 
-/// The same by a line.
+/// Goes back with a node by a line.
 fn step_line(program: &mut Debuggee, node: NodeId)
     ensures { program.new ≡ stepped_by Grain.Line program.old node }
 {

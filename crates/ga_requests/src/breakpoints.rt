@@ -38,7 +38,7 @@ fn elsewhere(alloc: Global) -> Result<Value, AllocError>
     json!(in alloc; {"message": "the program is another file", "verified": false})
 }
 
-/// What is told of each where another file is asked for.
+/// What is told of each breakpoint where another file is asked for.
 #[tactic(auto, using(std::proofs::lemmas::List::map_push, std::proofs::lemmas::List::replicate_more))]
 fn place_nowhere(alloc: Global, count: usize) -> Result<Vec<Value>, AllocError>
     ensures { IfOk result (λ list. map view list.items ≡ replicate count elsewhere) }
@@ -59,7 +59,7 @@ fn breakpoints_body(alloc: Global, list: Vec<Value>) -> Result<Value, AllocError
     Ok(Value::Object(map))
 }
 
-/// `setBreakpoints`: those on lines of the file are replaced.
+/// `setBreakpoints`: the breakpoints on lines of the file are replaced.
 pub fn set_lines(
     alloc: Global,
     program: &Debuggee,
@@ -85,7 +85,7 @@ fn count_asked(arguments: &Value) -> usize
     values_at(arguments, "breakpoints").len()
 }
 
-/// Tells that none stands in another file.
+/// Tells that no breakpoint stands in another file.
 fn tell_nowhere(alloc: Global, request: &ClientRequest, out: &mut Outbox) -> Result<(), AllocError>
     ensures sent { OnOk result (Sends out.old (answered request.now (breakpoints_body (replicate (length (member_values (codes "breakpoints") (view request.now.arguments))) elsewhere))) out.new) }
     ensures err { OnErr result (out.new ≡ out.old) }
@@ -96,7 +96,7 @@ fn tell_nowhere(alloc: Global, request: &ClientRequest, out: &mut Outbox) -> Res
     out.respond(request, body)
 }
 
-/// Nothing is placed yet behind those that other requests set.
+/// No breakpoint is placed yet behind those that other requests set.
 fn placing_new(alloc: Global, placed: Vec<SetBy>, next: u64) -> Placing
     ensures { placement_of result ≡ record { told = []; placed = placed.items; next = next } }
 {
@@ -125,7 +125,7 @@ fn placing_of(
     Ok(placing)
 }
 
-/// These are set, and it is told of each.
+/// Sets the breakpoints that were placed, and tells of each.
 fn set_placing(
     alloc: Global,
     placing: Placing,
@@ -207,7 +207,7 @@ fn has_filter(items: &[Value], name: &str) -> bool
     one_is_text(items, name)
 }
 
-/// Sets the filters, where each is one.
+/// Sets the filters that are asked for, where each item is the name of one.
 fn set_filters_if(
     settings: &mut Configuration,
     filters: &[Value],

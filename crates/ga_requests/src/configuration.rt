@@ -32,9 +32,9 @@ pub struct SetBy {
 #[derive(Drop)]
 pub struct Points {
     pub points: Vec<Breakpoint>,
-    /// The same with who set them.
+    /// The breakpoints that are set, with who set them.
     pub placed: Vec<SetBy>,
-    /// The number of the next one.
+    /// The number of the next breakpoint.
     pub next_id: u64,
 }
 
@@ -67,7 +67,7 @@ fn is_of_another(family: Family, one: SetBy) -> bool
     family_number(one.family) != family_number(family)
 }
 
-/// The breakpoints alone.
+/// The breakpoints of a list, without who set them.
 pub(crate) fn breakpoints_of(alloc: Global, placed: &[SetBy]) -> Result<Vec<Breakpoint>, AllocError>
     ensures { IfOk result (λ list. list.items ≡ map (λ (one : ASetBy). one.breakpoint) placed.now) }
 {
@@ -84,7 +84,7 @@ impl Points {
     ghost use Rattle.ga_requests.specs.Breakpoints.{is_of_another};
     ghost use Rattle.ga_requests.specs.Slices.{id_of};
 
-    /// None.
+    /// No breakpoints.
     pub fn none(alloc: Global) -> Self
         ensures points { result.points.items ≡ [] }
         ensures placed { result.placed.items ≡ [] }
@@ -97,7 +97,7 @@ impl Points {
         }
     }
 
-    /// Those that other requests set.
+    /// The breakpoints that other requests set.
     pub fn left_by(&self, alloc: Global, family: Family) -> Result<Vec<SetBy>, AllocError>
         ensures { IfOk result (λ list. list.items ≡ filter (is_of_another family) self.now.placed.items) }
     {
@@ -110,7 +110,7 @@ impl Points {
         Ok(list)
     }
 
-    /// The number of the one at a place.
+    /// The number of the breakpoint at a place.
     pub fn id_at(&self, place: usize) -> u64
         ensures { result ≡ id_of (slice_get self.now.placed.items place) }
     {
@@ -120,7 +120,7 @@ impl Points {
         }
     }
 
-    /// The one at a place.
+    /// The breakpoint at a place.
     pub fn point_at(&self, place: usize) -> Option<Breakpoint>
         ensures { result ≡ slice_get self.now.points.items place }
     {
@@ -134,7 +134,7 @@ impl Points {
 impl Configuration {
     ghost use Rattle.std.specs.Prelude.{◌≡◌, [], true};
 
-    /// As they are before the client sets anything: each fault ends a run.
+    /// What is set before the client sets anything: no breakpoint, and each fault ends a run.
     pub fn new(alloc: Global) -> Self
         ensures points { result.points.points.items ≡ [] }
         ensures placed { result.points.placed.items ≡ [] }

@@ -41,7 +41,7 @@ pub fn configure(
     configure_if(alloc, program, execution, request, done, out)
 }
 
-/// The same, where it is done or isn't.
+/// `configurationDone`: refused where it is done, and else carried out.
 fn configure_if(
     alloc: Global,
     program: &Debuggee,
@@ -60,7 +60,7 @@ fn configure_if(
     }
 }
 
-/// Answers, and tells of the threads.
+/// Answers `configurationDone`, and tells of the threads.
 fn tell_threads_started(
     alloc: Global,
     request: &ClientRequest,
@@ -73,7 +73,7 @@ fn tell_threads_started(
     tell_changed(alloc, &[false; 144], now, out)
 }
 
-/// The same for the first time.
+/// `configurationDone` for the first time: the threads are told, and the chip stands at load or runs.
 fn configure_once(
     alloc: Global,
     program: &Debuggee,

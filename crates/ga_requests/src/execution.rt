@@ -115,7 +115,7 @@ fn is_newly(program: &Debuggee, before: bool, now: bool, node: NodeId) -> bool
     now && !before && has_thread(lab, program.nodes.as_slice(), node) && lab.node(node).stop() == 0
 }
 
-/// The same by marks of the nodes.
+/// Whether a node that has something to show, and isn't stopped, can never go on and could before, by marks of the nodes.
 fn is_newly_marked(
     program: &Debuggee,
     before: &[bool; 144],
@@ -127,7 +127,7 @@ fn is_newly_marked(
     is_newly(program, before[node.index()], now[node.index()], node)
 }
 
-/// The first such node.
+/// The first node that has something to show, isn't stopped, and can never go on but could before.
 fn newly_stuck(program: &Debuggee, before: &[bool; 144], now: &[bool; 144]) -> Option<NodeId>
     ensures { IsFirstNewly (is_marked before.now) (is_marked now.now) program.now result }
 {
@@ -231,7 +231,7 @@ fn end_of_move(goal: Goal, made: Made) -> StopReason
     }
 }
 
-/// Where a node came to be stuck, and where that ends a run; else another reason.
+/// Why a run ends: a node came to be stuck, where that ends it; else another reason.
 fn ended_stuck(asked: bool, stuck: Option<NodeId>, other: Option<StopReason>) -> Option<StopReason>
     ensures { result ≡ ended_stuck asked stuck other }
 {
@@ -282,7 +282,7 @@ pub fn make_slice(
     make_slice_for(program, settings, execution, goal)
 }
 
-/// The same of a run that is for this, where one is under way.
+/// Makes a slice of the events of a run that is for this, where one is under way, and says why it ended, where it did.
 fn make_slice_for(
     program: &mut Debuggee,
     settings: &Configuration,
@@ -297,7 +297,7 @@ fn make_slice_for(
     }
 }
 
-/// The same of a run that is under way.
+/// Makes a slice of the events of a run that is under way for this, and says why it ended, where it did.
 fn make_slice_of(
     program: &mut Debuggee,
     settings: &Configuration,

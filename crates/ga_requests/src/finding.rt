@@ -31,11 +31,11 @@ pub struct FoundPlace {
 pub enum Unplaced {
     /// There is no such place.
     Nowhere,
-    /// Its condition is none.
+    /// The breakpoint's condition can't be read.
     Condition,
-    /// Its hit condition is none.
+    /// The breakpoint's hit condition can't be read.
     Hits,
-    /// Hits are counted of so many already as may be.
+    /// Hits are counted of as many breakpoints already as may be.
     Uncounted,
 }
 
@@ -51,7 +51,7 @@ pub fn found(program: &Debuggee, family: Family, asked: &Value) -> Option<FoundP
     }
 }
 
-/// Why there is no such place.
+/// Why there is no such place as a breakpoint is asked for at.
 fn unfound(family: Family) -> &'static str
     ensures { result.now ≡ unfound_words family }
 {
@@ -76,7 +76,7 @@ pub fn unplaced_reason(family: Family, why: Unplaced) -> &'static str
     }
 }
 
-/// With the condition that a text says.
+/// A breakpoint at a place, with the condition that a text says.
 fn on_condition(place: FoundPlace, text: &[u8]) -> Result<FoundPlace, Unplaced>
     ensures { result ≡ on_condition place (condition_said text.now) }
 {
@@ -92,7 +92,7 @@ fn on_condition(place: FoundPlace, text: &[u8]) -> Result<FoundPlace, Unplaced>
     }
 }
 
-/// With the condition that is asked for, where one is.
+/// A breakpoint at a place, with the condition that is asked for, where one is.
 fn with_condition(place: FoundPlace, asked: &Value) -> Result<FoundPlace, Unplaced>
     ensures { result ≡ with_condition place (member_text (codes "condition") (view asked.now)) }
 {
@@ -102,7 +102,7 @@ fn with_condition(place: FoundPlace, asked: &Value) -> Result<FoundPlace, Unplac
     }
 }
 
-/// With the hits that a text says, where so many breakpoints stand before it.
+/// A breakpoint at a place, with the hits that a text says, where so many breakpoints stand before it.
 fn on_hits(place: FoundPlace, before: usize, text: &[u8]) -> Result<FoundPlace, Unplaced>
     ensures { result ≡ on_hits place before (hits_said text.now) }
 {
@@ -124,7 +124,7 @@ fn on_hits(place: FoundPlace, before: usize, text: &[u8]) -> Result<FoundPlace, 
     }
 }
 
-/// With the hits that are asked for, where any are.
+/// A breakpoint at a place, with the hits that are asked for, where any are.
 fn with_hits(place: FoundPlace, before: usize, asked: &Value) -> Result<FoundPlace, Unplaced>
     ensures { result ≡ with_hits place before (member_text (codes "hitCondition") (view asked.now)) }
 {
@@ -134,7 +134,7 @@ fn with_hits(place: FoundPlace, before: usize, asked: &Value) -> Result<FoundPla
     }
 }
 
-/// At a place, where its condition and its hit condition can be read.
+/// The breakpoint that is asked for at a place, where its condition and its hit condition can be read.
 fn asked_there(place: FoundPlace, before: usize, asked: &Value) -> Result<FoundPlace, Unplaced>
     ensures { result ≡ asked_there place before (view asked.now) }
 {
@@ -175,7 +175,7 @@ fn found_on_line(notes: &Notes, asked: &Value) -> Option<FoundPlace>
     })
 }
 
-/// One that stands on no line.
+/// The place of a breakpoint that stands on no line.
 fn on_no_line(point: Option<Breakpoint>) -> Option<FoundPlace>
     ensures { result ≡ option_map on_no_line point }
 {
@@ -201,7 +201,7 @@ fn label_place(names: &[Name], label: &[u8]) -> Option<usize>
     names.iter().position(|name| is_label(name, label))
 }
 
-/// At the label of the first node that has it.
+/// A breakpoint at the label of the first node that has it.
 fn at_any_label(names: &[Name], label: &[u8]) -> Option<Breakpoint>
     ensures { result ≡ at_any_label names.now label.now }
 {
@@ -212,7 +212,7 @@ fn at_any_label(names: &[Name], label: &[u8]) -> Option<Breakpoint>
     }
 }
 
-/// At the label of a node.
+/// A breakpoint at the label of a node.
 fn at_label_of(notes: &Notes, node: NodeId, label: &[u8]) -> Option<Breakpoint>
     ensures { result ≡ at_label_of notes.now.names.items node label.now }
 {
@@ -241,7 +241,7 @@ fn node_named_before(text: &[u8]) -> Option<NodeId>
     }
 }
 
-/// At a label: `NNN LABEL`, `NNN:LABEL` or `LABEL`.
+/// A breakpoint at a label: `NNN LABEL`, `NNN:LABEL` or `LABEL`.
 fn at_label(notes: &Notes, text: &[u8]) -> Option<Breakpoint>
     ensures { result ≡ at_label notes.now.names.items text.now }
 {
@@ -263,7 +263,7 @@ fn found_at_label(notes: &Notes, asked: &Value) -> Option<FoundPlace>
     }
 }
 
-/// At so many addresses behind a cell.
+/// A breakpoint at so many addresses behind a cell.
 fn at_cell_on(on: u32, at: (NodeId, u8)) -> Option<Breakpoint>
     requires { on < 4096 }
     ensures { result ≡ at_cell_on on at }
@@ -276,7 +276,7 @@ fn at_cell_on(on: u32, at: (NodeId, u8)) -> Option<Breakpoint>
     }
 }
 
-/// Where a reference to memory leads, and behind it.
+/// A breakpoint at so many addresses behind the cell of a reference to memory.
 fn behind_reference(reference: Option<&str>, on: u32) -> Option<Breakpoint>
     requires { on < 4096 }
     ensures { IsReferredBy (at_cell_on on) (option_map (λ text. text.now) reference.entry) result }
@@ -297,7 +297,7 @@ fn behind_text(text: &str, on: u32) -> Option<Breakpoint>
     }
 }
 
-/// How many addresses behind the reference.
+/// How many addresses behind the reference a breakpoint is asked for.
 fn cells_given(asked: &Value) -> u32
     ensures value { result ≡ cells_on (offset_given (codes "offset") (view asked.now)) }
     ensures most { result < 4096 }
@@ -313,7 +313,7 @@ fn found_at_address(program: &Debuggee, asked: &Value) -> Option<FoundPlace>
     on_no_line(behind_reference(text_at(asked, "instructionReference"), on))
 }
 
-/// That a cell of RAM is written.
+/// A breakpoint that is hit where a cell of RAM is written.
 fn on_writes(at: (NodeId, u8)) -> Option<Breakpoint>
     ensures { result ≡ on_writes at }
 {
@@ -329,7 +329,7 @@ fn on_writes(at: (NodeId, u8)) -> Option<Breakpoint>
     }
 }
 
-/// That the cell of a reference to memory is written.
+/// A breakpoint that is hit where the cell of a reference to memory is written.
 fn writes_referred(reference: Option<&str>) -> Option<Breakpoint>
     ensures { IsReferredBy on_writes (option_map (λ text. text.now) reference.entry) result }
 {

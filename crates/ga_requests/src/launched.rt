@@ -42,7 +42,7 @@ fn set_lines_of(
     Ok(())
 }
 
-/// The same of breakpoints that stand on no line.
+/// Sets the breakpoints on no line that a request asks for. Hits are counted anew.
 fn set_points_of(
     alloc: Global,
     launched: &mut Launched,
@@ -59,7 +59,7 @@ fn set_points_of(
     Ok(())
 }
 
-/// The same of filters.
+/// `setExceptionBreakpoints`. Hits are counted anew.
 #[tactic(auto, using(crate::proofs::Answered::sets_so))]
 fn set_filters_of(
     launched: &mut Launched,

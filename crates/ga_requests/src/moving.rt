@@ -137,7 +137,7 @@ fn can_step(lab: &Lab, node: NodeId) -> bool
     lab.node(node).stop() == 0
 }
 
-/// The same of a node.
+/// `next`, `stepIn` and `stepOut` of a node.
 fn begin_step_of(
     program: &Debuggee,
     execution: &mut Execution,

@@ -16,11 +16,11 @@ use std::alloc::{AllocError, Global};
 /// What came of the breakpoints of a request so far.
 #[derive(Drop)]
 pub struct Placing {
-    /// What is told of each.
+    /// What is told of each breakpoint.
     pub told: Vec<Value>,
     /// The breakpoints that are set.
     pub placed: Vec<SetBy>,
-    /// The number of the next one.
+    /// The number of the next breakpoint.
     pub next: u64,
 }
 

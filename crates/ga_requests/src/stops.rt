@@ -42,7 +42,7 @@ fn text_behind(alloc: Global, info: &Value, behind: &str) -> Result<String, Allo
     Ok(text)
 }
 
-/// A node that can't go on, and why.
+/// Tells of a node that can't go on, and why.
 fn tell_fault(
     alloc: Global,
     program: &Debuggee,
@@ -58,7 +58,7 @@ fn tell_fault(
     tell_stopped(alloc, "exception", text.as_str(), node, out)
 }
 
-/// `stopped` where a run ended so.
+/// `stopped` where a run ended for this reason.
 #[tactic(auto, using(ga_responses::proofs::Sent::ok_then))]
 pub fn tell_stop(
     alloc: Global,
@@ -73,7 +73,7 @@ pub fn tell_stop(
     tell_stop_at(alloc, program, stop, first, out)
 }
 
-/// The same, where this is the first node that has something to show.
+/// `stopped` where a run ended for this reason, and this is the first node that has something to show.
 fn tell_stop_at(
     alloc: Global,
     program: &Debuggee,

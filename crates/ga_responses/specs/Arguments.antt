@@ -33,7 +33,7 @@ abbrev pub AsksOfThread : Data → Option NodeId → Type 0
 AsksOfThread d (Some node) = member_number (codes "threadId") d ≡ Some (thread_of node.number)
 AsksOfThread d None = (n : ℕ) → n < 144 → member_number (codes "threadId") d ≢ Some (thread_of n)
 
--- the same of a frame
+-- the node of the frame that is asked for, or that there is none
 abbrev pub AsksOfFrame : Data → Option NodeId → Type 0
 AsksOfFrame d (Some node) = (level : ℕ) × (level < 16) × (member_number (codes "frameId") d ≡ Some (frame_of node.number level))
 AsksOfFrame d None = (n level : ℕ) → n < 144 → level < 16 → member_number (codes "frameId") d ≢ Some (frame_of n level)

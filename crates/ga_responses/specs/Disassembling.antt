@@ -18,7 +18,7 @@ use Rattle.ga_responses.specs.Sending.{Message, answered, refused_response}
 
 -- ---- A program that was launched
 
--- what its source says of the cells
+-- what the source of a program says of the cells
 abbrev pub notes_or : Option Notes → Notes → Notes
 notes_or None unsaid = unsaid
 notes_or (Some notes) unsaid = notes
@@ -26,7 +26,7 @@ notes_or (Some notes) unsaid = notes
 abbrev pub program_notes : Debuggee → Notes
 program_notes p = notes_or p.source p.unsaid
 
--- the file that it is
+-- the file of a program
 abbrev pub IsFileOf : Debuggee → SourceFile → Type 0
 IsFileOf p file = (file.name.now ≡ string_bytes p.name) × (file.path.now ≡ string_bytes p.path)
 
@@ -46,14 +46,14 @@ RefersTo text None = (n cell : ℕ) → n < 144 → cell < 256 → SpellsReferen
 abbrev pub offset_given : Text → Data → ℤ
 offset_given name d = unwrap_or (option_and_then as_i64 (option_and_then as_number (get name d))) (pos 0)
 
--- so many addresses on, of the 4096 of a node, of which the first comes behind the last
+-- how many addresses on an offset leads, of the 4096 of a node, of which the first comes behind the last
 abbrev pub cells_on : ℤ → ℕ
 cells_on offset = unsigned_abs (int_rem_euclid offset (pos 4096))
 
 abbrev pub first_told : Data → ℕ → ℕ
 first_told d cell = (cell + (cells_on (offset_given (codes "offset") d) + cells_on (offset_given (codes "instructionOffset") d))) % 4096
 
--- so many instructions, and 4096 at most
+-- so many instructions are told, and 4096 at most
 abbrev pub TellsInstructions : Debuggee → ClientRequest → NodeId × ℕ → Option ℕ → Message → Type 0
 TellsInstructions p request at None message = message ≡ refused_response request (codes "disassemble: there is no instructionCount")
 TellsInstructions p request at (Some count) message = (file : SourceFile) × IsFileOf p file

@@ -21,7 +21,7 @@ cell_in_brackets text =
 abbrev pub AsksForVariable : Text → Variable → Type 0
 AsksForVariable text one = (variable_name one ≡ text) ⊎ (cell_in_brackets text ≡ Some one)
 
--- or for neither
+-- a text asks for neither a register nor a cell
 abbrev pub AsksForNoVariable : Text → Type 0
 AsksForNoVariable text = ((k : ℕ) → k < variable_count Registers → variable_name (variable_at Registers k) ≢ text) × (cell_in_brackets text ≡ None)
 

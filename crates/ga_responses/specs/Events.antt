@@ -23,14 +23,14 @@ thread_body reason n = object (member (codes "reason") (string reason) (member (
 abbrev pub thread_message : Bool → ℕ → Message
 thread_message started n = event_told (codes "thread") (thread_body (thread_reason started) n)
 
--- of a node that had something to show before or not, and has now or not
+-- what is told of a node that had something to show before or not, and has now or not
 abbrev pub changed_messages : Bool → Bool → ℕ → List Message
 changed_messages false false n = []
 changed_messages false true n = thread_message true n ∷ []
 changed_messages true false n = thread_message false n ∷ []
 changed_messages true true n = []
 
--- of the first nodes
+-- what is told of the first nodes, of each that has something to show and had not, or the other way round
 unfoldable pub changed_below : (ℕ → Bool) → (ℕ → Bool) → ℕ → List Message
 changed_below before now zero = []
 changed_below before now (suc n) = changed_below before now n ++ changed_messages (before n) (now n) n
@@ -46,7 +46,7 @@ stopped_body reason description n =
     object (member (codes "allThreadsStopped") (boolean true) (member (codes "description") (string description) (member (codes "reason") (string reason)
     (member (codes "text") (string description) (member (codes "threadId") (whole_number (thread_of n)) no_members)))))
 
--- the same at a breakpoint
+-- the chip stands at a breakpoint of this number: all nodes do
 unfoldable pub hit_body : Text → Text → ℕ → ℕ → Data
 hit_body reason description n id =
     object (member (codes "allThreadsStopped") (boolean true) (member (codes "description") (string description)

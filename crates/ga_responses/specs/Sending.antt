@@ -31,7 +31,7 @@ event_told name body seq = event seq name body
 abbrev pub Sends : SentMessages → Message → SentMessages → Type 0
 Sends old message new = IsSent old (next_seq old.seq) (message (next_seq old.seq)) new
 
--- and some, in order
+-- some messages are added, in order, each with the next number
 abbrev pub SendsAll : SentMessages → List Message → SentMessages → Type 0
 SendsAll old [] new = new ≡ old
 SendsAll old (message ∷ rest) new = (between : SentMessages) × Sends old message between × SendsAll between rest new

@@ -21,7 +21,7 @@ pub struct Debuggee {
     pub nodes: Vec<NodeId>,
     /// The path of the file.
     pub path: String,
-    /// What stands behind its last slash.
+    /// What stands behind the last slash of the path.
     pub name: String,
 }
 

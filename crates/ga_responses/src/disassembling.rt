@@ -44,7 +44,7 @@ fn address_asked(reference: &str) -> Option<u64>
     }
 }
 
-/// So many addresses on, of the 4096 of a node.
+/// How many addresses on an offset leads, of the 4096 of a node.
 pub fn cells_on(offset: i64) -> u32
     ensures value { result ≡ cells_on offset }
     ensures most { result < 4096 }
@@ -122,7 +122,7 @@ fn tell_instructions_at(
     }
 }
 
-/// So many instructions, and 4096 at most.
+/// How many instructions are told: as many as are asked for, and 4096 at most.
 fn most_told(count: u64) -> u32
     ensures value { result ≡ min count 4096 }
     ensures most { result ≤ 4096 }
@@ -130,7 +130,7 @@ fn most_told(count: u64) -> u32
     count.min(MOST_INSTRUCTIONS) as u32
 }
 
-/// So many instructions from a cell on.
+/// Tells so many instructions from a cell on.
 fn tell_some(
     alloc: Global,
     program: &Debuggee,

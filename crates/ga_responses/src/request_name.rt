@@ -35,7 +35,7 @@ pub enum RequestName {
     Disconnect,
 }
 
-/// All of them.
+/// The requests that are known, in a list.
 static COMMANDS: [RequestName; 25] = [
     RequestName::Initialize,
     RequestName::Launch,
@@ -96,7 +96,7 @@ fn name_of(command: RequestName) -> &'static str
     }
 }
 
-/// The one at a place of the list.
+/// The request at a place of the list.
 fn command_at(place: usize) -> RequestName
     requires { place < 25 }
     ensures { result ≡ command_at place }

@@ -184,7 +184,7 @@ fn hit_body(
     })
 }
 
-/// The same at a breakpoint.
+/// `stopped` at a breakpoint (Debug Adapter Protocol, "StoppedEvent"): the chip stands.
 pub fn tell_hit(
     alloc: Global,
     reason: &str,

@@ -32,7 +32,7 @@ newest_before until only s (suc place) = if is_asked_held until only s place the
 abbrev pub newest_held : List Condition → Option NodeId → State → Option ℕ
 newest_held until only s = newest_before until only s (length s.kept)
 
--- It is the newest of so many: it is asked and one held behind it, and of no later one both are so.
+-- The event at a place is the newest of so many that is asked and behind which a condition held: of no later one both are so.
 pub record IsNewestHeld (until : List Condition) (only : Option NodeId) (s : State) (count place : ℕ) : Type 0 where
   pub within : place < count
   pub here : is_asked_held until only s place ≡ true
@@ -50,13 +50,13 @@ left_from only s None = s
 left_from None s (Some place) = earlier s place
 left_from (Some node) s (Some place) = rewound s node.number (number_of_step node.number (made_in (told_of_kept s) place))
 
--- how many events that are, where there is such a place
+-- how many events are taken back: those from a place on, or a node's step there with what depends on it; none where there is no place
 abbrev pub gone_from : Option NodeId → State → Option ℕ → Option ℕ
 gone_from only s None = None
 gone_from None s (Some place) = Some (length s.kept - place)
 gone_from (Some node) s (Some place) = result_ok (rewind_answer s node.number (number_of_step node.number (made_in (told_of_kept s) place)))
 
--- so many undos
+-- a machine after so many undos
 abbrev pub undone_often : ℕ → State → State
 undone_often zero s = s
 undone_often (suc count) s = undone (undone_often count s)

@@ -16,12 +16,12 @@ use Rattle.ga_search.specs.Words.{is_over, word_count}
 use Rattle.ga_search.specs.declared.condition.Condition.{Condition}
 use Rattle.ga_search.specs.declared.condition.Condition.TheVariants.{Never, Passes, PassesNumber, Steps, Stops, StopsAt, WaitsAt, Holds, ComesTo, Reaches, Writes}
 
--- a word went over this link
+-- the event passed this word from the writer to the reader
 abbrev pub is_pass : ℕ → ℕ → ℕ → Made → Bool
 is_pass writer reader word (made.Own n k what) = false
 is_pass writer reader word (made.Pass w k r j carried) = (w.number == writer) && (r.number == reader) && (carried == word)
 
--- it was this step of the node
+-- the event was this step of the node
 abbrev pub is_step : ℕ → ℕ → Made → Bool
 is_step node step (made.Own n k what) = (n.number == node) && (k == step)
 is_step node step (made.Pass w k r j carried) = ((w.number == node) && (k == step)) || ((r.number == node) && (j == step))
@@ -47,7 +47,7 @@ abbrev pub is_own_at : ℕ → (Kind → Bool) → Made → Bool
 is_own_at node test (made.Own n k what) = (n.number == node) && test what
 is_own_at node test (made.Pass w k r j carried) = false
 
--- it was a step of the node
+-- the event was a step of the node
 abbrev pub is_step_of : ℕ → Made → Bool
 is_step_of node (made.Own n k what) = n.number == node
 is_step_of node (made.Pass w k r j carried) = (w.number == node) || (r.number == node)
@@ -109,12 +109,12 @@ holds (Writes node address word) told s =
     nat_lt address 128 && is_own_at node.number (stores_in (address % 64) (node_before s node.number)) told
     && is_word_asked word (word_at (record_at (chip_of s) node.number) address)
 
--- the place of the first of some conditions that holds then
+-- the place of the first of some conditions that holds right after this was made, where the machine is this
 unfoldable pub first_held : List Condition → Made → State → Option ℕ
 first_held [] told s = None
 first_held (until ∷ others) told s = if holds until told s then Some 0 else option_map suc (first_held others told s)
 
--- it holds never
+-- the condition holds never
 abbrev pub is_never : Condition → Bool
 is_never Never = true
 is_never (Passes writer reader word) = false
@@ -128,7 +128,7 @@ is_never (ComesTo node address) = false
 is_never (Reaches node address) = false
 is_never (Writes node address word) = false
 
--- those before the first one that holds never
+-- the conditions before the first one that holds never
 unfoldable pub conditions_asked : List Condition → List Condition
 conditions_asked [] = []
 conditions_asked (until ∷ others) = if is_never until then [] else until ∷ conditions_asked others

@@ -17,11 +17,11 @@ abbrev pub effect_on : (ℕ → ℕ) → (ℕ → ℕ) → ℕ → List Rollback
 effect_on left all m =
     if left m == all m then [] else record { node = node_id m; first = left m + 1; steps = all m - left m } ∷ []
 
--- the same of the first nodes
+-- what would go of the first nodes
 unfoldable pub effects_below : (ℕ → ℕ) → (ℕ → ℕ) → ℕ → List RollbackEffect
 effects_below left all zero = []
 effects_below left all (suc m) = effects_below left all m ++ effect_on left all m
 
--- of each node, in the order of the numbers
+-- what a rollback would take of each node, in the order of the numbers
 abbrev pub effects_of : State → ℕ → ℕ → List RollbackEffect
 effects_of s n k = effects_below (left_steps s n k) (kept_steps s) 144

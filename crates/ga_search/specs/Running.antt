@@ -29,7 +29,7 @@ running s schedule = record { state = s; schedule = schedule }
 abbrev pub chosen : Running → Option NodeId
 chosen r = first_in (can_go (chip_of r.state)) r.schedule.turn.number 144
 
--- what is told of that event
+-- what is told of the next event of a machine, which this node makes, where there is one
 abbrev pub told_by_step : State → Option NodeId → Option Made
 told_by_step s None = None
 told_by_step s (Some node) = result_ok (step_answer s node)
@@ -37,7 +37,7 @@ told_by_step s (Some node) = result_ok (step_answer s node)
 abbrev pub told : Running → Option Made
 told r = told_by_step r.state (chosen r)
 
--- after that event
+-- a machine with its schedule after the next event, which this node makes; as it was where there is none
 abbrev pub moved_by : Running → Option NodeId → Running
 moved_by r None = r
 moved_by r (Some node) = record { state = stepped r.state node; schedule = passed_on r.schedule node }
@@ -45,7 +45,7 @@ moved_by r (Some node) = record { state = stepped r.state node; schedule = passe
 abbrev pub run_moved : Running → Running
 run_moved r = moved_by r (chosen r)
 
--- after so many events
+-- a machine with its schedule after so many events
 abbrev pub after_events : Running → ℕ → Running
 after_events r zero = r
 after_events r (suc events) = run_moved (after_events r events)
@@ -62,7 +62,7 @@ held_told until (Some made) s = first_held until made s
 abbrev pub held_next : List Condition → Running → Option ℕ
 held_next until r = held_told until (told r) (run_moved r).state
 
--- and none holds after one of so many
+-- none of some conditions holds right after one of so many events
 abbrev pub NeverHolds : List Condition → Running → ℕ → Type 0
 NeverHolds until r events = (k : ℕ) → k < events → held_next until (after_events r k) ≡ None
 
@@ -70,18 +70,18 @@ NeverHolds until r events = (k : ℕ) → k < events → held_next until (after_
 abbrev pub IsQuiet : List NodeRecord → Type 0
 IsQuiet chip = (n : ℕ) → n < 144 → can_go chip n ≡ false
 
--- the step is refused so, or memory is where it could be made
+-- a step is refused for this reason, or memory is refused to a step that could be made
 abbrev pub IsRefusedFor : LabFault → Result Made LabFault → Type 0
 IsRefusedFor why answer = (answer ≡ Err why) ⊎ ((why ≡ Memory) × IsOk answer)
 
--- why no event follows
+-- why no event follows in a run
 abbrev pub IsHalted : Running → End → Type 0
 IsHalted r the_end.Quiet = IsQuiet (chip_of r.state)
 IsHalted r (the_end.Refused why) = (node : NodeId) × (chosen r ≡ Some node) × IsRefusedFor why (step_answer r.state node)
 IsHalted r (the_end.Reached made which) = ⊥
 IsHalted r the_end.Made = ⊥
 
--- how it ended after so many events, of which no more were asked for
+-- how a run ended after so many events, of at most so many that were asked for
 abbrev pub HasEnded : Running → ℕ → List Condition → ℕ → End → Type 0
 HasEnded r most until events (the_end.Reached made which) =
     (k : ℕ) × (events ≡ k + 1) × NeverHolds until r k × (told (after_events r k) ≡ Some made) × (held_next until (after_events r k) ≡ Some which)

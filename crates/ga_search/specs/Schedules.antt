@@ -21,7 +21,7 @@ passed_by Random schedule node = drawn schedule
 abbrev pub passed_on : Schedule → NodeId → Schedule
 passed_on schedule node = passed_by schedule.order schedule node
 
--- where each begins
+-- where a schedule of each order begins
 abbrev pub in_rounds : Schedule
 in_rounds = record { order = Rounds; turn = node_id 0; generator = 0 }
 

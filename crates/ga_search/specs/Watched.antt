@@ -17,24 +17,24 @@ IsNewestMade s made = made_in (told_of_kept s) (length s.kept - 1) ≡ Some made
 
 -- ---- a node goes first
 
--- the node that makes the next event, where there is one
+-- the node that makes the next event, where there is one; a node may go first
 abbrev pub chosen_first : Option NodeId → Running → Option NodeId
 chosen_first None r = chosen r
 chosen_first (Some node) r = if can_go (chip_of r.state) node.number then Some node else chosen r
 
--- what is told of that event, and the run after it
+-- what is told of the next event, where a node may go first, and the run after it
 abbrev pub told_first : Option NodeId → Running → Option Made
 told_first first r = told_by_step r.state (chosen_first first r)
 
 abbrev pub first_moved : Option NodeId → Running → Running
 first_moved first r = moved_by r (chosen_first first r)
 
--- after so many events
+-- a run after so many events, where a node may go first
 abbrev pub after_first : Option NodeId → Running → ℕ → Running
 after_first first r zero = r
 after_first first r (suc events) = first_moved first (after_first first r events)
 
--- each of so many events can be made
+-- each of so many events can be made, where a node may go first
 abbrev pub AreMadeFirst : Option NodeId → Running → ℕ → Type 0
 AreMadeFirst first r events = (k : ℕ) → k < events → IsSome (told_first first (after_first first r k))
 
@@ -68,25 +68,25 @@ abbrev pub ends_behind : {W : Type 0} → Watching W → W → Running → ℕ �
 ends_behind by w r events =
     ends_told by (watch_after by w r events) (told_first by.first (after_first by.first r events)) (first_moved by.first (after_first by.first r events)).state
 
--- and behind none of so many
+-- the watch ends the run behind none of so many events
 abbrev pub NeverEnds : {W : Type 0} → Watching W → W → Running → ℕ → Type 0
 NeverEnds by w r events = (k : ℕ) → k < events → ends_behind by w r k ≡ false
 
--- why no event follows
+-- why no event follows in a run, where a node may go first
 abbrev pub IsHaltedFirst : Option NodeId → Running → WatchedEnd → Type 0
 IsHaltedFirst first r the_end.Quiet = IsQuiet (chip_of r.state)
 IsHaltedFirst first r (the_end.Refused why) = (node : NodeId) × (chosen_first first r ≡ Some node) × IsRefusedFor why (step_answer r.state node)
 IsHaltedFirst first r (the_end.Seen made) = ⊥
 IsHaltedFirst first r the_end.Made = ⊥
 
--- the event behind which the watch ended it is the newest of the machine
+-- the event behind which the watch ended a run is the newest of the machine
 abbrev pub IsNewestSeen : State → WatchedEnd → Type 0
 IsNewestSeen s (the_end.Seen made) = IsNewestMade s made
 IsNewestSeen s the_end.Made = Unit {0}
 IsNewestSeen s the_end.Quiet = Unit {0}
 IsNewestSeen s (the_end.Refused why) = Unit {0}
 
--- how it ended after so many events, of which no more were asked for
+-- how a watched run ended after so many events, of at most so many that were asked for
 abbrev pub HasEndedWatched : {W : Type 0} → Watching W → W → Running → ℕ → ℕ → WatchedEnd → Type 0
 HasEndedWatched by w r most events (the_end.Seen made) =
     (k : ℕ) × (events ≡ k + 1) × NeverEnds by w r k × (told_first by.first (after_first by.first r k) ≡ Some made) × (ends_behind by w r k ≡ true)

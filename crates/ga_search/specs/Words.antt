@@ -33,7 +33,7 @@ words_after writer reader before (told ∷ rest) =
 abbrev pub words_of : State → ℕ → ℕ → List Sent
 words_of s writer reader = words_after writer reader 0 (history_of s writer)
 
--- how many these are
+-- how many words went from one node to another, of all events that are kept
 abbrev pub word_count : State → ℕ → ℕ → ℕ
 word_count s writer reader = length (words_of s writer reader)
 
@@ -41,7 +41,7 @@ word_count s writer reader = length (words_of s writer reader)
 abbrev pub end_of : Bool → NodeId → NodeId → ℕ
 end_of by_reader writer reader = if by_reader then reader.number else writer.number
 
--- those that were not told yet
+-- the words over a link that were not told yet
 abbrev pub words_left : State → Words → List Sent
 words_left s words =
     words_after words.writer.number words.reader.number words.before (drop words.place (history_of s (end_of words.by_reader words.writer words.reader)))

@@ -44,12 +44,13 @@ held_one until (Some told) s = holds until told s
 abbrev pub is_held : Condition → Option NodeId → State → ℕ → Bool
 is_held until only s place = is_among only (made_in (told_of_kept s) place) && held_one until (made_in (told_of_kept s) place) (earlier s (place + 1))
 
--- how many of the first events there are up to the newest that is asked and behind which it held, and none where there is none
+-- how many of the first events there are up to the newest that is asked and behind which a condition held, and none where there is none
 abbrev pub held_upto : Condition → Option NodeId → State → ℕ → ℕ
 held_upto until only s zero = 0
 held_upto until only s (suc place) = if is_held until only s place then suc place else held_upto until only s place
 
--- the same of some conditions
+-- how many of the first events there are up to the newest that is asked and behind which one of some conditions held, and none where there
+-- is none
 abbrev pub all_upto : List Condition → Option NodeId → State → ℕ → ℕ
 all_upto [] only s count = 0
 all_upto (until ∷ others) only s count = max (held_upto until only s count) (all_upto others only s count)
@@ -74,7 +75,7 @@ count_over (Some link) s = word_count s link.0.number link.1.number
 abbrev pub counted : Condition → State → ℕ
 counted until s = count_over (counted_link until) s
 
--- how many words of it an event carried
+-- how many words of a link an event carried, and none where there is no link
 abbrev pub more_over : Option (NodeId × NodeId) → Made → ℕ
 more_over None told = 0
 more_over (Some link) told = one_over link.0.number link.1.number told
@@ -115,25 +116,25 @@ has numbers n = bit_at (slice_index numbers.words (n / 64)) (n % 64) == 1
 abbrev pub IsRight : List NodeRecord → Numbers → ℕ → Type 0
 IsRight chip ready n = n < 192 → has ready n ≡ can_go chip n
 
--- it holds the nodes that have an event, and nothing else
+-- the set holds the nodes that have an event, and nothing else
 abbrev pub HoldsReady : List NodeRecord → Numbers → Type 0
 HoldsReady chip ready = (n : ℕ) → IsRight chip ready n
 
--- no other node is in the set
+-- the node is in the set, and no other node is
 pub record IsAlone (ready : Numbers) (node : NodeId) : Type 0 where
   pub here : has ready node.number ≡ true
   pub others : (n : ℕ) → n < 144 → n ≢ node.number → has ready n ≡ false
 
--- what was right stays so
+-- a set stays right about each number about which it was right
 abbrev pub StaysRight : List NodeRecord → Numbers → Numbers → Type 0
 StaysRight chip old new = (n : ℕ) → IsRight chip old n → IsRight chip new n
 
--- it is right about a node and its neighbours
+-- the set is right about a node and its neighbours
 pub record IsRightAround (chip : List NodeRecord) (ready : Numbers) (n : ℕ) : Type 0 where
   pub here : IsRight chip ready n
   pub beside : (side : Side) (m : ℕ) → neighbour_of n side ≡ Some m → IsRight chip ready m
 
--- it is right where waits and stops changed: around the node of an own event, unless that runs on, and around both nodes of a pass
+-- the set is right where waits and stops changed: around the node of an own event, unless that runs on, and around both nodes of a pass
 abbrev pub IsRefreshed : List NodeRecord → Made → Numbers → Type 0
 IsRefreshed chip (Own node step kind) ready = (refusal (record_at chip node.number) ≡ None) ⊎ IsRightAround chip ready node.number
 IsRefreshed chip (Pass writer from reader to word) ready = IsRightAround chip ready writer.number × IsRightAround chip ready reader.number
@@ -144,7 +145,7 @@ IsRefreshed chip (Pass writer from reader to word) ready = IsRightAround chip re
 abbrev pub is_one_of : ℕ → ℕ → Bool
 is_one_of opcodes code = nat_lt ((code + 244) % 256) opcodes
 
--- this slot of the node, as an event left it, is next, and that may do: slot 4, where it fetches
+-- the slot that is needed is next in the node, as an event left it: slot 4, where it fetches
 abbrev pub may_fetch : Needs → NodeRecord → Bool
 may_fetch needs n = n.slot == needs.slot
 
@@ -155,7 +156,7 @@ lacks needs n (kind.Run code) = not (is_one_of needs.opcodes code) && not (may_f
 lacks needs n kind.Wait = false
 lacks needs n (kind.Stop code) = false
 
--- what a condition needs is among it
+-- what a condition needs is among the needs
 abbrev pub Covers : Needs → Condition → Type 0
 Covers needs Never = Unit
 Covers needs (Passes writer reader word) = Unit
@@ -169,20 +170,20 @@ Covers needs (ComesTo node address) = 256 ≤ needs.opcodes
 Covers needs (Reaches node address) = needs.slot ≡ 4
 Covers needs (Writes node address word) = 4 ≤ needs.opcodes
 
--- and of each of some conditions
+-- what each of some conditions needs is among the needs
 abbrev pub IsNeeded : Needs → List Condition → Type 0
 IsNeeded needs until = (k : ℕ) (one : Condition) → slice_get until k ≡ Some one → Covers needs one
 
 -- ---- how a run is over
 
--- it is with its next event, which led here, or no event follows
+-- a run is over with its next event, which led here, or no event follows
 abbrev pub IsOver : List Condition → Running → Running → End → Type 0
 IsOver until r next (the_end.Reached made which) = (told r ≡ Some made) × (held_next until r ≡ Some which) × (next ≡ run_moved r)
 IsOver until r next the_end.Made = ⊥
 IsOver until r next the_end.Quiet = IsHalted r the_end.Quiet × (next ≡ r)
 IsOver until r next (the_end.Refused why) = IsHalted r (the_end.Refused why) × (next ≡ r)
 
--- how many events there were, where so many were made before
+-- how many events there were at the end of a run, where so many were made before
 abbrev pub events_at : ℕ → End → ℕ
 events_at n (the_end.Reached made which) = n + 1
 events_at n the_end.Made = n

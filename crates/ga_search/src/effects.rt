@@ -15,16 +15,16 @@ use std::alloc::Global;
 pub struct RollbackEffect {
     /// The node.
     pub node: NodeId,
-    /// The first of its steps that would go.
+    /// The first of the node's steps that would go.
     pub first: u32,
-    /// How many would go.
+    /// How many of the node's steps would go.
     pub steps: u32,
 }
 
 /// What a rollback would take.
 #[derive(Debug, Drop)]
 pub struct Effects {
-    /// How many events, which `rewind` would answer.
+    /// How many events would go, which `rewind` would answer.
     pub events: u32,
     /// The nodes of which steps would go, in the order of their numbers.
     pub nodes: Vec<RollbackEffect>,

@@ -47,8 +47,8 @@ pub fn newest_is_found()
         (place : ℕ) → place < length s.kept → is_asked_held until only s place ≡ false }
 {}
 
-/// The step of a node that is taken back then is the event that is found, so that its rollback isn't refused: some events go just where
-/// there is one to be found.
+/// The step of a node that going back takes is the event that is found, so that its rollback isn't refused. Some events go just where there
+/// is one to be found.
 #[tactic(auto, using(crate::proofs::Backing::found_placed, crate::proofs::Backing::found_some))]
 pub fn found_goes()
     ensures step { (until : List Condition) (node : NodeId) (s : State) (place : ℕ) → newest_held until (Some node) s ≡ Some place →

@@ -106,7 +106,7 @@ pub(crate) fn first_from(ready: &Numbers, turn: NodeId) -> Option<NodeId>
     }
 }
 
-// The same where none from the turn on is in the set. One that is found right before the turn is alone.
+// The first node in the set, round the chip, where none from the turn on is in it. One that is found right before the turn is alone.
 #[inline(never)]
 fn first_before(ready: &Numbers, alone: &mut Option<NodeId>, turn: NodeId) -> Option<NodeId>
     requires past { (n : ℕ) → 144 ≤ n → n < 192 → has ready.now n ≡ false }
@@ -127,7 +127,7 @@ fn first_before(ready: &Numbers, alone: &mut Option<NodeId>, turn: NodeId) -> Op
     }
 }
 
-// The same where the one with the turn is not in the set.
+// The first node in the set from the turn on, round the chip, where the node with the turn is not in it.
 fn first_behind(ready: &Numbers, alone: &mut Option<NodeId>, turn: NodeId) -> Option<NodeId>
     requires past { (n : ℕ) → 144 ≤ n → n < 192 → has ready.now n ≡ false }
     requires alone { IfSome alone.old (IsAlone ready.now) }
@@ -140,7 +140,7 @@ fn first_behind(ready: &Numbers, alone: &mut Option<NodeId>, turn: NodeId) -> Op
     }
 }
 
-// The same, where it may be known that one node is alone in the set.
+// The first node in the set from the turn on, round the chip, where it may be known that one node is alone in the set.
 pub(crate) fn next_from(ready: &Numbers, alone: &mut Option<NodeId>, turn: NodeId) -> Option<NodeId>
     requires past { (n : ℕ) → 144 ≤ n → n < 192 → has ready.now n ≡ false }
     requires alone { IfSome alone.old (IsAlone ready.now) }

@@ -22,20 +22,20 @@ pub enum End {
     /// A condition holds right after this event, and none held after one before. Of those that hold it is the first, at this place
     /// of their list.
     Reached { made: Made, which: u8 },
-    /// As many as were asked for.
+    /// As many events were made as were asked for.
     Made,
     /// No node of the chip has an event.
     Quiet,
-    /// [`Lab::step`] refused the next one: `Full`, `Spent` or `Memory`.
+    /// [`Lab::step`] refused the next event: `Full`, `Spent` or `Memory`.
     Refused(LabFault),
 }
 
 /// How many events were made, why no more, and how the order goes on.
 #[derive(Clone, Copy, PartialEq, Eq, Debug)]
 pub struct Ran {
-    /// How many.
+    /// How many events were made.
     pub events: u64,
-    /// Why no more.
+    /// Why no more events were made.
     pub end: End,
     /// Where the schedule stands: a further run by it goes on with this one.
     pub schedule: Schedule,
@@ -55,7 +55,7 @@ fn step_once(lab: &mut Lab, node: NodeId, is_here: bool) -> Result<Made, LabFaul
     }
 }
 
-// Makes this node's next event, by such a step, and looks at what that may have changed.
+// Makes this node's next event, by a step that stands here or by a call of it, and looks at what that may have changed.
 #[inline(always)]
 pub(crate) fn make(
     lab: &mut Lab,
@@ -164,7 +164,7 @@ fn advance(
     }
 }
 
-// So many events, and one more where that is at the end.
+// How many events there were at the end of a run: one more than were made before, where it ended right after an event.
 fn events_at(before: u64, end: End) -> u64
     requires { before + 1 < 2 ^ 64 }
     ensures { result ≡ events_at before end }

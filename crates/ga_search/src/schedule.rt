@@ -25,7 +25,7 @@ pub enum Order {
 /// the first node, from the one whose turn it is on and round the chip, that has one.
 #[derive(Clone, Copy, PartialEq, Eq, Debug)]
 pub struct Schedule {
-    /// How it goes on.
+    /// How the turn goes on.
     pub order: Order,
     /// The node whose turn it is.
     pub turn: NodeId,

@@ -9,7 +9,7 @@ use ga_lab::{Lab, Made};
 
 /// What ends a run: it is shown each event right behind it, and may count and remember.
 pub trait Watch {
-    // Whether it ends the run behind what was made, on the machine that this left.
+    // Whether the watch ends the run behind what was made, on the machine that this left.
     ghost ends: { Self → Made → State → Bool };
 
     // The watch behind what was made, on the machine that this left.

@@ -21,22 +21,22 @@ use ga_lab::{Lab, LabFault, Made};
 /// Why no more events were made.
 #[derive(Clone, Copy, PartialEq, Eq, Debug)]
 pub enum WatchedEnd {
-    /// The watch said so of this event, and of none before.
+    /// The watch ended the run behind this event, and behind none before.
     Seen(Made),
-    /// As many as were asked for.
+    /// As many events were made as were asked for.
     Made,
     /// No node of the chip has an event.
     Quiet,
-    /// [`Lab::step`] refused the next one: `Full`, `Spent` or `Memory`.
+    /// [`Lab::step`] refused the next event: `Full`, `Spent` or `Memory`.
     Refused(LabFault),
 }
 
 /// How many events were made, why no more, and how the order goes on.
 #[derive(Clone, Copy, PartialEq, Eq, Debug)]
 pub struct WatchedRun {
-    /// How many.
+    /// How many events were made.
     pub events: u64,
-    /// Why no more.
+    /// Why no more events were made.
     pub end: WatchedEnd,
     /// Where the schedule stands: a further run by it goes on with this one.
     pub schedule: Schedule,
@@ -99,9 +99,9 @@ fn go(
     }
 }
 
-/// Makes events in the order of a schedule, at most so many, up to the first behind which a watch says so, and hands the schedule back: where it was not
-/// yet said, a further run by it, with the watch as it then is, goes on with this one. A node may go first: it makes each event that it has, and others
-/// make theirs only while it has none.
+/// Makes events in the order of a schedule, at most so many, up to the first behind which a watch ends the run, and hands the schedule back. Where it
+/// did not, a further run by this schedule, with the watch as it then is, goes on with this one. A node may go first: it makes each event that it has, and
+/// others make theirs only while it has none.
 pub fn run_watched<W: Watch>(
     lab: &mut Lab,
     mut schedule: Schedule,

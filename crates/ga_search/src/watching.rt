@@ -23,12 +23,12 @@ const FETCH_DUE: u32 = 4;
 
 const NO_SLOT: u32 = 5;
 
-/// What an own event needs: to be a wait or a stop, or one of these.
+/// What an own event needs so that one of some conditions can hold right after it: to be a wait or a stop, or one of these.
 #[derive(Clone, Copy)]
 pub(crate) struct Needs {
-    // One of so many opcodes from `!p` on; of all of them a fetch does too.
+    // To be one of so many opcodes from `!p` on; where these are all, a fetch does too.
     opcodes: u32,
-    // Any after which this slot of its node is next.
+    // Any event after which this slot of its node is next.
     slot: u32,
 }
 
@@ -38,7 +38,7 @@ impl Needs {
     ghost use Rattle.ga_lab.specs.Machine.{chip_of};
     ghost use Rattle.ga_search.specs.inner.{is_one_of, may_fetch, lacks, Covers};
 
-    // The same, and what this condition needs.
+    // These needs, and what this condition needs.
     fn with(self, condition: &Condition) -> Self
         ensures covers { Covers result condition.now }
         ensures opcodes { self.opcodes ≤ result.opcodes }
@@ -57,7 +57,7 @@ impl Needs {
         }
     }
 
-    // The same, and so many opcodes.
+    // These needs, and so many opcodes from `!p` on.
     fn with_opcodes(self, opcodes: u32) -> Self
         ensures asked { opcodes ≤ result.opcodes }
         ensures opcodes { self.opcodes ≤ result.opcodes }
@@ -70,7 +70,7 @@ impl Needs {
         }
     }
 
-    // Whether it is one of the opcodes.
+    // Whether a code is one of the opcodes that are needed.
     #[inline(always)]
     fn has_opcode(&self, code: u8) -> bool
         ensures { result ≡ is_one_of self.now.opcodes code }
@@ -78,7 +78,7 @@ impl Needs {
         u32::from(code.wrapping_sub(STORE_P)) < self.opcodes
     }
 
-    // Whether the node fetches next, and that does.
+    // Whether the slot that is needed is next in the node.
     #[inline(always)]
     #[tactic(auto, unfolding(ga_node::specs::Record::record_of))]
     fn may_fetch(&self, lab: &Lab, node: NodeId) -> bool
@@ -87,7 +87,7 @@ impl Needs {
         lab.node(node).get(Place::Slot) == self.slot
     }
 
-    // Whether an opcode lacks what it needs.
+    // Whether the node's newest event, an opcode with this code, lacks what is needed.
     #[inline(always)]
     fn lacks_opcode(&self, lab: &Lab, node: NodeId, code: u8) -> bool
         ensures { result ≡ (not (is_one_of self.now.opcodes code) && not (may_fetch self.now (record_at (chip_of lab.now) node.number))) }
@@ -95,7 +95,7 @@ impl Needs {
         !self.has_opcode(code) && !self.may_fetch(lab, node)
     }
 
-    // Whether an event of any kind does.
+    // Whether the node's newest event, of any kind, lacks what is needed.
     #[inline(never)]
     fn lacks_any(&self, lab: &Lab, node: NodeId, kind: Kind) -> bool
         ensures { result ≡ lacks self.now (record_at (chip_of lab.now) node.number) kind }
@@ -154,7 +154,7 @@ pub fn conditions_asked(until: &[Condition]) -> &[Condition]
     until
 }
 
-// How many words each of them counts.
+// How many words are kept of the link that each of some conditions counts.
 pub(crate) fn count_all(until: &[Condition], lab: &Lab) -> LinkCounts
     requires { length until.now ≤ 8 }
     ensures size { length result ≡ 8 }
@@ -167,7 +167,7 @@ pub(crate) fn count_all(until: &[Condition], lab: &Lab) -> LinkCounts
     words
 }
 
-// The same right after a pass, where so many were kept before.
+// How many words are kept of the link that each of some conditions counts, right after a pass, where so many were kept before.
 fn count_on(until: &[Condition], words: &mut LinkCounts, made: &Made, lab: &Lab)
     requires most { length until.now ≤ 8 }
     requires size { length words.old ≡ 8 }
@@ -180,7 +180,7 @@ fn count_on(until: &[Condition], words: &mut LinkCounts, made: &Made, lab: &Lab)
     }
 }
 
-// The place of the first that holds right after what was made, which is the newest event, where so many words are kept.
+// The place of the first of some conditions that holds right after the newest event, where so many words are kept of their links.
 #[inline(never)]
 fn first_asked(until: &[Condition], words: &LinkCounts, made: &Made, lab: &Lab) -> Option<u8>
     requires most { length until.now ≤ 8 }
@@ -197,7 +197,8 @@ fn first_asked(until: &[Condition], words: &LinkCounts, made: &Made, lab: &Lab) 
     None
 }
 
-// The same of what is copied here: so it needn't be in memory where nothing is asked.
+// The place of the first of some conditions that holds right after the newest event, which is copied here: so it needn't be in memory where
+// nothing is asked.
 #[inline(always)]
 fn first_seen(until: &[Condition], words: &LinkCounts, made: &Made, lab: &Lab) -> Option<u8>
     requires most { length until.now ≤ 8 }
@@ -210,7 +211,8 @@ fn first_seen(until: &[Condition], words: &LinkCounts, made: &Made, lab: &Lab) -
     first_asked(until, words, &seen, lab)
 }
 
-// The same right after an event, where so many words were kept before, and it is known what an event needs.
+// The place of the first of some conditions that holds right after the newest event. So many words were kept before it, and it is known
+// what an event needs.
 #[inline(always)]
 #[tactic(auto, using(crate::proofs::Needing::none_of_none, crate::proofs::Needing::counted_of_none))]
 pub(crate) fn first_held(
@@ -235,7 +237,8 @@ pub(crate) fn first_held(
     first_among(until, needs, words, made, lab)
 }
 
-// The same where there are conditions: apart, since what it needs of memory is made ready where it begins.
+// The place of the first of some conditions that holds right after the newest event, where there are conditions. It is apart, since what it
+// needs of memory is made ready where it begins.
 #[inline(always)]
 #[tactic(auto, using(crate::proofs::Needing::none_held_lacking, crate::proofs::WordCounts::none_counted))]
 fn first_among(

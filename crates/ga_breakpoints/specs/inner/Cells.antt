@@ -27,7 +27,7 @@ use Rattle.ga_breakpoints.specs.declared.halts.Halting.{Halting}
 use Rattle.ga_breakpoints.specs.declared.going.Halt.{Halt}
 use Rattle.ga_breakpoints.specs.declared.going.Halt.TheVariants.{Hit, Stopped, Moved, Cut, Quiet, Refused}
 
--- by the numbers of the nodes: known or not, and of a memory or not
+-- the cells of the nodes' words by the numbers of the nodes: known or not, and of a memory or not
 abbrev pub Cells : Type 0
 Cells = List (Option (Option ℕ))
 
@@ -44,7 +44,7 @@ cell_known s node None = fetched_cell s node (steps_of node.number s.kept)
 abbrev pub cell_in : State → Cells → NodeId → Option ℕ
 cell_in s cells node = cell_known s node (slice_index_or cells node.number None)
 
--- it is asked for where the node stands in its word at the slot, and known from then on
+-- a node's cell is asked for where the node stands in its word at the slot, and known from then on
 abbrev pub asks_word : Spot → NodeRecord → Bool
 asks_word at n = not (n.slot == 4) && n.slot == at.slot
 
@@ -76,7 +76,7 @@ is_hit_by told s one cells =
 abbrev pub one_counted_by : Made → State → Breakpoint → ℕ → Cells → HitTally → HitTally
 one_counted_by told s one place cells tally = if is_hit_by told s one cells then hit_counted one place tally else tally
 
--- those of the list from a place on; and the cells behind them
+-- the breakpoints of the list from a place on are counted, where what was made hits them by the cells; and the cells behind them
 abbrev pub counted_by : Made → State → ℕ → List Breakpoint → Cells → HitTally → HitTally
 counted_by told s place [] cells tally = tally
 counted_by told s place (one ∷ rest) cells tally =
@@ -86,7 +86,7 @@ abbrev pub cells_from : Made → State → List Breakpoint → Cells → Cells
 cells_from told s [] cells = cells
 cells_from told s (one ∷ rest) cells = cells_from told s rest (cells_done one.watched one.node told s cells)
 
--- behind what was made, on the machine that it left
+-- how often each breakpoint was hit, and the cells, behind what was made, on the machine that it left
 abbrev pub tally_by : List Breakpoint → Made → State → Cells → HitTally → HitTally
 tally_by breakpoints told s cells tally = counted_by told s 0 breakpoints (cells_left told cells) (record tally { hit = None })
 
@@ -98,7 +98,7 @@ ends_by breakpoints cells tally stops node told s = is_some (tally_by breakpoint
 
 -- ---- why a move ended, by how its run did
 
--- by this event
+-- why a move ended by this event
 abbrev pub halt_hit : Bool → Made → Option ℕ → Halt
 halt_hit stopping told (Some which) = Hit told which
 halt_hit stopping told None = if stopping then Stopped told else Moved told
@@ -106,7 +106,7 @@ halt_hit stopping told None = if stopping then Stopped told else Moved told
 abbrev pub halt_by : Option ℕ → Bool → Option NodeId → Made → Halt
 halt_by hit stops node told = halt_hit (is_stopping stops node told) told hit
 
--- by this end, where the newest event hit this one
+-- why a move ended by this end of its run, where the newest event hit the breakpoint at this place
 abbrev pub halt_of : Option ℕ → Bool → Option NodeId → WatchedEnd → Halt
 halt_of hit stops first (the_end.Seen told) = halt_by hit stops first told
 halt_of hit stops first the_end.Made = Cut

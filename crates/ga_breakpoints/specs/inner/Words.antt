@@ -49,7 +49,7 @@ abbrev pub word_after : State → NodeId → ℕ → Option ℕ → Option ℕ
 word_after s node k word =
     if keeps_word (slice_get (history_of s node.number) k) (node_after s node.number k) node.number then word else fetched_cell s node (k + 1)
 
--- behind what was made, on the machine that it left
+-- the cell of a node's word, behind what was made, on the machine that it left
 abbrev pub word_seen : NodeId → Option ℕ → Made → State → Option ℕ
 word_seen node word told s = if is_step_of node.number told then word_after s node (steps_of node.number s.kept - 1) word else word
 

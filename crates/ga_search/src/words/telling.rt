@@ -17,7 +17,7 @@ fn is_shorter(lab: &Lab, writer: NodeId, reader: NodeId) -> bool
     lab.steps(reader) < lab.steps(writer)
 }
 
-// The reader or the writer.
+// The end of a link whose steps are read: the reader or the writer.
 fn end_of(by_reader: bool, writer: NodeId, reader: NodeId) -> NodeId
     ensures { result.number ≡ end_of by_reader writer reader }
 {
@@ -38,7 +38,7 @@ pub(crate) fn is_over(made: &Made, writer: NodeId, reader: NodeId) -> bool
     }
 }
 
-// One where it did.
+// 1 where the event carried a word over the link, else 0.
 pub(crate) fn one_over(made: &Made, writer: NodeId, reader: NodeId) -> u32
     ensures one { result ≡ one_over writer.number reader.number made.now }
     ensures most { result ≤ 1 }
