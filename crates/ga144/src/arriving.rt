@@ -20,7 +20,7 @@ const WAITING: usize = 16;
 enum Part {
     /// So many bytes; none at the end.
     Bytes { count: usize, bytes: [u8; BLOCK] },
-    /// It failed.
+    /// The read failed.
     Failed,
 }
 

@@ -41,7 +41,7 @@ const MOST_STEPS: u32 = 100_000;
 /// How many milliseconds pass between two looks whether all is done.
 const TICK: u64 = 20;
 
-/// After how many of them progress is told.
+/// After how many looks whether all is done progress is told.
 const TICKS: u64 = 50;
 
 fn main(rt: HostRuntime) -> ExitCode {
@@ -352,7 +352,7 @@ fn help(rt: &HostRuntime, text: &str) -> ExitCode {
     }
 }
 
-/// The exit status, and its line on standard error.
+/// The exit status of a program that ended so, and its line on standard error.
 fn exit(rt: &HostRuntime, status: Status) -> ExitCode {
     match status {
         Status::Done => ExitCode::from(0),

@@ -16,7 +16,7 @@ use Rattle.ga_notes.specs.declared.notes.Notes.{Notes}
 use Rattle.ga_answers.specs.Deeds.{deed_text}
 use Rattle.ga_answers.specs.Tails.{step_tail}
 
--- T, S, R, A, B and P
+-- the registers behind a step: T, S, R, A, B and P
 abbrev pub behind_text : NodeRecord → Text
 behind_text node =
     register_text (codes "t") (t node)
@@ -36,7 +36,7 @@ abbrev pub place_text : Option Notes → State → NodeId → ℕ → Text
 place_text notes s node k =
     passed_text node (k + 1) (slice_get (history_of s node.number) k) (node_after s node.number (k + 1)) ++ step_tail notes s node (k + 1)
 
--- as many from there on
+-- what is told of so many steps of the node, from the step behind so many on
 unfoldable pub places_text : Option Notes → State → NodeId → ℕ → ℕ → Text
 places_text notes s node k zero = []
 places_text notes s node k (suc more) = place_text notes s node k ++ places_text notes s node (k + 1) more

@@ -22,27 +22,27 @@ abbrev pub tested_text : Made → Part → ℕ → Text
 tested_text (Own node step kind) at word = register_text (part_name at) word
 tested_text (Pass writer i reader j word) at other = []
 
--- the step, what it did and what it tested
+-- the step of a decision, what it did and what it tested
 abbrev pub decided_text : NodeId → Decision → Text
 decided_text node decision =
     step_text node decision.step ++ codes " " ++ deed_text decision.made node.number ++ tested_text decision.made decision.tested.part decision.word
 
--- its line, and below it that of where the value was made, as `whence` tells it
+-- the line of a decision, and below it the line of where the value was made, as `whence` tells it
 abbrev pub decision_text : Option Notes → State → NodeId → Decision → Text
 decision_text notes s node decision =
     decided_text node decision ++ (step_tail notes s node decision.step ++ tree_row_text notes s 1 (row_at 0 decision.source))
 
--- the newest such step, and those before it
+-- the newest decision, and those before it
 abbrev pub from_newest : Option Notes → State → NodeId → (ℕ → Text) → Option Decision → Text
 from_newest notes s node before None = []
 from_newest notes s node before (Some decision) = decision_text notes s node decision ++ before (decision.step - 1)
 
--- at most so many, of so many steps of a node, the newest first
+-- at most so many decisions, of so many steps of a node, the newest first
 unfoldable pub decisions_text : Option Notes → State → NodeId → ℕ → ℕ → Text
 decisions_text notes s node zero k = []
 decisions_text notes s node (suc more) k = from_newest notes s node (decisions_text notes s node more) (newest_decided s node k)
 
--- of those before a step, where it stands
+-- the decisions before a step, where it stands
 abbrev pub because_text : Option Notes → State → NodeId → ℕ → ℕ → Text
 because_text notes s node step most =
     if stands s node.number step then decisions_text notes s node most (step - 1) else refusal_text NoStep

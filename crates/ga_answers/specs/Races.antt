@@ -30,13 +30,13 @@ abbrev pub calm_line : Bool → Text
 calm_line true = codes "every order ends on this chip\n"
 calm_line false = codes "no other order, as long as no node makes more steps\n"
 
--- of one node nothing is said of the whole; told steps say enough
+-- the last line where nothing looks: of one node nothing is said of the whole; told steps say enough
 abbrev pub order_line : Option NodeId → List Race → Bool → Text
 order_line None [] quiet = calm_line quiet
 order_line None (race ∷ races) quiet = []
 order_line (Some node) races quiet = []
 
--- a look may read otherwise in another order, and hide another race
+-- the last line: a look may read otherwise in another order, and hide another race
 abbrev pub last_line : Option NodeId → List Race → Bool → Bool → Text
 last_line only races true quiet = codes "looks are kept or come next: there may be other races\n"
 last_line only races false quiet = order_line only races quiet
@@ -53,7 +53,7 @@ reading_text reading =
     ++ before_or_behind reading.early ++ step_text reading.neighbour reading.change
     ++ codes ": rewind " ++ step_text (back_of reading).0 (back_of reading).1 ++ codes ", step " ++ name_of_node reading.node ++ codes "\n"
 
--- these, of so many lines
+-- how many lines of steps follow, and the lines of these passes
 abbrev pub race_lines_text : List Race → ℕ → Text
 race_lines_text races count = races_head count ++ flat_map race_text races
 
@@ -61,7 +61,7 @@ abbrev pub listed_text : Option NodeId → List Race → List Reading → Bool �
 listed_text only races readings looks quiet =
     race_lines_text races (length races + length readings) ++ (flat_map reading_text readings ++ last_line only races looks quiet)
 
--- with these looks
+-- the answer to `races`, with these looks
 abbrev pub races_text : State → Option NodeId → List Reading → Text
 races_text s only readings =
     listed_text only (races_asked s only) readings (has_looks (causes_of s) (chip_of s)) (is_none (first_ready (chip_of s)))

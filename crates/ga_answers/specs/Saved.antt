@@ -11,14 +11,14 @@ use Rattle.ga_display.specs.Texts.{spaced}
 abbrev pub step_line : NodeId → Text
 step_line node = spaced (codes "step" ∷ name_of_node node ∷ [])
 
--- one for each kept event: of its node, of a pass of the writer
+-- the line of a kept event: the step of its node, of a pass of the writer
 abbrev pub saved_line : Event → Text
 saved_line e = step_line (actor_of e)
 
 abbrev pub saved_lines : State → List Line
 saved_lines s = map saved_line s.kept
 
--- each ended by a line feed
+-- a line, ended by a line feed
 abbrev pub with_feed : Text → Text
 with_feed line = line ++ codes "\n"
 

@@ -17,7 +17,7 @@ abbrev pub noted_cell : Option Notes → NodeId → Option ℕ → Text
 noted_cell None node cell = []
 noted_cell (Some notes) node cell = first_note_text notes.notes.items node cell
 
--- and of a slot of it, where the line is long that gives the cell
+-- what is said of a slot of a cell of a node, where the line is long that gives the cell
 abbrev pub noted_slot : Option Notes → NodeId → Option ℕ → ℕ → Text
 noted_slot None node cell slot = []
 noted_slot (Some notes) node cell slot = if first_note_is_long notes.notes.items node cell then slot_text notes.words.items node cell slot else []
@@ -25,7 +25,7 @@ noted_slot (Some notes) node cell slot = if first_note_is_long notes.notes.items
 abbrev pub noted_text : Option Notes → NodeId → Option ℕ → ℕ → Text
 noted_text notes node cell slot = noted_cell notes node cell ++ noted_slot notes node cell slot
 
--- and the end of the line
+-- what is said of a cell of a node and of a slot of it, and the end of the line
 abbrev pub tail_text : Option Notes → NodeId → Option ℕ → ℕ → Text
 tail_text notes node cell slot = noted_text notes node cell slot ++ codes "\n"
 

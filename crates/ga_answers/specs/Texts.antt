@@ -61,7 +61,7 @@ doing_text (wait.Read sides) stop = codes " ?" ++ side_letter sides
 doing_text (wait.Write side) stop = codes " !" ++ side_letter (only side)
 doing_text wait.Nothing stop = if stop == 0 then codes "  *" else codes "  x"
 
--- of a node that made no step, that it is as at load
+-- what a node does; of one that made no step, that it is as at load
 abbrev pub cell_text : State → ℕ → Text
 cell_text s n =
     if nat_lt (steps_of n s.kept) 1 then codes "  ."
@@ -97,7 +97,7 @@ effects_head events nodes = codes "effects " ++ decimal events ++ codes " " ++ d
 abbrev pub effects_text : ℕ → List RollbackEffect → Text
 effects_text events effects = effects_head events (length effects) ++ flat_map effect_text effects
 
--- by what `rewind` would answer
+-- what is told of a rollback, by what `rewind` would answer
 abbrev pub effects_answer : List RollbackEffect → Result ℕ LabFault → Text
 effects_answer effects (Ok events) = effects_text events effects
 effects_answer effects (Err why) = refusal_text why
@@ -125,7 +125,7 @@ words_head from to count = codes "words " ++ name_of_node from ++ codes " " ++ n
 abbrev pub no_link : Text
 no_link = codes "no 34 nolink\n"
 
--- between neighbours
+-- the link between two neighbours, and the words of it that are kept
 abbrev pub linked_text : State → NodeId → NodeId → Text
 linked_text s from to = words_head from to (word_count s from.number to.number) ++ flat_map (sent_text from to) (words_of s from.number to.number)
 

@@ -47,7 +47,7 @@ part_name part.Wait = codes "wait"
 part_name part.Stop = codes "stop"
 part_name part.Outside = codes "outside"
 
--- It stands behind what a step did, but for T, the instruction word and a cell, which go without saying.
+-- The name of a part stands behind what a step did, but for T, the instruction word and a cell, which go without saying.
 abbrev pub mark_text : Part → Text
 mark_text (part.Data k) = if k == 0 then [] else codes " " ++ data_name k
 mark_text (part.Ram k) = []
@@ -90,7 +90,7 @@ rows_by notes s node step made rows =
 abbrev pub tree_rows_text : Option Notes → State → NodeId → ℕ → Value → List Row → Text
 tree_rows_text notes s node step value rows = rows_by notes s node step ((origin_of s value).step == step) rows
 
--- where these are not all
+-- the line behind the rows of a tree, where these are not all
 abbrev pub more_text : Bool → Text
 more_text true = []
 more_text false = codes "more\n"

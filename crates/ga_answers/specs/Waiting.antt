@@ -31,7 +31,7 @@ abbrev pub beside_text : List NodeRecord → Option ℕ → ℕ → Text
 beside_text chip None letter = []
 beside_text chip (Some m) letter = 32 ∷ letter ∷ 32 ∷ [] ++ name_text m ++ codes " " ++ does_text chip m
 
--- where the node awaits it
+-- the neighbour on a side and what it does, where a node awaits it
 abbrev pub awaited_text : List NodeRecord → ℕ → Side → ℕ → Text
 awaited_text chip n side letter = if awaits (record_at chip n).wait side then beside_text chip (neighbour_of n side) letter else []
 
@@ -55,7 +55,7 @@ unfoldable pub each_node : (ℕ → Text) → ℕ → ℕ → Text
 each_node text n zero = []
 each_node text n (suc more) = text n ++ each_node text (n + 1) more
 
--- where it is not idle
+-- what is told of a node that waits, where it is not idle
 abbrev pub busy_text : List NodeRecord → (ℕ → Bool) → ℕ → Text
 busy_text chip idle n = if idle n then [] else waiting_text chip n
 
@@ -70,7 +70,7 @@ name_if named n = if named then codes " " ++ name_text n else []
 abbrev pub busy_names : (ℕ → Bool) → (ℕ → Bool) → Text
 busy_names marks idle = each_node (λ n. name_if (marks n && not (idle n)) n) 0 144
 
--- of how many of the first nodes this holds
+-- of how many of the first so many nodes a test holds
 unfoldable pub node_count : (ℕ → Bool) → ℕ → ℕ
 node_count test zero = 0
 node_count test (suc n) = node_count test n + (if test n then 1 else 0)

@@ -16,11 +16,11 @@ written_text node None = []
 written_text node (Some written) =
     step_text node written.step ++ codes " " ++ deed_text written.made node.number ++ codes " " ++ hex6_of written.word ++ codes "\n"
 
--- of so many steps of a node those that wrote the cell, the newest first
+-- the steps that wrote the cell, of so many steps of a node, the newest first
 unfoldable pub cell_writes : State → NodeId → ℕ → ℕ → Text
 cell_writes s node cell zero = []
 cell_writes s node cell (suc k) = written_text node (written_at s node.number cell k) ++ cell_writes s node cell k
 
--- Of all its steps; each cell of RAM has two addresses below 80 hexadecimal, and from there on is ROM, where no step writes.
+-- The steps that wrote at an address: each cell of RAM has two below 80 hexadecimal, and from there on is ROM, where no step writes.
 abbrev pub writes_text : State → NodeId → ℕ → Text
 writes_text s node address = if nat_lt address 128 then cell_writes s node (address % 64) (steps_of node.number s.kept) else []

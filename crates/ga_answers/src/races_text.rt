@@ -57,7 +57,7 @@ fn say_found<W: Write>(only: Option<NodeId>, races: &Races, writer: &mut Writer<
     say_rest(readings, last, writer)
 }
 
-/// Says that so many lines follow, then each of these.
+/// Says that so many lines of steps follow, then each of these passes.
 fn say_list<W: Write>(races: &[Race], count: u64, writer: &mut Writer<'_, W>) -> Spoken
     ensures { Says result (λ text. text ≡ race_lines_text races.now count)
         W.contents writer.old writer.new }
@@ -84,14 +84,14 @@ fn say_rest<W: Write>(
     writer.say_blocks(last)
 }
 
-/// Says one of them.
+/// Says a look that could have read otherwise.
 fn say_reading<W: Write>(reading: Reading, writer: &mut Writer<'_, W>) -> Spoken
     ensures { SaysExactly result (reading_text reading) W.contents writer.old writer.new }
 {
     writer.say_blocks(reading_line(reading).as_slice())
 }
 
-/// Says one of them.
+/// Says a pass whose reader could have taken another word.
 fn say_race<W: Write>(race: Race, writer: &mut Writer<'_, W>) -> Spoken
     ensures { SaysExactly result (race_text race) W.contents writer.old writer.new }
 {

@@ -108,7 +108,7 @@ impl<'l> Outlook<'l> {
     ghost use Rattle.ga_origin.specs.Origins.{node_after};
     ghost use Rattle.ga_answers.specs.Tails.{noted_text, slot_before, step_tail, value_tail};
 
-    /// From a node that is walked back to its step.
+    /// An outlook from a node that is walked back to its step.
     pub fn new(lab: &'l Lab, notes: &'l Option<Notes>, node: NodeId, step: u32) -> Self
         requires { step ≤ steps_of node.number lab.now.kept }
         ensures lab { result.lab.now ≡ lab.now }
@@ -147,7 +147,7 @@ impl<'l> Outlook<'l> {
         self.slot_near(node, place) as usize
     }
 
-    /// The same where the source tells slots of the cell.
+    /// The slot that was next before a step, where the source tells slots of the cell; else that before a fetch.
     fn step_slot(&self, node: NodeId, step: u32, cell: Option<u8>) -> usize
         ensures { noted_text self.now.notes.now node cell result ≡ noted_text self.now.notes.now node cell (slot_before self.now.lab.now node step) }
     {

@@ -279,7 +279,7 @@ fn is_idle(idle: &[bool; 144], node: NodeId) -> bool
     idle[node.index()]
 }
 
-/// One where this holds.
+/// 1 where this holds, else 0.
 fn one_if(holds: bool) -> u8
     ensures one { result ≡ (if holds then 1 else 0) }
     ensures few { result ≤ 1 }

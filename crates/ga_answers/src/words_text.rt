@@ -33,7 +33,7 @@ pub fn say_words<W: Write>(
     }
 }
 
-/// Says how many there are, then each of them.
+/// Says how many words of a link are kept, then each of them.
 fn say_linked<W: Write>(lab: &Lab, from: NodeId, to: NodeId, writer: &mut Writer<'_, W>) -> Spoken
     ensures { Says result (λ text. text ≡ linked_text lab.now from to)
         W.contents writer.old writer.new }
@@ -50,7 +50,7 @@ fn say_linked<W: Write>(lab: &Lab, from: NodeId, to: NodeId, writer: &mut Writer
     Ok(())
 }
 
-/// Says one of them.
+/// Says a word of a link.
 fn say_sent<W: Write>(from: NodeId, to: NodeId, sent: &Sent, writer: &mut Writer<'_, W>) -> Spoken
     ensures { SaysExactly result (sent_text from to sent.now) W.contents writer.old writer.new }
 {

@@ -49,7 +49,7 @@ pub record IsRefusal (image text : Text) : Type 0 where
   pub first : IsFirstFault (lines_of image) fault
   pub told : text ≡ image_fault_text fault
 
--- a write failed within such a text
+-- a write failed within a text for which this holds
 pub record IsCutShort (IsText : Text → Type 0) (text : Text) : Type 0 where
   pub whole : Text
   pub is_text : IsText whole

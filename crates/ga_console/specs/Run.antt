@@ -54,7 +54,7 @@ pub record Faulty (read rest : Bytes) (fault : ImageFault) : Type 0 where
   pub part : IsReadAlone image ahead rest
   pub faulty : IsFirstFault (lines_of image) fault
 
--- or for want of memory
+-- the image was refused, with its first fault or for want of memory
 abbrev pub Refused : Bytes → Bytes → ImageFault → Type 0
 Refused read rest fault = (fault ≡ no_memory) ⊎ Faulty read rest fault
 

@@ -23,7 +23,7 @@ const REWIND_HEAD: usize = b"rewind NNN ".len();
 /// `step`, as `word_of` reads it.
 const STEP: u64 = 0x7065_7473;
 
-/// `ewin` and `ount`, read so.
+/// `ewin` and `ount`, as `word_of` reads them.
 const EWIN: u64 = 0x6e69_7765;
 
 const OUNT: u64 = 0x746e_756f;
@@ -102,7 +102,7 @@ fn rewind_ahead(text: &[u8]) -> Option<(Command, usize)>
     Some((Command::Rewind(node, step), REWIND_HEAD + digits))
 }
 
-/// The same of a `count` too. Four bytes tell which it may be, from the second on: by the first four a `step` was told.
+/// The `rewind` or `count` that the line in front of a text spells, and how many bytes it has. The second byte to the fifth tell which.
 #[inline(always)]
 #[tactic(auto, using(crate::proofs::AheadLemmas::count_front, crate::proofs::AheadLemmas::six_are))]
 fn soon_ahead(text: &[u8]) -> Option<(Command, usize)>
@@ -137,7 +137,7 @@ pub fn ahead_of(text: &[u8]) -> Ahead
     other_ahead(text)
 }
 
-/// The same, where it is no `step` of a node.
+/// What stands in front of a text that begins with no `step` of a node.
 #[inline(always)]
 fn other_ahead(text: &[u8]) -> Ahead
     ensures { StandsAhead text.now result }
@@ -151,7 +151,7 @@ fn other_ahead(text: &[u8]) -> Ahead
     }
 }
 
-/// The same, by looking for the line feed.
+/// What stands in front of a text, by looking for the line feed.
 #[inline(always)]
 fn line_ahead(text: &[u8]) -> Ahead
     ensures { StandsAhead text.now result }
@@ -168,7 +168,7 @@ fn line_ahead(text: &[u8]) -> Ahead
     }
 }
 
-/// The same, where the line has so many bytes.
+/// What stands in front of a text, where the line has so many bytes.
 #[inline(always)]
 #[tactic(auto, using(crate::proofs::AheadLemmas::line_front))]
 fn told_ahead(text: &[u8], count: usize) -> Ahead

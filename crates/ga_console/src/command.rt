@@ -150,7 +150,7 @@ fn memory_shown(line: &[u8]) -> Option<Command>
     Some(Command::Memory(node, address))
 }
 
-/// The same by the words of the line.
+/// The command that a line spells, by the words of the line.
 fn spelled_by(line: &[u8]) -> Option<Command>
     ensures some { IfSome result (λ command. SpellsCommand command line.now) }
     ensures only { IfSome result (λ command. (other : Command) → SpellsCommand other line.now → other ≡ command) }

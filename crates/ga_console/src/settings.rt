@@ -92,7 +92,7 @@ pub enum LineFault {
     /// The words are no command line of the program. The text tells which word, and what is expected.
     #[error("{0}")]
     Refused(String),
-    /// There was no memory to read them, or to tell what is wrong with them.
+    /// There was no memory to read the settings, or to tell what is wrong with them.
     #[error("out of memory")]
     Memory,
 }

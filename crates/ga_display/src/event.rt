@@ -56,7 +56,7 @@ fn push_near<const ROOM: usize>(out: &mut ArrayVec<u8, ROOM>, node: NodeId, step
     push_kind(out, kind);
 }
 
-/// The same with a number of any length.
+/// Adds the text of an event of a node's own, whose number has any length.
 #[inline(never)]
 fn push_far<const ROOM: usize>(out: &mut ArrayVec<u8, ROOM>, node: NodeId, step: u32, kind: Kind)
     requires { array_vec_len out.old + LINE_ROOM ≤ ROOM }
@@ -100,7 +100,7 @@ fn push_kind<const ROOM: usize>(out: &mut ArrayVec<u8, ROOM>, kind: Kind)
     }
 }
 
-/// The same by value, which is copied without a look whether it overlaps.
+/// What a fetch is told as, and the end of its line, by value, which is copied without a look whether it overlaps.
 #[inline(always)]
 fn fetch() -> [u8; 7]
     ensures { result ≡ codes " fetch\n" }
@@ -110,7 +110,7 @@ fn fetch() -> [u8; 7]
     ]
 }
 
-/// The same of a wait or a stop.
+/// Adds that an event of a node's own was a wait or a stop, and the end of its line.
 #[inline(never)]
 fn push_end<const ROOM: usize>(out: &mut ArrayVec<u8, ROOM>, kind: Kind)
     requires { array_vec_len out.old + KIND_ROOM ≤ ROOM }

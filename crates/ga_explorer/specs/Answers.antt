@@ -18,7 +18,7 @@ use Rattle.ga_explorer.specs.declared.commands.ExplorerCommand.{ExplorerCommand}
 abbrev pub IsOfDebugger : Line → Type 0
 IsOfDebugger line = (longest < length line) ⊎ ((length line ≤ longest) × (c : Command) × SpellsCommand c line)
 
--- it spells none
+-- the line is not too long, and spells no command of the debugger
 abbrev pub IsNoCommand : Line → Type 0
 IsNoCommand line = (length line ≤ longest) × ((c : Command) → ¬ SpellsCommand c line)
 
@@ -36,7 +36,7 @@ pub data Explores (e : Exploring) (line answer : Text) (new : Exploring) : Type 
 abbrev pub ExploresPart : Exploring → Line → Text → Exploring → Type 0
 ExploresPart e line answer new = (part : Line) → line ≡ take (longest + 1) part → Explores e part answer new × (part ≢ quit_line)
 
--- it is answered, as far as the answer can be written, or ends the session
+-- a line is answered, as far as the answer can be written, or ends the session
 abbrev pub ExploresOrQuits : Exploring → Line → Exploring → Result Turn WriteFailed → Text → Type 0
 ExploresOrQuits e line new (Ok Answered) answer = ExploresPart e line answer new
 ExploresOrQuits e line new (Ok Quit) answer = (line ≡ quit_line) × (new ≡ e) × (answer ≡ [])

@@ -32,7 +32,7 @@ use Rattle.ga_explorer.specs.declared.commands.Question.TheVariants as told
 
 -- ---- what `help` says of them
 
--- those of the debugger too, in the order of `help`
+-- the commands of exploring and those of the debugger, in the order of `help`
 unfoldable pub rows : List CommandForm
 rows =
     entry (codes "run") (codes "run [greedy|random SEED] [N] [until COND]") (codes "\n                      make up to N events, in rounds or in this order\nCOND: pass NNN MMM = W, pass NNN MMM J, step NNN K, stop, stop NNN, wait NNN,\n      mem NNN HH = W, p NNN X, reach NNN X, change NNN HH [= W], COND or COND\nX: an address, a label, line N\n") (codes "answers: reached M EVENT, made M, quiet M or full M: how many events, and why no more\nexample: run 1000 until stop or reach 001 000012\n")
@@ -69,7 +69,7 @@ command_text place = about_found (slice_get rows place)
 
 -- ---- how a line spells one of exploring
 
--- one that changes nothing, of one word
+-- a command that changes nothing, of one word
 unfoldable pub lone_question : Line → Option Question
 lone_question name =
     if pointwise nat_eq name (codes "who") then Some told.Who
@@ -79,7 +79,7 @@ lone_question name =
     else if pointwise nat_eq name (codes "help") then Some told.Help
     else None
 
--- one of a word and what stands behind it
+-- a command that changes nothing, of a word and what stands behind it
 unfoldable pub named_question : Line → Line → Option Question
 named_question name text =
     if pointwise nat_eq name (codes "effects") then (do

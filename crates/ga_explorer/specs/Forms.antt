@@ -25,7 +25,7 @@ unfoldable pub place_from : Line → ℕ → List CommandForm → Option ℕ
 place_from word before [] = None
 place_from word before (row ∷ more) = if pointwise nat_eq row.name word then Some before else place_from word (before + 1) more
 
--- what is told of one of them
+-- what is told of one command
 abbrev pub about_text : CommandForm → Text
 about_text row = form_row_text row ++ row.more
 

@@ -14,7 +14,7 @@ has_end_line (b ∷ text) = if starts_with nat_eq (b ∷ text) (codes "\nend\n")
 abbrev pub has_end : Text → Bool
 has_end text = starts_with nat_eq text (codes "end\n") || has_end_line text
 
--- it ends in a line `end` without one
+-- the text ends in a line `end` without its line feed
 abbrev pub ends_in_end : Text → Bool
 ends_in_end text = pointwise nat_eq text (codes "end") || ends_with nat_eq text (codes "\nend")
 
@@ -22,7 +22,7 @@ ends_in_end text = pointwise nat_eq text (codes "end") || ends_with nat_eq text 
 abbrev pub is_cut_off : Text → Bool
 is_cut_off text = begins_as_image text && (not (has_end text) && not (ends_in_end text))
 
--- what it wants for commands to stand behind it: nothing, the line feed of its last line, or the line `end`
+-- what a text wants for commands to stand behind it: nothing, the line feed of its last line, or the line `end`
 abbrev pub closing : Text → Text
 closing text =
     if has_end text then []
@@ -30,6 +30,6 @@ closing text =
     else if (length text == 0) || ends_with nat_eq text (codes "\n") then codes "end\n"
     else codes "\nend\n"
 
--- with that
+-- the text with what it wants for commands to stand behind it
 abbrev pub closed : Text → Text
 closed text = text ++ closing text

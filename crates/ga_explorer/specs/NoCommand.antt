@@ -44,7 +44,7 @@ abbrev pub first_word : Option (Line × Line) → Line → Line
 first_word None line = line
 first_word (Some parts) line = parts.0
 
--- the byte order mark of UTF-8 stands before it
+-- the byte order mark of UTF-8 stands in front of the line
 abbrev pub is_mark : Line → Bool
 is_mark line = starts_with nat_eq line (239 ∷ 187 ∷ 191 ∷ [])
 

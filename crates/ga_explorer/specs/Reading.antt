@@ -183,7 +183,7 @@ condition_in notes text = condition_by notes (cut text) text
 
 -- ---- conditions with ` or ` between them
 
--- what stands behind one in front
+-- what stands behind ` or ` where a text begins with that
 unfoldable pub behind_or : Line → Option Line
 behind_or (a ∷ b ∷ c ∷ d ∷ rest) = if (a == 32) && ((b == 111) && ((c == 114) && (d == 32))) then Some rest else None
 behind_or _ = None
@@ -192,7 +192,7 @@ abbrev pub cut_here : Option Line → Option (Line × Line) → Option (Line × 
 cut_here None later = later
 cut_here (Some rest) later = Some ([], rest)
 
--- what stands before the first of them, and what stands behind it
+-- what stands before the first ` or ` of a text, and what stands behind it
 abbrev pub or_cut : Line → Option (Line × Line)
 or_cut [] = None
 or_cut (b ∷ text) = cut_here (behind_or (b ∷ text)) (in_front b (or_cut text))
@@ -209,7 +209,7 @@ or_split text = split_by (or_cut text) text
 abbrev pub most_conditions : ℕ
 most_conditions = 8
 
--- some in front of others
+-- some conditions in front of others
 abbrev pub with_front : List Condition → Option (List Condition) → Option (List Condition)
 with_front front others = option_map (λ more. front ++ more) others
 
@@ -217,7 +217,7 @@ abbrev pub with_first : Option Condition → Option (List Condition) → Option 
 with_first None others = None
 with_first (Some one) others = with_front (one ∷ []) others
 
--- those behind the first, or else as many that hold never as there are places left
+-- the conditions behind the first, or else as many that hold never as there are places left
 abbrev pub others_by : ℕ → (Line → Option (List Condition)) → Option Line → Option (List Condition)
 others_by more others None = Some (replicate more Never)
 others_by more others (Some text) = others text
@@ -225,7 +225,7 @@ others_by more others (Some text) = others text
 abbrev pub conditions_by : Option Notes → ℕ → (Line → Option (List Condition)) → Line × Option Line → Option (List Condition)
 conditions_by notes more others parts = with_first (condition_in notes parts.0) (others_by more others parts.1)
 
--- for so many places
+-- conditions with ` or ` between them, for so many places
 unfoldable pub conditions_within : Option Notes → ℕ → Line → Option (List Condition)
 conditions_within notes zero text = None
 conditions_within notes (suc more) text = conditions_by notes more (conditions_within notes more) (or_split text)
@@ -233,7 +233,7 @@ conditions_within notes (suc more) text = conditions_by notes more (conditions_w
 abbrev pub conditions_in : Option Notes → Line → Option (List Condition)
 conditions_in notes text = conditions_within notes most_conditions text
 
--- none
+-- the conditions where none is given: each holds never
 abbrev pub no_condition : List Condition
 no_condition = replicate most_conditions Never
 

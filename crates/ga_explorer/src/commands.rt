@@ -36,7 +36,7 @@ pub enum ExplorerCommand {
         only: Option<NodeId>,
         until: Conditions,
     },
-    /// One that changes nothing.
+    /// A command that changes nothing.
     Tell(Question),
 }
 
@@ -116,7 +116,7 @@ fn lone_request(name: &[u8]) -> Option<ExplorerCommand>
     }
 }
 
-/// One of these that changes nothing.
+/// A command of one word that changes nothing.
 #[tactic(auto, unfolding(crate::specs::Commands::lone_question))]
 fn lone_question(name: &[u8]) -> Option<Question>
     ensures { result ≡ lone_question name.now }
@@ -145,7 +145,7 @@ fn named_request(notes: &Option<Notes>, name: &[u8], arguments: &[u8]) -> Option
     }
 }
 
-/// One of these that changes nothing.
+/// A command that changes nothing, of a word and what stands behind it.
 #[tactic(auto, unfolding(crate::specs::Commands::named_question))]
 fn named_question(name: &[u8], arguments: &[u8]) -> Option<Question>
     ensures { result ≡ named_question name.now arguments.now }

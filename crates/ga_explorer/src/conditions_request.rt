@@ -12,7 +12,7 @@ use ga_text::cut;
 /// never.
 pub(crate) type Conditions = [Condition; MOST_CONDITIONS];
 
-/// None given.
+/// The conditions where none is given: each holds never.
 pub(crate) fn no_condition() -> Conditions
     ensures size { length result ≡ 8 }
     ensures value { result ≡ no_condition }

@@ -16,13 +16,13 @@ use std::io::Write;
 pub(crate) struct Row {
     /// The word that a line of it begins with.
     pub(crate) name: &'static [u8],
-    /// How it is spelled. What stands in brackets may be left out.
+    /// How the command is spelled. What stands in brackets may be left out.
     pub(crate) form: &'static [u8],
     /// What `help` says behind the form, up to the line's end.
     pub(crate) does: &'static [u8],
     /// What `help` of this command says besides: what it answers, and an example.
     pub(crate) more: &'static [u8],
-    /// Its line in what `ga144 explore --help` says of those that only tell; none of others.
+    /// The command's line in what `ga144 explore --help` says of commands that only tell; none of others.
     pub(crate) usage: &'static str,
 }
 

@@ -91,7 +91,7 @@ fn bounded_of(notes: &Option<Notes>, schedule: Schedule, text: &[u8]) -> Option<
     }
 }
 
-/// The same, by its first word and what stands behind that.
+/// A number, `until` and conditions, or both, by the first word and what stands behind that.
 #[tactic(auto, unfolding(crate::specs::Reading::bounded_by))]
 fn bounded_by(
     notes: &Option<Notes>,

@@ -10,9 +10,9 @@ use ga_text::number_in;
 /// Which step of a node is meant.
 #[derive(Clone, Copy, PartialEq, Eq, Debug)]
 pub enum Which {
-    /// The one with this number.
+    /// The step with this number.
     Number(u32),
-    /// The last that it made.
+    /// The last step that the node made.
     Last,
 }
 

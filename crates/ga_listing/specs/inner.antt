@@ -120,7 +120,7 @@ registers_words n node has_cells =
 abbrev pub memory_words : NodeState → List Word
 memory_words node = cells_words 0 0 node.ram ++ cells_words 0x80 (next_behind 0 0 node.ram) node.rom
 
--- all of a node
+-- the words of all of a node
 abbrev pub node_words : ℕ → NodeState → List Word
 node_words n node = registers_words n node (holds_words node) ++ memory_words node
 
@@ -182,7 +182,7 @@ with_fault ImageRefused = ImageRefused
 with_fault StreamFault = StreamFault
 with_fault NotFinished = NotFinished
 
--- and behind a listing with a fault or none
+-- the status behind a listing with a fault or none
 abbrev pub behind_listing : Status → Option Fault → Status
 behind_listing status None = status
 behind_listing status (Some first) = with_fault status

@@ -10,16 +10,16 @@ pub(crate) struct FaultLines<'a, 's> {
     /// The word of number N is at N - 1.
     words: &'a [Token<'s>],
     lines: Lines<'s>,
-    /// What is told in them of a line is told of the number of a word.
+    /// The faults. What they tell of a line is told of the number of a word.
     faults: Vec<Fault<'s>>,
-    /// How many were told.
+    /// How many faults were told.
     told: usize,
-    /// The one that was told last, of its line.
+    /// The fault that was told last, of its line.
     last: Option<Fault<'s>>,
 }
 
 impl<'a, 's> FaultLines<'a, 's> {
-    /// Those of a source, its words and its faults.
+    /// The lines of faults of a source, its words and its faults.
     ///
     /// # Errors
     /// Memory was refused.

@@ -31,14 +31,14 @@ abbrev pub IsTallyOf : State → Tally → Type 0
 IsTallyOf s tally = (runs : List (List Event)) × IsSomeOrders (chip_of s) runs × IsTally tally (ends_of (chip_of s) runs)
     × (tally.whole ≡ true → IsEveryOrder (chip_of s) runs)
 
--- What is found on a machine: such a tally; or the end of the order that is asked for, and last the machine there; or there is no
+-- What is found on a machine: a tally of its orders; or the end of the order that is asked for, and last the machine there; or there is no
 -- memory.
 abbrev pub IsSearched : ℕ → State → Result Tally Stop → State → Type 0
 IsSearched asked s (Ok tally) last = IsTallyOf s tally
 IsSearched asked s (Err Reached) last = IsOrderReached s asked last
 IsSearched asked s (Err Memory) last = Unit {0}
 
--- The same where a node looks: a tally of runs that come to rest. That they are all, and each once, is tested.
+-- What is found where a node looks: a tally of runs that come to rest. That they are all, and each once, is tested.
 abbrev pub IsLooked : ℕ → State → Result Tally Stop → State → Type 0
 IsLooked asked s (Ok tally) last = (runs : List (List Event)) × All (Rests (chip_of s)) runs × IsTally tally (ends_of (chip_of s) runs)
 IsLooked asked s (Err Reached) last = IsRunReached s asked last
@@ -48,7 +48,7 @@ abbrev pub IsFoundBy : Bool → ℕ → State → Result Tally Stop → State �
 IsFoundBy false asked s found last = IsSearched asked s found last
 IsFoundBy true asked s found last = IsLooked asked s found last
 
--- a node is stopped at such an end
+-- a node that does this at an end is stopped
 abbrev pub is_stop_fate : Fate → Bool
 is_stop_fate Quiet = false
 is_stop_fate Reads = false
@@ -66,7 +66,7 @@ is_faultless tally = tally.alike && not (list_any has_stop tally.kinds.items)
 abbrev pub verdict_of : Tally → Verdict
 verdict_of tally = if tally.whole then (if is_faultless tally then Alike else Several) else Open
 
--- there is no such order, or there may be
+-- the verdict where no order of the number was met: there is no such order, or there may be
 abbrev pub no_order_verdict : Tally → Verdict
 no_order_verdict tally = if tally.whole then Ended ImageRefused else Open
 
@@ -77,7 +77,7 @@ tally_text asked tally = if nat_lt tally.orders asked then no_order_text asked t
 abbrev pub tally_verdict : ℕ → Tally → Verdict
 tally_verdict asked tally = if nat_lt tally.orders asked then no_order_verdict tally else verdict_of tally
 
--- of what was found
+-- what is told of what was found
 abbrev pub found_text : ℕ → Result Tally Stop → State → Text
 found_text asked (Ok tally) last = tally_text asked tally
 found_text asked (Err Reached) last = saved_text last

@@ -55,7 +55,7 @@ stop_items nodes = each_node (λ n. stop_item (fate_at nodes n) n) 0 144
 abbrev pub doing_items : Bool → List Fate → Text
 doing_items polls nodes = each_node (λ n. doing_item polls (fate_at nodes n) n) 0 144
 
--- the nodes that wait or poll, behind this, where there are any
+-- the nodes that wait or poll, between two texts; or another text where there are none
 abbrev pub doing_tail : Text → Text → Text → Text → Text
 doing_tail none before does [] = none
 doing_tail none before does (blank ∷ names) = before ++ (blank ∷ names) ++ does
@@ -83,7 +83,7 @@ abbrev pub end_kind_text : EndKind → Text
 end_kind_text kind =
     end_kind_line kind.orders (end_text (stop_items kind.nodes) (doing_items false kind.nodes) (doing_items true kind.nodes)) kind.first
 
--- a line of all, and one for each of these kinds
+-- a line of all orders, and one for each of these kinds of end
 abbrev pub orders_with : Tally → List EndKind → Text
 orders_with tally kinds = orders_head tally (length kinds) ++ flat_map end_kind_text kinds
 

@@ -22,16 +22,16 @@ are_ports Bad = false
 abbrev pub fetches_from_ports : NodeRecord → Bool
 fetches_from_ports n = is_none (refusal n) && n.slot == 4 && are_ports (classified n.p)
 
--- the machine after a step of the node, where that is such a wait
+-- the machine after a step of the node, where that is to wait for code
 abbrev pub settled_at : State → NodeId → State
 settled_at s n = if fetches_from_ports (record_at (chip_of s) n.number) then stepped s n else s
 
--- of the nodes with lower numbers, one after another
+-- the machine after each node with a lower number, one after another, made its step, where that is to wait for code
 abbrev pub settled_below : State → ℕ → State
 settled_below s zero = s
 settled_below s (suc n) = settled_at (settled_below s n) (node_id n)
 
--- of all; as far as the limit of kept events allows
+-- the machine after each node made its step, where that is to wait for code; as far as the limit of kept events allows
 unfoldable pub settled : State → State
 settled s = settled_below s 144
 

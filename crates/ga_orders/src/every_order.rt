@@ -33,15 +33,15 @@ use std::thread::Threads;
 /// What came of every order of a program.
 #[derive(Clone, Copy, PartialEq, Eq, Debug)]
 pub enum Verdict {
-    /// All end on one chip, where no node is stopped; or the session of an order was told.
+    /// All orders end on one chip, where no node is stopped; or the session of an order was told.
     Alike,
-    /// They end on several chips, or with a node that is stopped.
+    /// The orders end on several chips, or with a node that is stopped.
     Several,
     /// As `Alike`, where a node looks: that the orders are all is tested.
     SearchedAlike,
     /// As `Several`, where a node looks: that the orders are all is tested.
     SearchedSeveral,
-    /// There may be others than were met.
+    /// There may be other orders than were met.
     Open,
     /// No orders were told, or a write failed.
     Ended(Status),
@@ -155,7 +155,7 @@ fn tell_asked<S: Threads + Sync, W: Write>(
     }
 }
 
-/// Tells the same where a node looks.
+/// Tells how the orders of a lab's chip end, or the session of one, where a node looks.
 fn tell_looks<W: Write>(
     alloc: Global,
     lab: &mut Lab,
@@ -287,7 +287,7 @@ fn has_stops(kinds: &[EndKind]) -> bool
     kinds.iter().any(|kind| has_stop(kind))
 }
 
-/// Whether a node is stopped at such an end.
+/// Whether a node is stopped at an end of this kind.
 fn has_stop(kind: &EndKind) -> bool
     ensures { result ≡ has_stop kind.now }
 {
@@ -306,7 +306,7 @@ fn is_stop(fate: Fate) -> bool
     }
 }
 
-/// What came of it where there is no order of the number that is asked for.
+/// The verdict where no order of the number that is asked for was met.
 fn no_order_verdict(tally: &Tally) -> Verdict
     ensures { result ≡ no_order_verdict tally.now }
 {

@@ -322,7 +322,7 @@ fn push_doing_node(out: &mut AllWaiting, polls: bool, fate: Fate, node: NodeId)
     }
 }
 
-/// Adds a blank and a node, if so.
+/// Adds a blank and a node, where `is_so` is set.
 fn push_node_if(out: &mut AllWaiting, is_so: bool, node: NodeId)
     requires { array_vec_len out.old + WAITING_ROOM ≤ ALL_WAITING_ROOM }
     ensures text { out.new.items ≡ out.old.items ++ (if is_so then codes " " ++ name_text node.number else []) }

@@ -34,7 +34,7 @@ pub record Makes (chip : List NodeRecord) (n : ℕ) (cause : Cause) (after : Lis
   pub look : cause ≡ cause_of chip cause.event
   pub done : apply chip cause.event ≡ Some (after, told)
 
--- from one chip to another the nodes with these numbers do so, in their order
+-- from one chip to another the nodes with these numbers make their next events, in their order
 pub data MakesAll (load : List NodeRecord) : List ℕ → List Cause → List NodeRecord → Type 0 where
   none : MakesAll load [] [] load
   more : {nodes : List ℕ} {causes : List Cause} {chip after : List NodeRecord} {n : ℕ} {cause : Cause}
@@ -45,7 +45,7 @@ pub data MakesAll (load : List NodeRecord) : List ℕ → List Cause → List No
 abbrev pub maker_of : Cause → ℕ
 maker_of cause = (actor_of cause.event).number
 
--- in the order of the events
+-- the numbers of the nodes that made a machine's events, in the order of the events
 abbrev pub makers_of : State → List ℕ
 makers_of s = map maker_of (causes_of s)
 

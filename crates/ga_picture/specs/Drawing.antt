@@ -100,8 +100,8 @@ pub record IsDrawing (items : List PictureItem) (fold : ℕ) (drawing : Drawing)
 
 -- ---- nodes that work by themselves
 
--- They have no line: each of their events is concurrent with each event of another node (Danos and Krivine, "Reversible Communicating
--- Systems", 2004), so that what is drawn of the others tells as much without them.
+-- Nodes that work by themselves have no line: each of their events is concurrent with each event of another node (Danos and Krivine,
+-- "Reversible Communicating Systems", 2004), so that what is drawn of the others tells as much without them.
 
 -- the event at the place touches the node, and isn't left out
 pub record IsDrawnOf (items : List PictureItem) (place node : ℕ) : Type 0 where
@@ -115,7 +115,7 @@ pub record IsFree (items : List PictureItem) (node : ℕ) : Type 0 where
   pub apart : (place by other : ℕ) → IsDrawnOf items place node → IsDrawnOf items by other → other ≢ node
       → AreApart (at_place items place).cause (at_place items by).cause
 
--- It works by itself, beside nodes of which that can't be said.
+-- The node works by itself, beside nodes of which that can't be said.
 pub record IsByItself (items : List PictureItem) (node : ℕ) : Type 0 where
   pub works : IsTouched items node
   pub free : IsFree items node
@@ -132,7 +132,7 @@ without_nodes alone item =
 abbrev pub steps_made : List PictureItem → ℕ → ℕ
 steps_made items n = count_by (λ (item : PictureItem). not item.out && (actor item.cause.event == n)) items
 
--- these nodes, each with its steps
+-- these nodes, each with how many events it makes that aren't left out
 abbrev pub told_nodes : List PictureItem → (ℕ → Bool) → List ByItself
 told_nodes items alone =
     filter (λ (it : ByItself). alone it.node.number) (map (λ n. record { node = node_id n; steps = steps_made items n }) (range_with_len 0 144))

@@ -28,7 +28,7 @@ IsShort answer = (answer ≡ refusal_text Memory) ⊎ (take 7 answer ≡ codes "
 abbrev pub Hears : Exploring → Line → Text → Exploring → Type 0
 Hears s line said new = (said ≡ []) × (answer : Text) × Explores s line answer new
 
--- and no memory was wanting for it
+-- the line is answered as exploring may answer it, nothing is said, and no memory was wanting for it
 abbrev pub Follows : Exploring → Line → Text → Exploring → Type 0
 Follows s line said new = (said ≡ []) × (answer : Text) × Explores s line answer new × (¬ IsShort answer)
 

@@ -49,8 +49,8 @@ is_narrow view = view.only && (is_some view.cause || is_some view.rewind)
 abbrev pub is_left_out : View → Bool → Shade → Bool
 is_left_out view idle shade = (not view.all && (idle && not (is_asked_shade view shade))) || (is_narrow view && not (is_asked_shade view shade))
 
--- Its node has to be drawn for it: it is asked for, or is a pass, a wait or a stop. Where steps that could have come out otherwise are
--- asked for, so is a look.
+-- The node of an event has to be drawn for it: the event is asked for, or is a pass, a wait or a stop. Where steps that could have come
+-- out otherwise are asked for, so is a look.
 abbrev pub holds_node : View → Cause → Shade → Bool → Bool
 holds_node view e shade plain =
     view.all || (is_asked_shade view shade || (is_a_pass e.event || not (plain || (e.look && not view.races))))

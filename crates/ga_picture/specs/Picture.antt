@@ -33,21 +33,21 @@ class_of Black = codes "<g class='k'>"
 class_of Grey = codes "<g class='g'>"
 class_of Red = codes "<g class='r'>"
 
--- how that of a step begins that could have come out otherwise
+-- how the group of a step begins that could have come out otherwise
 abbrev pub race_class : List ℕ
 race_class = codes "<g class='c'>"
 
--- what is drawn of an event or of such a step is a group that begins so
+-- what is drawn of an event or of a step that could have come out otherwise is a group that begins so
 pub record IsGroup (class text : List ℕ) : Type 0 where
   pub body : List ℕ
   pub is : text ≡ class ++ (body ++ codes "</g>\n")
 
--- one group for each, in their order
+-- one group for each of these beginnings, in their order
 abbrev pub AreGroups : List (List ℕ) → List ℕ → Type 0
 AreGroups [] text = text ≡ []
 AreGroups (class ∷ classes) text = (group : List ℕ) × (more : List ℕ) × IsGroup class group × AreGroups classes more × (text ≡ group ++ more)
 
--- those of rows, and those of marks
+-- how the groups of rows begin, and those of marks
 abbrev pub classes_in : List PictureRow → List (List ℕ)
 classes_in rows = map (λ (row : PictureRow). class_of (shade_of row.shape)) rows
 
@@ -80,12 +80,12 @@ abbrev pub mark_at : Otherwise → Option ℕ → List RaceMark
 mark_at what None = []
 mark_at what (Some row) = record { row = row; what = what } ∷ []
 
--- at that of the event at a place
+-- the mark at the row of the event at a place
 abbrev pub mark_in : List PictureRow → ℕ → Otherwise → Option ℕ → List RaceMark
 mark_in rows start what None = []
 mark_in rows start what (Some place) = mark_at what (row_from rows start place 0)
 
--- at that of its event
+-- the mark of a step that could have come out otherwise, at the row of its event
 abbrev pub mark_of_race : List Cause → ℕ → List PictureRow → Otherwise → List RaceMark
 mark_of_race events start rows what = mark_in rows start what (place_of events (step_of what).0.number (step_of what).1)
 
@@ -95,7 +95,7 @@ marks_of_passes events start rows races = flat_map (λ (race : Race). mark_of_ra
 abbrev pub marks_of_looks : List Cause → ℕ → List PictureRow → List Reading → List RaceMark
 marks_of_looks events start rows readings = flat_map (λ (reading : Reading). mark_of_race events start rows (Look reading)) readings
 
--- one for each pass and each look that could have come out otherwise, and whose event has a row
+-- one mark for each pass and each look that could have come out otherwise, and whose event has a row
 abbrev pub marks_of : List Cause → ℕ → List PictureRow → List Race → List Reading → List RaceMark
 marks_of events start rows races readings = marks_of_passes events start rows races ++ marks_of_looks events start rows readings
 
@@ -106,7 +106,7 @@ abbrev pub stands_for : State → Option (NodeId × ℕ) → Bool
 stands_for s None = true
 stands_for s (Some step) = stands s step.0.number step.1
 
--- so do both that are asked for
+-- both steps that are asked for stand, where they are given
 abbrev pub all_stand : State → View → Bool
 all_stand s view = stands_for s view.cause && stands_for s view.rewind
 
@@ -119,7 +119,7 @@ place_for events (Some step) = place_of events step.0.number step.1
 abbrev pub end_in : List Cause → View → ℕ
 end_in events view = min (length events) view.to
 
--- and so many of the oldest
+-- so many of the oldest events are left out
 abbrev pub start_in : List Cause → View → ℕ
 start_in events view = min (end_in events view) view.from
 
@@ -160,7 +160,7 @@ pub record AreRaceMarks (s : State) (view : View) (rows : List PictureRow) (mark
   pub told : All (IsTold s None) readings
   pub are : marks ≡ (if view.races then marks_of (causes_of s) (start_in (causes_of s) view) rows (races_asked s None) readings else [])
 
--- The text of such a picture.
+-- The text of the picture of the machine's kept events.
 pub record IsPictureText (s : State) (view : View) (text : List ℕ) : Type 0 where
   pub drawing : Drawing
   pub is : IsPicture s view drawing

@@ -59,7 +59,7 @@ pub record AreTallied (items : List PictureItem) (tally : Tally) : Type 0 where
   pub held : (n : ℕ) → is_marked tally.held n ≡ held_in items n
   pub looking : (n : ℕ) → is_marked tally.looking n ≡ looking_in items n
 
--- no node has more steps
+-- no node has more steps than the bound
 pub record HasFew (tally : Tally) (bound : ℕ) : Type 0 where
   pub size : length tally.steps ≡ 144
   pub few : (n : ℕ) → slice_index tally.steps n ≤ bound
@@ -89,7 +89,7 @@ pub record HasJoined (tally : Tally) : Type 0 where
 abbrev pub Notes : Bool → Text → Bool → Type 0
 Notes before answer after = after ≡ false → (before ≡ false) × (¬ IsShort answer)
 
--- it may answer the line so, here nothing is said, and it is noted whether memory was wanting
+-- exploring may answer the line so, here nothing is said, and it is noted whether memory was wanting
 abbrev pub HearsLine : Exploring → Bool → Line → Text → Exploring → Bool → Type 0
 HearsLine s before line said new after = (said ≡ []) × (answer : Text) × Explores s line answer new × Notes before answer after
 
@@ -123,7 +123,7 @@ pub record AreKnownBetween (facts : Facts) (from to : ℕ) : Type 0 where
   pub shades : length facts.shades.now ≡ length facts.events.now
   pub plain : length facts.plain.now ≡ length facts.events.now
 
--- those are plain that are so where these nodes are ready behind the events
+-- the events that are plain are those that are so where these nodes are ready behind the events
 abbrev pub ArePlainAs : (ℕ → Bool) → Facts → Type 0
 ArePlainAs ready facts =
     (place : ℕ) → place < length facts.events.now → slice_index_or facts.plain.now place false ≡ is_plain_at ready facts.events.now place
@@ -162,7 +162,7 @@ count_in runs n shade = if is_same_run (slice_index_or runs.shades n Black) shad
 abbrev pub HasNodes : Runs → Type 0
 HasNodes runs = (length runs.counts ≡ 144) × (length runs.shades ≡ 144)
 
--- no run has more events
+-- no run has more events than the bound
 abbrev pub AreWithin : Runs → ℕ → Type 0
 AreWithin runs bound = (n : ℕ) → slice_index runs.counts n ≤ bound
 

@@ -29,13 +29,13 @@ pub struct ByItself {
 /// What the events of each node are like, without those that are left out.
 #[derive(Drop)]
 pub(crate) struct Tally {
-    /// How many it makes.
+    /// How many events a node makes.
     steps: [u32; 144],
-    /// Whether one touches it.
+    /// Whether an event touches a node.
     touched: Nodes,
-    /// Whether it has to be drawn for one.
+    /// Whether a node has to be drawn for an event.
     held: Nodes,
-    /// Whether it looks by one.
+    /// Whether a node looks by an event.
     looking: Nodes,
 }
 
@@ -53,7 +53,7 @@ pub(crate) fn tally_of(facts: Facts<'_>, view: View, from: usize, to: usize) -> 
 }
 
 impl Tally {
-    /// No event has come.
+    /// The tally before any event has come.
     fn new() -> Self
         ensures none { AreTallied [] result }
         ensures few { HasFew result 0 }
@@ -154,7 +154,7 @@ impl Tally {
         !self.held.has(node) && (!looks_at && !has_beside(&self.looking, node))
     }
 
-    /// These nodes, each with its steps.
+    /// The marked nodes, each with its steps.
     pub(crate) fn told(&self, alloc: Global, alone: &[bool; 144]) -> Result<Vec<ByItself>, Memory>
         ensures { (items : List PictureItem) → AreTallied items self.now →
             IfOk result (λ told. told.items ≡ told_nodes items (is_marked alone.now)) }
@@ -172,7 +172,7 @@ impl Tally {
     }
 }
 
-/// Whether a neighbour of a node is one of these.
+/// Whether a neighbour of a node is one of these nodes.
 #[tactic(auto, using(ga_causal::proofs::Oldest::any_neighbours))]
 fn has_beside(nodes: &Nodes, node: NodeId) -> bool
     ensures { result ≡ list_any (is_marked nodes.now) (neighbours node.number) }
@@ -184,7 +184,7 @@ fn has_beside(nodes: &Nodes, node: NodeId) -> bool
     right || down || left || up
 }
 
-/// Whether the neighbour on a side is one of these.
+/// Whether the neighbour on a side is one of these nodes.
 fn has_on(nodes: &Nodes, node: NodeId, side: Side) -> bool
     ensures { result ≡ any_of (is_marked nodes.now) (neighbour_of node.number side) }
 {

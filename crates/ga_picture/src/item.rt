@@ -19,13 +19,13 @@ use std::alloc::Global;
 pub struct PictureItem {
     /// The event, and whether it looks.
     pub cause: Cause,
-    /// Its colour.
+    /// The event's colour.
     pub shade: Shade,
-    /// Whether it may be one of many that are drawn as one mark: a fetch or an opcode without a look, which isn't asked for.
+    /// Whether the event may be one of many that are drawn as one mark: a fetch or an opcode without a look, which isn't asked for.
     pub plain: bool,
-    /// Whether it is left out.
+    /// Whether the event is left out.
     pub out: bool,
-    /// Whether its node has to be drawn for it: a pass, a wait or a stop, or one that is asked for.
+    /// Whether the event's node has to be drawn for it: a pass, a wait or a stop, or one that is asked for.
     pub holds: bool,
 }
 
@@ -34,9 +34,9 @@ pub struct PictureItem {
 pub(crate) struct Facts<'k> {
     /// The events.
     pub(crate) events: &'k [Cause],
-    /// Their colours.
+    /// The colours of the events.
     pub(crate) shades: &'k [Shade],
-    /// Whether each is a fetch or an opcode.
+    /// Whether each event is a fetch or an opcode.
     pub(crate) plain: &'k [bool],
     /// The idle nodes.
     pub(crate) idle: &'k [bool; 144],
@@ -122,7 +122,7 @@ fn item_of(
     }
 }
 
-/// Whether its node has to be drawn for such an event.
+/// Whether an event's node has to be drawn for it.
 fn holds_node(view: View, cause: Cause, shade: Shade, plain: bool) -> bool
     ensures { result ≡ holds_node view cause shade plain }
 {
@@ -140,7 +140,7 @@ pub(crate) fn is_pass(event: Event) -> bool
     }
 }
 
-/// Whether such an event is left out.
+/// Whether an event is left out.
 fn is_left_out(view: View, idle: bool, shade: Shade) -> bool
     ensures { result ≡ is_left_out view idle shade }
 {
@@ -165,7 +165,7 @@ fn is_at(step: Option<u32>, place: usize) -> bool
     }
 }
 
-/// Whether a node is one of these.
+/// Whether a node is one of these nodes.
 fn has(nodes: &[bool; 144], node: NodeId) -> bool
     ensures { result ≡ is_marked nodes.now node.number }
 {
@@ -222,7 +222,7 @@ pub(crate) fn plain_events(
     Ok(flags)
 }
 
-/// Whether it is an own event without a look, of a node that runs behind it.
+/// Whether an event is an own one without a look, of a node that runs behind it.
 fn is_plain(event: Cause, runs: &[bool; 144]) -> bool
     ensures { result ≡ is_plain (is_marked runs.now) event }
 {

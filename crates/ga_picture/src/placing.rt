@@ -37,7 +37,7 @@ pub enum Shape {
 }
 
 impl Shape {
-    /// In which colour it is drawn.
+    /// In which colour a shape is drawn.
     pub fn shade(&self) -> Shade
         ensures { result ≡ shade_of self.now }
     {

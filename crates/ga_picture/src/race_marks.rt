@@ -20,10 +20,10 @@ pub enum Otherwise {
     Look(Reading),
 }
 
-/// The mark of such a step.
+/// The mark of a step that could have come out otherwise.
 #[derive(Clone, Copy, PartialEq, Eq)]
 pub struct RaceMark {
-    /// The index of its row.
+    /// The index of the mark's row.
     pub row: usize,
     /// The step, and how it could have come out.
     pub what: Otherwise,
@@ -81,7 +81,7 @@ fn add_at(marks: &mut Vec<RaceMark>, what: Otherwise, row: Option<usize>) -> Res
     Ok(())
 }
 
-/// The step.
+/// The step that could have come out otherwise.
 fn step_of(what: &Otherwise) -> (NodeId, u32)
     ensures { result ≡ step_of what.now }
 {
@@ -117,7 +117,7 @@ const NEXT: u32 = 9;
 
 const BEHIND: u32 = 66;
 
-/// Adds a ring round such a step, with its title and the other word.
+/// Adds a ring round a step that could have come out otherwise, with its title and the other word.
 pub(crate) fn push_race(
     text: &mut String,
     drawing: &Drawing,
@@ -132,7 +132,7 @@ pub(crate) fn push_race(
     push_label(text, at, &mark.what)
 }
 
-/// Adds what `races` tells of it.
+/// Adds what `races` tells of a step that could have come out otherwise.
 fn push_title(text: &mut String, what: &Otherwise) -> Result<(), AllocError> {
     match what {
         Otherwise::Pass(race) => push_pass_title(text, race),
@@ -150,7 +150,7 @@ fn push_label(text: &mut String, at: (u32, u64), what: &Otherwise) -> Result<(),
     }
 }
 
-/// Where the node of such a step stands from the left: a pass is the reader's.
+/// Where the node of a row's event stands from the left: a pass is the reader's.
 fn line_of(row: &PictureRow) -> u32 {
     match row.shape {
         Shape::Mark { line, .. } => x_of(line),

@@ -13,7 +13,7 @@ use ga_causal::{Memory, Nodes};
 use ga_grid::{NODES, NodeId};
 use std::alloc::Global;
 
-/// Of each node the run that reaches up to here: how many events it has, and in which colour.
+/// The run of each node that reaches up to the event gone past last: how many events it has, and in which colour.
 #[derive(Drop)]
 pub(crate) struct Runs {
     counts: [u32; 144],
@@ -21,7 +21,7 @@ pub(crate) struct Runs {
 }
 
 impl Runs {
-    /// No event has come.
+    /// The runs before any event has come.
     pub(crate) fn new() -> Self
         ensures sizes { HasNodes result }
         ensures none { AreWithin result 0 }

@@ -12,9 +12,9 @@ use std::alloc::Global;
 pub enum Shade {
     /// As any event; where the causes of a step are asked for, it is one of them.
     Black,
-    /// The step that is asked for doesn't depend on it.
+    /// The step that is asked for doesn't depend on the event.
     Grey,
-    /// A rollback takes it.
+    /// A rollback takes the event.
     Red,
 }
 

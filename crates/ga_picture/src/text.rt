@@ -242,7 +242,7 @@ struct Tracks {
 }
 
 impl Tracks {
-    /// No node has had an event.
+    /// How the nodes stand before any has had an event.
     fn new(alloc: Global, lines: usize) -> Result<Self, AllocError> {
         let mut tracks = Vec::new(alloc);
         for _line in 0..lines {

@@ -139,7 +139,7 @@ fn ready_nodes(chip: &Chip) -> [bool; 144]
     ready
 }
 
-/// Its text.
+/// The text of the picture of a lab's kept events.
 fn written(lab: &mut Lab, view: View) -> Result<String, Memory>
     ensures ok { IfOk result (λ text. IsPictureText lab.old view (string_bytes text)) }
     ensures same { lab.new ≡ lab.old }

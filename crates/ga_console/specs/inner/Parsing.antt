@@ -68,7 +68,7 @@ command_in line = command_by (cut line) line
 abbrev pub head_of : Line → ℕ
 head_of line = slice_index line 0 + 256 * slice_index line 1 + 65536 * slice_index line 2 + 16777216 * slice_index line 3
 
--- those of a command: step, back, rewi, node, mem, trac, why, coun, dump, quit
+-- the number is that of the first four bytes of a command: step, back, rewi, node, mem, trac, why, coun, dump, quit
 abbrev pub is_head : ℕ → Bool
 is_head word =
     word == 0x70657473

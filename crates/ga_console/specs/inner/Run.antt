@@ -59,7 +59,7 @@ StandsAhead bytes Nothing = Unit {0}
 abbrev pub AnswersLine : {M : Type 0} → Answering M → M → Line → Text → M → Type 0
 AnswersLine A m line answer new = (part : Line) → line ≡ take (longest + 1) part → A m part answer new × (part ≢ quit_line)
 
--- it is answered, as far as the answer can be written, or ends the session
+-- a line is answered, as far as the answer can be written, or ends the session
 abbrev pub Turns : {M : Type 0} → Answering M → M → Line → M → Result Turn WriteFailed → Text → Type 0
 Turns A m line new (Ok Answered) answer = AnswersLine A m line answer new
 Turns A m line new (Ok Quit) answer = (line ≡ quit_line) × (new ≡ m) × (answer ≡ [])
