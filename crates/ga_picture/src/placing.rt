@@ -70,17 +70,22 @@ pub struct Drawing {
 
 /// Lays the events out that are not left out: each has a row, but a run of at least so many events of a node has one together, where
 /// its first stands. 0 stands for no such number. Which nodes work by themselves is taken over.
+///
+/// # Errors
+/// `Memory`, also for more than 2^32 - 1 events, which no lab keeps.
 pub fn layout(
     alloc: Global,
     items: &[PictureItem],
     by_itself: Vec<ByItself>,
     fold: u32,
 ) -> Result<Drawing, Memory>
-    requires few { length items.now < 2 ^ 32 }
     requires simple { All IsSimple items.now }
     ensures drawn { IfOk result (λ drawing. IsDrawing items.now fold drawing) }
     ensures told { IfOk result (λ drawing. drawing.by_itself.items ≡ by_itself.items) }
 {
+    if items.len() > u32::MAX as usize {
+        return Err(Memory);
+    }
     let Lines { nodes, columns } = lines_of(alloc, &touched_by(items))?;
     let behind = runs_behind(alloc, items)?;
     let mut runs = Runs::new();

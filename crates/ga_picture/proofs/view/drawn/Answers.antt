@@ -1,4 +1,4 @@
-use Rattle.std.proofs.Common.{sym, subst, arith, ap, ◌∙◌, Result, Ok, Err}
+use Rattle.std.proofs.Common.{sym, subst, ap, ◌∙◌, Result, Ok, Err}
 use Rattle.std.specs.Prelude.{IfOk}
 use Rattle.std.specs.List.{All}
 use Rattle.std.proofs.lemmas.Result.{IfOk-weaker}
@@ -6,21 +6,18 @@ use Rattle.ga_causal.specs.Dependence.{is_marked}
 use Rattle.ga_picture.specs.Drawing.{IsDrawing}
 use Rattle.ga_picture.specs.Picture.{IsPictureOf, is_ready}
 use Rattle.ga_picture.specs.Items.{IsSimple}
-use Rattle.ga_picture.proofs.Listed.{drawn_few, drawn_simple}
+use Rattle.ga_picture.proofs.Listed.{drawn_simple}
 use Rattle.ga_picture.proofs.view.drawn.Goals as goal
 
 both_ok : {X Y : Type 0} (r : Result X Y) (P Q : X → Type 0) → IfOk r P → IfOk r Q → IfOk r (λ x. P x × Q x)
 both_ok (Ok x) P Q p q = (p, q)
 both_ok (Err y) P Q p q = p
 
-pub layout-requires-clause-few : goal.layout-requires-clause-few
-layout-requires-clause-few c =
-    omega (arith, drawn_few c.as_slice.result.now (is_marked c.ready_nodes-ready.result) (is_marked c.find_idle-idle.result) c.args.view _ _ c.in_ok-items.ensures, c.in_ok-causes.ensures.few)
-
-pub layout-requires-clause-simple : goal.layout-requires-clause-simple
-layout-requires-clause-simple c =
-    subst (λ z. All IsSimple z) (sym c.as_slice-2.ensures.value)
-    (drawn_simple c.as_slice.result.now (is_marked c.ready_nodes-ready.result) (is_marked c.find_idle-idle.result) c.args.view _ _ c.in_ok-items.ensures)
+pub layout-requires : goal.layout-requires
+layout-requires c = record {
+  simple = subst (λ z. All IsSimple z) (sym c.as_slice-2.ensures.value)
+      (drawn_simple c.as_slice.result.now (is_marked c.ready_nodes-ready.result) (is_marked c.find_idle-idle.result) c.args.view _ _ c.in_ok-items.ensures);
+}
 
 pub returns : goal.returns
 returns c =
