@@ -6,6 +6,7 @@ function, or the value that contracts see of a public type. What a type of the c
 """
 import os
 import re
+import sys
 from collections import defaultdict
 
 TOP = os.path.dirname(os.path.dirname(os.path.abspath(__file__)))
@@ -22,12 +23,28 @@ NAME = r"[^\W\d]['\w-]*"
 WORD = re.compile(rf"{NAME}(?:\.{NAME})*")
 HEAD = re.compile(rf"(?:abbrev |unfoldable )?pub (?:(?:data|record) )?({NAME}|◌\S+◌)(?= *(?:[:({{]|$))", re.M)
 CLAUSE = re.compile(rf"({NAME})(?= |$)")
+# Quoted text of definitions and of clauses; a comment there, which begins outside of a name; and what begins one that isn't read here.
+QUOTED = r'"(?:[^"\\\n]|\\[^\n])*"'
+DASHES = r'(?<![^ \n(){}.;,@"»])--[^\n]*'
+DEFINED = re.compile(f"{QUOTED}|{DASHES}|{{-")
+# Quoted text of code, and a comment that has its line for itself.
+CODED = re.compile(r"""[bc]?r(#*)".*?"\1|"(?:[^"\\]|\\.)*"|'(?:[^'\\\n]|\\[^\n])'|^ *//[^\n]*""", re.M | re.S)
+BRACE = re.compile(f"{QUOTED}|{DASHES}|[{{}}]")
+SIGNED = re.compile(rf"{QUOTED}|\b(?:requires|ensures)\b\*?(?: \w+)? (?={{)|[()\[\]{{;]")
 USE = re.compile(r"^ *(?:pub )?(?:ghost )?use (Rattle\.[\w.]+?)(?:\.\{([^}]*)\}|(?: as (\w+))?);?$", re.M)
 
 
 def read(path):
     with open(path, encoding="utf-8") as text:
         return text.read()
+
+
+def without_comments(path, text):
+    """The text of a file without its comments; what is quoted stays."""
+    kind = DEFINED if path.endswith(".antt") else CODED
+    if kind is DEFINED and any(it[0] == "{-" for it in DEFINED.finditer(text)):
+        sys.exit(f"{path}: a comment between {{- and -}} isn't read here: write -- before each line")
+    return kind.sub(lambda it: "" if it[0].lstrip(" ").startswith(("--", "//")) else it[0], text)
 
 
 def files_in(folder, ending):
@@ -43,9 +60,9 @@ def is_inner(module):
 class Module:
     """A file of definitions, or of code: what its `use` lines bring, and its own definitions with their texts."""
 
-    def __init__(self, path, name=None):
+    def __init__(self, path, text, name=None):
         self.name, self.path = name, path
-        self.text = re.sub(r"--.*|^ *//.*", "", read(path), flags=re.M)
+        self.text = without_comments(path, text)
         self.brought, self.aliases, self.own = defaultdict(list), {}, {}
         for use in USE.finditer(self.text):
             module, items, alias = use.groups()
@@ -64,21 +81,40 @@ class Module:
     def imports(self):
         return {module for brought in self.brought.values() for _, module, _ in brought} | set(self.aliases.values())
 
+    def origins(self, text):
+        """What each name is that a text has from a `use` line, or that has another name where it is from: also what the kit's libraries
+        define. A text has an operator where it has its parts."""
+        words = {word.split(".")[0] for word in WORD.findall(text)}
+        for name, brought in self.brought.items():
+            parts = name.split("◌")
+            for _, module, first in brought:
+                if first != name or name in words or len(parts) > 1 and all(it in text for it in parts):
+                    yield f"{name} is {module}.{first}"
+        yield from (f"{name} is {module}" for name, module in self.aliases.items() if name in words)
+
     def lines(self, name):
         return sum(1 for line in self.own[name].split("\n") if line.strip())
 
 
+def texts_of_crates():
+    """The files of definitions and of code, by their paths."""
+    for crate in sorted(os.listdir(CRATES)):
+        for part, ending in (("specs", ".antt"), ("src", ".rt")):
+            for path in files_in(f"{CRATES}/{crate}/{part}", ending):
+                yield os.path.relpath(path, CRATES), read(path)
+
+
 class Reader:
-    def __init__(self):
+    """All that the crates say, or what these texts do, by their paths in `crates`."""
+
+    def __init__(self, texts=None):
         self.modules, self.code = {}, {}
-        for crate in sorted(os.listdir(CRATES)):
-            specs = f"{CRATES}/{crate}/specs"
-            for path in files_in(specs, ".antt"):
-                inner = os.path.relpath(path, specs)[:-5].replace("/", ".")
-                name = f"Rattle.{crate}.specs.{inner}"
-                self.modules[name] = Module(path, name)
-            for path in files_in(f"{CRATES}/{crate}/src", ".rt"):
-                self.code[os.path.relpath(path, CRATES)] = Module(path)
+        for path, text in (texts or dict(texts_of_crates())).items():
+            if path.endswith(".antt"):
+                name = f"Rattle.{path[:-5].replace('/', '.')}"
+                self.modules[name] = Module(f"{CRATES}/{path}", text, name)
+            else:
+                self.code[path] = Module(f"{CRATES}/{path}", text)
 
     def found(self, module, name):
         """The definition that a name of a module is: itself, or that of which it is a constructor or a field."""
@@ -163,27 +199,26 @@ def bound_in(clause):
 def end_of(text, at):
     """Where the brackets end that open there."""
     depth = 0
-    while True:
-        depth += {"{": 1, "}": -1}.get(text[at], 0)
-        at += 1
+    for it in BRACE.finditer(text, at):
+        depth += {"{": 1, "}": -1}.get(it[0], 0)
         if not depth:
-            return at
+            return it.end()
+    return len(text)
 
 
 def signature(text, at):
     """Where the signature of a function, whose name ends there, and its clauses end; and the clauses."""
-    depth, clauses, clause = 0, [], re.compile(r"(?:requires|ensures)\b\*?(?: \w+)? (?={)")
-    while at < len(text):
-        head = clause.match(text, at)
-        if depth == 0 and head:
-            at = end_of(text, head.end())
-            clauses.append(text[head.end() + 1 : at - 1])
-        elif depth == 0 and text[at] in "{;":
-            break
+    depth, clauses = 0, []
+    while True:
+        it = SIGNED.search(text, at)
+        if not it or depth == 0 and it[0] in "{;":
+            return it.start() if it else len(text), clauses
+        at = it.end()
+        if depth == 0 and it[0][0] in "re":
+            at = end_of(text, at)
+            clauses.append(text[it.end() + 1 : at - 1])
         else:
-            depth += {"(": 1, "[": 1, ")": -1, "]": -1}.get(text[at], 0)
-            at += 1
-    return at, clauses
+            depth += {"(": 1, "[": 1, ")": -1, "]": -1}.get(it[0], 0)
 
 
 def named_crates():
