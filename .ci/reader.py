@@ -8,6 +8,7 @@ import os
 import re
 import sys
 from collections import defaultdict
+from functools import cached_property
 
 TOP = os.path.dirname(os.path.dirname(os.path.abspath(__file__)))
 CRATES = f"{TOP}/crates"
@@ -29,6 +30,7 @@ DASHES = r'(?<![^ \n(){}.;,@"»])--[^\n]*'
 DEFINED = re.compile(f"{QUOTED}|{DASHES}|{{-")
 # Quoted text of code, and a comment that has its line for itself.
 CODED = re.compile(r"""[bc]?r(#*)".*?"\1|"(?:[^"\\]|\\.)*"|'(?:[^'\\\n]|\\[^\n])'|^ *//[^\n]*""", re.M | re.S)
+CONSTANT = re.compile(r"\b(?:const|static) ([A-Z]\w*): .*?=\s(.*?);\n", re.S)
 BRACE = re.compile(f"{QUOTED}|{DASHES}|[{{}}]")
 SIGNED = re.compile(rf"{QUOTED}|\b(?:requires|ensures)\b\*?(?: \w+)? (?={{)|[()\[\]{{;]")
 USE = re.compile(r"^ *(?:pub )?(?:ghost )?use (Rattle\.[\w.]+?)(?:\.\{([^}]*)\}|(?: as (\w+))?);?$", re.M)
@@ -115,6 +117,24 @@ class Reader:
                 self.modules[name] = Module(f"{CRATES}/{path}", text, name)
             else:
                 self.code[path] = Module(f"{CRATES}/{path}", text)
+
+    @cached_property
+    def constants(self):
+        """Of each name the values that constants of the code have by it."""
+        found = defaultdict(set)
+        for here in self.code.values():
+            for name, value in CONSTANT.findall(here.text):
+                found[name].add(" ".join(value.split()))
+        return found
+
+    def values(self, text):
+        """The values of the constants that a text names, and of those that these stand on."""
+        seen, todo = set(), [text]
+        while todo:
+            for name in set(re.findall(r"\b[A-Z][A-Z_0-9]+\b", todo.pop())) & self.constants.keys() - seen:
+                seen.add(name)
+                todo += self.constants[name]
+        return {f"{name} = {value}" for name in seen for value in self.constants[name]}
 
     def found(self, module, name):
         """The definition that a name of a module is: itself, or that of which it is a constructor or a field."""
