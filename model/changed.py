@@ -66,7 +66,7 @@ def difference(program, mode):
     """How many lines there are, and the first that the program answers otherwise, or None."""
     turns = [*session(mode)]
     text = "".join(f"{line}\n" for line in [*IMAGE, *(line for line, _ in turns)])
-    ran = subprocess.run([program, mode], input=text.encode("latin-1"), capture_output=True, timeout=SECONDS)
+    ran = subprocess.run([program, mode, "--limit", str(DEFAULT_LIMIT)], input=text.encode("latin-1"), capture_output=True, timeout=SECONDS)
     wanted = "\n".join(["ready", *(told for _, told in turns if told)]).split("\n")
     got = ran.stdout.decode("latin-1").split("\n")[:-1]
     if ran.returncode or ran.stderr:

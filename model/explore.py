@@ -91,6 +91,12 @@ def mixed(state):
 
 class Explorer(Machine):
     notes = Notes()
+    # what to do where no further event is kept
+    FULL = "give a greater --limit; or save, dump, and go on from the dump"
+
+    def step(self, node):
+        told = super().step(node)
+        return f"{told}: {self.FULL}" if told == "no 3 full" else told
 
     def explored(self, line):
         """The answer to a command of exploring, or None."""
@@ -154,7 +160,7 @@ class Explorer(Machine):
             if node is None:
                 return f"quiet {made}"
             if len(self.events) == self.limit:
-                return f"full {made}"
+                return f"full {made}: {self.FULL}"
             before = {it: self.chip[it].copy() for it in written}
             told = self.step(node)
             held = next((number for number, condition in enumerate(conditions, 1) if self.holds(condition, told, before)), None)

@@ -16,7 +16,7 @@ from explore import FORMS, NODE, OFTEN, ROWS, STORES, Explorer, number_of
 from files import answer, load_of
 from machine import name
 from notes import Notes
-from sessions import DEFAULT_LIMIT, SECONDS, Generator
+from sessions import EXPLORED_LIMIT, SECONDS, Generator
 from source import asm
 
 # How often each command comes: one of exploring by its row, one of the debugger, or a line that is none.
@@ -71,7 +71,7 @@ class Session:
     def __init__(self, number):
         self.base = Generator(number)
         draw = self.random = self.base.random
-        self.limit = draw.choice([DEFAULT_LIMIT] * 7 + [200])
+        self.limit = draw.choice([EXPLORED_LIMIT] * 7 + [200])
         self.front = "".join(f"{line}\n" for line in self.base.image())
         self.machine = Explorer(self.base.load, self.limit)
         self.source = None
@@ -248,7 +248,7 @@ def difference(program, number):
 
 def write(folder, number):
     text, limit, wanted = session(number)
-    if limit == DEFAULT_LIMIT:
+    if limit == EXPLORED_LIMIT:
         with open(f"{folder}/exploring-{number}", "w", encoding="latin-1") as file:
             file.write(text)
         with open(f"{folder}/exploring-{number}.stdout", "w", encoding="latin-1") as file:

@@ -4,7 +4,8 @@
 files.py FILE..: prints what the machine answers to each.
 files.py --compare FILE..: compares that with FILE.stdout. A file is skipped where FILE.stdout says that its image is refused or, of
 a session of `ga144 debug`, that one of its lines is no command; just such a file may not be read here.
-The limit is N for a file in a folder limit-N. A session in a folder explore is one of `ga144 explore`, which may begin with source.
+The limit is N for a file in a folder limit-N. A session in a folder explore is one of `ga144 explore`, which may begin with source; in a
+folder chip FILE.image has the chip.
 """
 
 import os
@@ -16,7 +17,7 @@ from explore import LONGEST, Explorer, cure
 from machine import Machine, NODES, name
 from node import FETCH_DUE, Node, SIDES, WORD, target_of
 from notes import Notes
-from sessions import DEFAULT_LIMIT
+from sessions import DEFAULT_LIMIT, EXPLORED_LIMIT
 from source import asm
 
 NODE, W, HH = "[0-7](?:0[0-9]|1[0-7])", "[0-9a-fA-F]{6}", "[0-9a-fA-F]{2}"
@@ -110,15 +111,18 @@ def settle(machine):
 def opened(path):
     """The machine of a session at its load, where the folder is `settled` at rest, and the commands up to `quit`, or Unread."""
     folder = os.path.basename(os.path.dirname(path))
-    limit = int(folder[6:]) if folder.startswith("limit-") else DEFAULT_LIMIT
     with open(path, encoding="latin-1", newline="") as file:
         lines = file.read().removesuffix("\n").split("\n")
     past = lines.index("end") + 1 if "end" in lines else len(lines)
     kind = Explorer if {"explore", "check"} & {*path.split(os.sep)} else Machine
+    limit = int(folder[6:]) if folder.startswith("limit-") else EXPLORED_LIMIT if kind is Explorer else DEFAULT_LIMIT
     load, notes = lines[:past], Notes()
     if kind is Explorer and not load[0].startswith("ga144"):
         source = "".join(f"{line}\n" for line in load)
         load, notes = asm(source)[0].splitlines(), Notes(source)
+    if folder == "chip":
+        with open(f"{path}.image", encoding="latin-1", newline="") as file:
+            load = file.read().splitlines()
     machine = kind(load_of(load), limit)
     machine.notes = notes
     if folder == "settled":

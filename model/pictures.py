@@ -20,7 +20,7 @@ from files import answer, opened
 from listing import NAMES
 from machine import NODES, name
 from node import SIDES, neighbour
-from sessions import DEFAULT_LIMIT, SECONDS
+from sessions import DEFAULT_LIMIT, EXPLORED_LIMIT, SECONDS
 
 COLOURS = {"k": "black", "g": "grey", "r": "red"}
 MARKS = {"fetch": "ring", "run": "dot", "wait": "bar", "stop": "cross", "many": "box"}
@@ -339,7 +339,7 @@ class Drawn:
     def __init__(self, number):
         self.made = Session(number)
         self.draw, self.machine = self.made.random, self.made.machine
-        self.machine.limit = DEFAULT_LIMIT
+        self.machine.limit = EXPLORED_LIMIT
         self.text = self.made.front
         self.words, self.view = [], View()
         if number % 25 == LONG:
@@ -374,7 +374,7 @@ class Drawn:
     def begin_far(self):
         self.made.begin_with_source(FAR.split("end\n")[0])
         self.machine, self.text = self.made.machine, self.made.front
-        self.machine.limit = DEFAULT_LIMIT
+        self.machine.limit = EXPLORED_LIMIT
         self.obey(FAR.splitlines()[-1])
 
     def choose(self, is_far):
@@ -412,7 +412,7 @@ def picture(number):
     """A session's text, the words with which it is drawn, and the rows and the foot that are wanted, or none."""
     if number == MILLION:
         steps = range(DEFAULT_LIMIT - DRAWN + 1, DEFAULT_LIMIT + 1)
-        return JUMPING, ["--fold", "0", "--from", str(steps[0])], ([Row((0,), f"000 {it} {'fetch' if it % 2 else 'run 02'}", False, "black") for it in steps], [])
+        return JUMPING, ["--limit", str(DEFAULT_LIMIT), "--fold", "0", "--from", str(steps[0])], ([Row((0,), f"000 {it} {'fetch' if it % 2 else 'run 02'}", False, "black") for it in steps], [])
     it = Drawn(number)
     return it.text, it.words, rows_of(it.machine, it.view)
 

@@ -23,6 +23,8 @@ PLACES = (0, 5, 0x3F, 0x7F, 0x80, 0xFF, 0x200, 0x23F, 0x27F, 0x2FF, IO)
 # How long a session may take.
 SECONDS = 60
 DEFAULT_LIMIT = 1000000
+# How many events `ga144 explore` and `ga144 draw` keep by default.
+EXPLORED_LIMIT = 20000000
 # Past so many bytes answers are not written as a file.
 LONG = 900000
 # How often each command comes, of 1000.

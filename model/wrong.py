@@ -286,7 +286,7 @@ WRONG = (
     (EXPLORE, "state = (state + 0x9E3779B97F4A7C15) % (1 << 64)", "state = (state + 0x9E3779B97F4A7C14) % (1 << 64)"),
     (EXPLORE, "turn = node if order == \"greedy\" else (node + 1) % NODES", "turn = (node + 1) % NODES"),
     (EXPLORE, "turn = node if order == \"greedy\" else (node + 1) % NODES", "turn = node"),
-    (EXPLORE, "return f\"full {made}\"", "return f\"full {made + 1}\""),
+    (EXPLORE, "return f\"full {made}: {self.FULL}\"", "return f\"full {made + 1}: {self.FULL}\""),
     (EXPLORE, "return f\"quiet {made}\"", "return f\"quiet {most}\""),
     (EXPLORE, "return own and event[2] == kind and (not words or event[0] == words[0])", "return own and event[2] == kind"),
     (EXPLORE, "return len(self.sent(*map(number_of, words[:2]))) == int(words[2])", "return len(self.sent(*map(number_of, words[:2]))) > int(words[2])"),

@@ -269,7 +269,7 @@ const made = small.session.events.length, step = small.command('step 000'), coun
 const kept = small.session.events.length;
 page.open(JSON.parse(find('sessions').textContent).fault);
 return {{ ran, first, made, step, count, back, again, node, kept, log: document.getElementById('log').textContent }};""")
-    check(said["ran"][-1] == "no 4 memory" and said["first"] > 1000 and said["step"] == ["no 4 memory"] and said["count"].startswith(f"kept {said['made']} "), f"a small heap: {said}")
+    check(said["ran"][-1] == "no 4 memory" and said["first"] > 1000 and said["step"][0].startswith("no 4 memory") and said["count"].startswith(f"kept {said['made']} "), f"a small heap: {said}")
     check(said["back"] == [f"removed 1 kept {said['made'] - 1}"] and said["node"].startswith("node 000 run "), f"a small heap, then: {said}")
     return said["made"]
 
@@ -285,9 +285,9 @@ for (let size = 1 << 20; size < 1 << 22; size += 1 << 14) {
   core.heap = size;
   ask(core, image).forEach((it, i) => {
     if (JSON.stringify(it) === enough[i]) counts[i][0]++;
-    else if (it === null || it === "" || (it.image === "" && it.told.endsWith("memory\\n")) || it === "no 19 memory line 0\\n" || (i === 3 && it.startsWith("ready\\nno 4 memory\\n"))
+    else if (it === null || it === "" || (it.image === "" && it.told.endsWith("memory\\n")) || it === "no 19 memory line 0\\n" || (i === 3 && it.startsWith("ready\\nno 4 memory: "))
       // (An answer that is cut is no answer.)
-      || (i === 5 && /^(memory \\d+|no 4 memory)$/m.test(it))) counts[i][1]++;
+      || (i === 5 && /^(memory \\d+|no 4 memory): /m.test(it))) counts[i][1]++;
     else other.push([size, i, it]);
   });
 }

@@ -112,7 +112,7 @@ class Page {
   round() {
     const names = NAMES.filter(n => this.working.includes(n) || this.drawn.includes(n));
     const { answers } = this.session.step(names.map(n => "step " + n)), made = answers.filter(it => event_of(it[0])).length;
-    this.say("a round", [`made ${made}`, ...new Set(answers.map(it => it[0]).filter(it => it === NO_MEMORY))]);
+    this.say("a round", [`made ${made}`, ...new Set(answers.map(it => it[0]).filter(it => it && it.startsWith(NO_MEMORY)))]);
     this.after();
   }
 

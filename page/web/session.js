@@ -178,7 +178,7 @@ class Session {
   look(name, step = null) { const answers = this.ask(this.questions(name, step)); return answers && this.seen(name, answers); }
 
   // The steps that could have come out otherwise; null for want of memory.
-  races() { const answer = (this.ask(["races"]) || [[NO_MEMORY]])[0]; return answer[0] === NO_MEMORY ? null : answer.map(race_of).filter(it => it); }
+  races() { const answer = (this.ask(["races"]) || [[NO_MEMORY]])[0]; return answer[0].startsWith(NO_MEMORY) ? null : answer.map(race_of).filter(it => it); }
 
   // The other outcome of such a step: what its rollback takes, what is made then, and the chip behind that.
   outcome({ back, commands }) {

@@ -1,14 +1,10 @@
 //! `ga144 dap`: a session of an editor over the standard streams.
 
+use crate::files::{LONGEST_FILE, read_file};
 use ga_dap::{Arrivals, ProgramFiles, SessionEnd, SourceError, serve_client};
 use std::alloc::Global;
-use std::fs::File;
-use std::io;
 use std::io::{ErrorKind, Read};
 use std::process::ExitCode;
-
-/// The most bytes of a file: the bound of an input.
-pub const LONGEST_FILE: u64 = 16_777_216;
 
 /// The files of the system.
 #[derive(Drop)]
@@ -31,15 +27,6 @@ impl ProgramFiles for Files<'_> {
             Err(why) => Err(cause_of(why.kind())),
         }
     }
-}
-
-/// The bytes of a file, as far as one more than the bound.
-pub fn read_file(rt: &HostRuntime, path: &str) -> io::Result<Vec<u8>> {
-    let mut text = Vec::new(rt.alloc());
-    File::open(rt, path)?
-        .take(LONGEST_FILE + 1)
-        .read_to_end(&mut text)?;
-    Ok(text)
 }
 
 fn cause_of(kind: ErrorKind) -> SourceError {

@@ -7,27 +7,25 @@
 
 mod adapter;
 mod arriving;
+mod files;
 
 ghost use Rattle.std.specs.Prelude.{IfOk};
 ghost use Rattle.ga_console.specs.Settings.{AreInRange};
 
-use adapter::{LONGEST_FILE, out_of_memory, read_file, serve_editor};
+use adapter::{out_of_memory, serve_editor};
 use arriving::begin_reading;
+use files::{Front, chip_of, front_of};
 use ga_check::orders::Bounds;
 use ga_console::{LineFault, Settings, Status, arguments, race_report, session};
-use ga_explorer::{Usage, close, explore, is_cut_off};
+use ga_explorer::{Usage, explore};
 use ga_listing::{assemble_source, disassemble, list_source};
 use ga_orders::{Verdict, check_orders};
 use ga_picture::{View, draw_session};
-use std::io::{Chain, ErrorKind, Read, Stdin, Take};
 use std::process::ExitCode;
 use std::sync::atomic::{AtomicBool, AtomicU64, Ordering};
 use std::thread::{Threads, join};
 use std::time::Duration;
-use std::{env, io, thread};
-
-/// How many events are kept at most where a session is drawn.
-const DRAWN_LIMIT: u32 = 1_000_000;
+use std::{env, thread};
 
 /// How many events a run of `check` has at most.
 const RUN_LIMIT: u32 = 1_000_000;
@@ -89,12 +87,15 @@ fn main(rt: HostRuntime) -> ExitCode {
             Ok((mut reader, mut arrivals)) => serve_editor(&rt, &mut reader, &mut arrivals),
             Err(_) => out_of_memory(&rt),
         },
-        Ok(Settings::Explore { limit, file }) => served(&rt, Work::Explore { limit }, &file),
-        Ok(Settings::Assemble { file }) => served(&rt, Work::Assemble, &file),
-        Ok(Settings::List { file }) => served(&rt, Work::List, &file),
-        Ok(Settings::Disassemble { file }) => served(&rt, Work::Disassemble, &file),
+        Ok(Settings::Explore { limit, chip, file }) => {
+            served(&rt, Work::Explore { limit }, &chip, &file)
+        }
+        Ok(Settings::Assemble { file }) => served(&rt, Work::Assemble, &None, &file),
+        Ok(Settings::List { file }) => served(&rt, Work::List, &None, &file),
+        Ok(Settings::Disassemble { file }) => served(&rt, Work::Disassemble, &None, &file),
         Ok(
             Settings::Draw {
+                limit,
                 cause,
                 rewind,
                 from,
@@ -103,6 +104,7 @@ fn main(rt: HostRuntime) -> ExitCode {
                 only,
                 fold,
                 races,
+                chip,
                 file,
             },
         ) => {
@@ -116,7 +118,7 @@ fn main(rt: HostRuntime) -> ExitCode {
                 fold,
                 races,
             };
-            served(&rt, Work::Draw(view), &file)
+            served(&rt, Work::Draw { view, limit }, &chip, &file)
         }
         Err(LineFault::Refused(why)) => refused(&rt, why.as_str()),
         Err(LineFault::Memory) => refused(&rt, ""),
@@ -151,69 +153,6 @@ fn debug(rt: &HostRuntime, limit: u32) -> ExitCode {
     exit(rt, session(rt.alloc(), &mut reader, &mut writer, limit))
 }
 
-/// What stands before standard input, and how many bytes of that may be read behind it.
-#[derive(Drop)]
-struct Front {
-    text: Vec<u8>,
-    behind: u64,
-}
-
-impl Front {
-    /// What is read: the text, and then standard input.
-    fn reader(&self, rt: &HostRuntime) -> Chain<&[u8], Take<Stdin>> {
-        self.text.as_slice().chain(rt.stdin().take(self.behind))
-    }
-}
-
-/// The text of a file, ended so that commands can stand behind it, or nothing where no file is named. Behind an image without its
-/// line `end` nothing is read.
-///
-/// # Errors
-/// The file can't be had, which was told.
-fn front_of(rt: &HostRuntime, file: &Option<String>) -> Result<Front, ExitCode> {
-    let Some(name) = file else {
-        return Ok(Front {
-            text: Vec::new(rt.alloc()),
-            behind: u64::MAX,
-        });
-    };
-    let name = name.as_str();
-    match read_file(rt, name) {
-        Ok(mut text) => {
-            if text.len() as u64 > LONGEST_FILE {
-                return Err(unread(rt, name, "more than 16777216 bytes", 1));
-            }
-            if is_cut_off(text.as_slice()) {
-                return Ok(Front { text, behind: 0 });
-            }
-            match close(&mut text) {
-                Ok(()) => Ok(Front {
-                    text,
-                    behind: u64::MAX,
-                }),
-                Err(_) => Err(unread(rt, name, "out of memory", 1)),
-            }
-        }
-        Err(why) => Err(unread_for(rt, name, &why)),
-    }
-}
-
-/// Tells why a file can't be read: 1 for want of memory, else 2.
-fn unread_for(rt: &HostRuntime, name: &str, why: &io::Error) -> ExitCode {
-    let status = if why.kind() == ErrorKind::OutOfMemory {
-        1
-    } else {
-        2
-    };
-    let _ = eprintln!(rt; "ga144: {name}: {why}");
-    ExitCode::from(status)
-}
-
-fn unread(rt: &HostRuntime, name: &str, why: &str, status: u8) -> ExitCode {
-    let _ = eprintln!(rt; "ga144: {name}: {why}");
-    ExitCode::from(status)
-}
-
 /// What is made of a file, where one is named, and of standard input behind it.
 #[derive(Clone, Copy)]
 enum Work {
@@ -221,13 +160,17 @@ enum Work {
     Assemble,
     List,
     Disassemble,
-    Draw(View),
+    Draw { view: View, limit: u32 },
 }
 
-/// Reads a file, where one is named, and standard input behind it, and does the work.
-fn served(rt: &HostRuntime, work: Work, file: &Option<String>) -> ExitCode {
+/// Reads a file, where one is named, and standard input behind it, and does the work; on the chip of another file, where one is named.
+fn served(rt: &HostRuntime, work: Work, chip: &Option<String>, file: &Option<String>) -> ExitCode {
     let front = match front_of(rt, file) {
         Ok(front) => front,
+        Err(code) => return code,
+    };
+    let chip = match chip_of(rt, chip) {
+        Ok(chip) => chip,
         Err(code) => return code,
     };
     let mut reader = front.reader(rt);
@@ -235,11 +178,13 @@ fn served(rt: &HostRuntime, work: Work, file: &Option<String>) -> ExitCode {
     let alloc = rt.alloc();
     let (input, output, told) = (&mut reader, &mut writer, &mut errors);
     let status = match work {
-        Work::Explore { limit } => explore(alloc, input, output, told, limit),
+        Work::Explore { limit } => explore(alloc, input, output, told, chip, limit),
         Work::Assemble => assemble_source(alloc, input, output, told),
         Work::List => list_source(alloc, input, output, told),
         Work::Disassemble => disassemble(alloc, input, output, told),
-        Work::Draw(view) => draw_session(alloc, input, output, told, view, DRAWN_LIMIT),
+        Work::Draw { view, limit } => {
+            draw_session(alloc, input, output, told, view, chip, limit)
+        }
     };
     exit(rt, status)
 }

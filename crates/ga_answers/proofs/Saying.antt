@@ -24,7 +24,7 @@ use Rattle.ga_answers.specs.Waiting.{each_node, node_count, all_waiting, stuck_t
 use Rattle.std.proofs.lemmas.Bool.Decides.{nat_tests}
 use Rattle.ga_event.specs.Told.{steps_of}
 use Rattle.ga_lab.specs.declared.fault.LabFault.TheVariants.{NoStep, Memory}
-use Rattle.ga_display.specs.Texts.{refusal_text}
+use Rattle.ga_display.specs.Texts.{refusal_text, advised_text}
 use Rattle.ga_answers.specs.Tails.{step_tail}
 use Rattle.ga_answers.specs.Around.{passed_text, place_text, places_text, lesser, around_text}
 use Rattle.ga_node.specs.Record.{NodeRecord}
@@ -291,10 +291,10 @@ effects_found s node step events nodes text answer is t =
 
 pub effects_refused : (s : State) (node : NodeId) (step : ℕ) (why : LabFault) (text : List ℕ)
     → (rewind_answer s node.number step ≡ Err why) ⊎ ((why ≡ Memory) × IsOk (rewind_answer s node.number step))
-    → text ≡ refusal_text why → TellsEffects s node step text
+    → text ≡ advised_text why → TellsEffects s node step text
 effects_refused s node step why text (inl answer) t =
     inl (t ∙ ap (λ (r : Result ℕ LabFault). effects_answer (effects_of s node.number step) r) (sym answer))
-effects_refused s node step why text (inr wanting) t = inr (wanting.1, t ∙ ap refusal_text wanting.0)
+effects_refused s node step why text (inr wanting) t = inr (wanting.1, t ∙ ap advised_text wanting.0)
 
 pub who_told : (s : State) (chip : List NodeRecord) (marks idle : ℕ → Bool) (first second third last : List ℕ) → chip ≡ chip_of s → AreStuck chip marks
     → ((others : ℕ → Bool) → AreStuck chip others → IsSubset others marks) → MarksIdle s idle → first ≡ all_waiting chip idle
@@ -320,5 +320,5 @@ races_found s only races readings looks quiet text r told found l q t =
           ∙ ap (listed_text only (races_asked s only) readings (has_looks (causes_of s) (chip_of s))) q,
     )
 
-pub races_refused : (s : State) (only : Option NodeId) (why : LabFault) (text : List ℕ) → why ≡ Memory → text ≡ refusal_text why → TellsRaces s only text
-races_refused s only why text e t = inr (t ∙ ap refusal_text e)
+pub races_refused : (s : State) (only : Option NodeId) (why : LabFault) (text : List ℕ) → why ≡ Memory → text ≡ advised_text why → TellsRaces s only text
+races_refused s only why text e t = inr (t ∙ ap advised_text e)

@@ -12,7 +12,7 @@ use Rattle.ga_race_detector.specs.declared.readings.Reading.{Reading}
 use Rattle.ga_race_detector.specs.Readings.{back_of, IsTold, NoneMissed}
 use Rattle.ga_race_detector.specs.Races.{races_asked, has_looks, first_ready}
 use Rattle.ga_text.specs.Digits.{name_of_node, step_text}
-use Rattle.ga_display.specs.Texts.{refusal_text}
+use Rattle.ga_display.specs.Texts.{advised_text}
 
 -- the step and the word that it took, another that it could have taken, and the commands that make it take that
 abbrev pub race_text : Race → Text
@@ -69,4 +69,4 @@ races_text s only readings =
 -- all passes are told, and looks of which each could have read otherwise, all that a near change leads to, or memory is wanting
 abbrev pub TellsRaces : State → Option NodeId → Text → Type 0
 TellsRaces s only answer =
-    ((readings : List Reading) × All (IsTold s only) readings × NoneMissed s only readings × (answer ≡ races_text s only readings)) ⊎ (answer ≡ refusal_text Memory)
+    ((readings : List Reading) × All (IsTold s only) readings × NoneMissed s only readings × (answer ≡ races_text s only readings)) ⊎ (answer ≡ advised_text Memory)

@@ -7,7 +7,7 @@ use Rattle.ga_lab.specs.declared.fault.LabFault.TheVariants.{Memory}
 use Rattle.ga_search.specs.Effects.{effects_of}
 use Rattle.ga_races.specs.Acts.{AreStuck, IsSubset}
 use Rattle.ga_search.specs.Idle.{MarksIdle}
-use Rattle.ga_display.specs.Texts.{refusal_text}
+use Rattle.ga_display.specs.Texts.{advised_text}
 use Rattle.ga_answers.specs.Texts.{effects_answer}
 use Rattle.ga_answers.specs.Waiting.{who_text}
 
@@ -15,7 +15,7 @@ use Rattle.ga_answers.specs.Waiting.{who_text}
 abbrev pub TellsEffects : State → NodeId → ℕ → Text → Type 0
 TellsEffects s node step answer =
     (answer ≡ effects_answer (effects_of s node.number step) (rewind_answer s node.number step))
-    ⊎ (IsOk (rewind_answer s node.number step) × (answer ≡ refusal_text Memory))
+    ⊎ (IsOk (rewind_answer s node.number step) × (answer ≡ advised_text Memory))
 
 -- Of each node that waits it is told for whom, unless it is idle, and which nodes can never go on: of all such sets of nodes the
 -- greatest.

@@ -17,7 +17,7 @@ use Rattle.ga_search.specs.declared.effects.RollbackEffect.{RollbackEffect}
 use Rattle.ga_search.specs.declared.words.Sent.{Sent}
 use Rattle.ga_search.specs.declared.running.End.{End}
 use Rattle.ga_search.specs.declared.running.End.TheVariants.{Reached, Made, Quiet, Refused}
-use Rattle.ga_display.specs.Texts.{made_text, removed_text, refusal_text}
+use Rattle.ga_display.specs.Texts.{made_text, removed_text, advice_text, advised_text}
 use Rattle.ga_text.specs.Digits.{name_of_node, step_text}
 
 -- ---- `run`
@@ -36,12 +36,12 @@ fault_word Spent = codes "spent "
 abbrev pub which_text : ℕ → ℕ → Text
 which_text conditions which = if nat_lt 1 conditions then codes " by " ++ decimal (which + 1) else []
 
--- how many events were made up to one of so many conditions, and why no more
+-- how many events were made up to one of so many conditions, why no more, and what to do where there is no room for more
 abbrev pub run_text : ℕ → ℕ → End → Text
 run_text conditions events (Reached made which) = codes "reached " ++ decimal events ++ which_text conditions which ++ codes " " ++ made_text made
 run_text conditions events Made = codes "made " ++ decimal events ++ codes "\n"
 run_text conditions events Quiet = codes "quiet " ++ decimal events ++ codes "\n"
-run_text conditions events (Refused why) = fault_word why ++ decimal events ++ codes "\n"
+run_text conditions events (Refused why) = fault_word why ++ decimal events ++ advice_text why
 
 -- ---- `chip`
 
@@ -100,7 +100,7 @@ effects_text events effects = effects_head events (length effects) ++ flat_map e
 -- what is told of a rollback, by what `rewind` would answer
 abbrev pub effects_answer : List RollbackEffect → Result ℕ LabFault → Text
 effects_answer effects (Ok events) = effects_text events effects
-effects_answer effects (Err why) = refusal_text why
+effects_answer effects (Err why) = advised_text why
 
 -- ---- `back until`
 

@@ -15,7 +15,7 @@ use Rattle.ga_origin.specs.declared.listing.Row.{Row}
 use Rattle.ga_origin.specs.Origins.{origin_of}
 use Rattle.ga_origin.specs.Rows.{row_at, AreRows}
 use Rattle.ga_origin.specs.Asked.{asked_of}
-use Rattle.ga_display.specs.Texts.{refusal_text}
+use Rattle.ga_display.specs.Texts.{refusal_text, advised_text}
 use Rattle.ga_notes.specs.declared.notes.Notes.{Notes}
 use Rattle.ga_answers.specs.Deeds.{deed_text}
 use Rattle.ga_answers.specs.Tails.{step_tail, value_tail}
@@ -107,7 +107,7 @@ pub record TellsTree (notes : Option Notes) (s : State) (node : NodeId) (step : 
 -- what is told of a step for which this value is asked; the step alone where it made none
 abbrev pub TellsAsked : Option Notes → State → NodeId → ℕ → Option Value → Text → Type 0
 TellsAsked notes s node step None answer = answer ≡ head_text notes s node step
-TellsAsked notes s node step (Some value) answer = (answer ≡ refusal_text Memory) ⊎ TellsTree notes s node step value answer
+TellsAsked notes s node step (Some value) answer = (answer ≡ advised_text Memory) ⊎ TellsTree notes s node step value answer
 
 abbrev pub TellsWhence : Option Notes → State → NodeId → ℕ → Text → Type 0
 TellsWhence notes s node step answer =

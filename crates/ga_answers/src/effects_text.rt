@@ -6,7 +6,7 @@ ghost use Rattle.ga_answers.specs.Texts.{effect_text, effects_head, effects_text
 ghost use Rattle.ga_answers.specs.Telling.{TellsEffects};
 
 use arrayvec::ArrayVec;
-use ga_display::refusal_text;
+use ga_display::advised_text;
 use ga_grid::NodeId;
 use ga_lab::Lab;
 use ga_search::{Effects, RollbackEffect, find_effects};
@@ -30,7 +30,7 @@ pub fn say_effects<W: Write>(
 {
     match find_effects(alloc, lab, node, step) {
         Ok(effects) => say_found(&effects, writer),
-        Err(fault) => writer.say(refusal_text(fault)),
+        Err(fault) => writer.say(advised_text(fault)),
     }
 }
 

@@ -9,7 +9,7 @@ ghost use Rattle.ga_race_detector.specs.Readings.{back_of};
 ghost use Rattle.ga_answers.specs.Races.{race_text, reading_text, before_or_behind, races_head, race_lines_text, last_line, listed_text, TellsRaces};
 
 use arrayvec::ArrayVec;
-use ga_display::refusal_text;
+use ga_display::advised_text;
 use ga_grid::NodeId;
 use ga_lab::Lab;
 use ga_race_detector::{Race, Races, Reading, find_races};
@@ -40,7 +40,7 @@ pub fn say_races<W: Write>(
 {
     match find_races(alloc, lab, only) {
         Ok(races) => say_found(only, &races, writer),
-        Err(fault) => writer.say(refusal_text(fault)),
+        Err(fault) => writer.say(advised_text(fault)),
     }
 }
 

@@ -1,11 +1,11 @@
 //! The text of a run.
 
-ghost use Rattle.std.specs.Prelude.{◌≡◌, ◌+◌, ◌*◌, ◌≤◌, ◌++◌, length, codes, decimal};
+ghost use Rattle.std.specs.Prelude.{◌≡◌, ◌+◌, ◌*◌, ◌≤◌, ◌++◌, length, decimal};
 ghost use Rattle.arrayvec.specs.ArrayVec.{array_vec_len};
 ghost use Rattle.ga_answers.specs.Texts.{run_text, which_text, fault_word};
 
 use arrayvec::ArrayVec;
-use ga_display::push_made;
+use ga_display::{advice_text, push_made};
 use ga_lab::LabFault;
 use ga_search::{End, Ran};
 use ga_text::{LINE_ROOM, NUMBER_ROOM, push_number, push_text};
@@ -16,7 +16,8 @@ const RUN_ROOM: usize = 2 * LINE_ROOM;
 /// The text of a run's line.
 pub type RunText = ArrayVec<u8, RUN_ROOM>;
 
-/// How many events a run made, and why no more: where several conditions are asked for, which of them held first.
+/// How many events a run made, and why no more: where several conditions are asked for, which of them held first; where there is no room,
+/// what to do.
 pub fn ran_text(ran: &Ran, conditions: usize) -> RunText
     ensures { result.items ≡ run_text conditions ran.now.events ran.now.end }
 {
@@ -29,9 +30,9 @@ pub fn ran_text(ran: &Ran, conditions: usize) -> RunText
             push_text(&mut out, b" ");
             push_made(&mut out, made);
         }
-        End::Made => push_count(&mut out, b"made ", ran.events),
-        End::Quiet => push_count(&mut out, b"quiet ", ran.events),
-        End::Refused(why) => push_count(&mut out, word_of(why), ran.events),
+        End::Made => push_count(&mut out, b"made ", ran.events, b"\n"),
+        End::Quiet => push_count(&mut out, b"quiet ", ran.events, b"\n"),
+        End::Refused(why) => push_count(&mut out, word_of(why), ran.events, advice_text(why)),
     }
     out
 }
@@ -48,14 +49,15 @@ fn push_which(out: &mut RunText, conditions: usize, which: u8)
     }
 }
 
-/// Adds a word, a number and the end of the line.
-fn push_count(out: &mut RunText, word: &[u8], events: u64)
-    requires { array_vec_len out.old + length word.now ≤ LINE_ROOM }
-    ensures { out.new.items ≡ out.old.items ++ word.now ++ decimal events ++ codes "\n" }
+/// Adds a word, a number and the rest of the line.
+fn push_count(out: &mut RunText, word: &[u8], events: u64, rest: &[u8])
+    requires word { array_vec_len out.old + length word.now ≤ LINE_ROOM }
+    requires rest { length rest.now ≤ 80 }
+    ensures { out.new.items ≡ out.old.items ++ word.now ++ decimal events ++ rest.now }
 {
     push_text(out, word);
     push_number(out, events);
-    push_text(out, b"\n");
+    push_text(out, rest);
 }
 
 /// Why a step was refused.

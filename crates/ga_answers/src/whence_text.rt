@@ -10,7 +10,7 @@ use crate::deed_text::{DEED_ROOM, push_deed};
 use crate::part_text::{push_mark, push_part};
 use crate::tail_text::Outlook;
 use arrayvec::ArrayVec;
-use ga_display::refusal_text;
+use ga_display::{advised_text, refusal_text};
 use ga_grid::NodeId;
 use ga_lab::{Lab, LabFault};
 use ga_notes::Notes;
@@ -135,7 +135,7 @@ impl<'l> Outlook<'l> {
                 self.say_rows(listing.rows.as_slice(), writer)?;
                 writer.say_blocks(more(listing.is_whole))
             }
-            Err(_) => writer.say(refusal_text(LabFault::Memory)),
+            Err(_) => writer.say(advised_text(LabFault::Memory)),
         }
     }
 

@@ -5,8 +5,9 @@ use Rattle.ga_event.specs.Next.{next}
 use Rattle.ga_event.specs.declared.made.Made.{Made}
 use Rattle.ga_lab.specs.Machine.{State, chip_of, step_answer, with_event, unless_refused, undo_answer, rewind_answer, rewound}
 use Rattle.ga_lab.specs.declared.fault.LabFault.{LabFault}
+use Rattle.ga_display.specs.declared.wording.Wording.TheVariants.{Brief}
 use Rattle.ga_console.specs.Replies.{Reply, Does, LineAnswer, reply, step_reply, back_reply, rewind_reply, Reaches}
-use Rattle.ga_console.specs.Replies.LineAnswer.{long, command, syntax}
+use Rattle.ga_console.specs.Replies.WordedAnswer.{long, command, syntax}
 use Rattle.ga_console.specs.declared.command.Command.{Command}
 use Rattle.ga_console.specs.declared.command.Command.TheVariants.{Step, Back, Rewind, Node, Memory, Trace, Why, Count, Dump, Quit}
 use Rattle.ga_shared.proofs.Logs.{with_event-load as event_load}
@@ -15,7 +16,7 @@ unless_load : (s : State) (answer : Result Made LabFault) (new : State) → new.
 unless_load s (Ok made) new same = same
 unless_load s (Err why) new same = refl
 
-step_load : (s : State) (node : NodeId) (answer : Result Made LabFault) → (step_reply s node answer).1.load ≡ s.load
+step_load : (s : State) (node : NodeId) (answer : Result Made LabFault) → (step_reply Brief s node answer).1.load ≡ s.load
 step_load s node (Ok made) = unless_load s (step_answer s node) (with_event s (next (chip_of s) node)) (event_load s (next (chip_of s) node))
 step_load s node (Err why) = refl
 
@@ -39,7 +40,7 @@ reply_load s Count = refl
 reply_load s Dump = refl
 reply_load s Quit = refl
 
-does_load : (s : State) (asked : Command) (answer : List ℕ) (new : State) → Does s asked answer new → new.load ≡ s.load
+does_load : (s : State) (asked : Command) (answer : List ℕ) (new : State) → Does Brief s asked answer new → new.load ≡ s.load
 does_load s asked answer new (inl e) = ap (λ (r : Reply). r.1.load) e ∙ reply_load s asked
 does_load s asked answer new (inr refused) = ap (λ (m : State). m.load) refused.2
 

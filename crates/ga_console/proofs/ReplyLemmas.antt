@@ -12,7 +12,8 @@ use Rattle.ga_event.specs.Told.{made_in}
 use Rattle.ga_lab.specs.Machine.{State, chip_of, step_answer, stepped, undone, rewind_answer, rewound, undo_answer, dropped_answer, history_of, told_of_kept, why_answer}
 use Rattle.ga_lab.specs.declared.fault.LabFault.{LabFault}
 use Rattle.ga_lab.specs.declared.fault.LabFault.TheVariants as fault
-use Rattle.ga_display.specs.Texts.{made_text, removed_text, refusal_text, chain_text, independent}
+use Rattle.ga_display.specs.declared.wording.Wording.{Wording}
+use Rattle.ga_display.specs.Texts.{made_text, removed_text, refusal_text, refused_text, chain_text, independent}
 use Rattle.ga_console.specs.Replies.{Reply, Does, step_reply, back_reply, rewind_reply, steps_text, told_text, link_text, why_text}
 use Rattle.ga_console.specs.declared.command.Command.TheVariants.{Step, Back, Rewind, Trace, Why, Dump}
 
@@ -32,31 +33,31 @@ IsAnswer right answer = (answer ≡ right) ⊎ ((answer ≡ Err fault.Memory) ×
 
 -- ---- step
 
-pub step_made : (s : State) (node : NodeId) (made : Made) (text : List ℕ) (new : State)
+pub step_made : (w : Wording) (s : State) (node : NodeId) (made : Made) (text : List ℕ) (new : State)
     → IsAnswer (step_answer s node) (Ok made)
-    → new ≡ stepped s node → text ≡ made_text made → Does s (Step node) text new
-step_made s node made text new (inl e) f t =
-    inl (replies text (made_text made) new (stepped s node) t f ∙ ap (λ (r : Result Made LabFault). step_reply s node r) e)
-step_made s node made text new (inr e) f t = absurd (let bad = e.0 in cc)
+    → new ≡ stepped s node → text ≡ made_text made → Does w s (Step node) text new
+step_made w s node made text new (inl e) f t =
+    inl (replies text (made_text made) new (stepped s node) t f ∙ ap (λ (r : Result Made LabFault). step_reply w s node r) e)
+step_made w s node made text new (inr e) f t = absurd (let bad = e.0 in cc)
 
-pub step_refused : (s : State) (node : NodeId) (why : LabFault) (text : List ℕ) (new : State)
+pub step_refused : (w : Wording) (s : State) (node : NodeId) (why : LabFault) (text : List ℕ) (new : State)
     → IsAnswer (step_answer s node) (Err why)
-    → new ≡ s → text ≡ refusal_text why → Does s (Step node) text new
-step_refused s node why text new (inl e) f t =
-    inl (replies text (refusal_text why) new s t f ∙ ap (λ (r : Result Made LabFault). step_reply s node r) e)
-step_refused s node why text new (inr e) f t = inr (e.1, t ∙ ap refusal_text (err_same why fault.Memory e.0), f)
+    → new ≡ s → text ≡ refused_text w why → Does w s (Step node) text new
+step_refused w s node why text new (inl e) f t =
+    inl (replies text (refused_text w why) new s t f ∙ ap (λ (r : Result Made LabFault). step_reply w s node r) e)
+step_refused w s node why text new (inr e) f t = inr (e.1, t ∙ ap (refused_text w) (err_same why fault.Memory e.0), f)
 
 -- ---- back
 
-pub back_done : (s : State) (text : List ℕ) (new : State) (kept : ℕ) → let done : Result (Unit {0}) LabFault = Ok tt in done ≡ undo_answer s
-    → new ≡ undone s → kept ≡ length new.kept → text ≡ removed_text 1 kept → Does s Back text new
-back_done s text new kept e f counts t =
+pub back_done : (w : Wording) (s : State) (text : List ℕ) (new : State) (kept : ℕ) → let done : Result (Unit {0}) LabFault = Ok tt in done ≡ undo_answer s
+    → new ≡ undone s → kept ≡ length new.kept → text ≡ removed_text 1 kept → Does w s Back text new
+back_done w s text new kept e f counts t =
     inl (replies text (removed_text 1 (length (undone s).kept)) new (undone s)
     (t ∙ ap (removed_text 1) (counts ∙ ap (λ (n : State). length n.kept) f)) f ∙ ap (back_reply s) e)
 
-pub back_refused : (s : State) (why : LabFault) (text : List ℕ) (new : State) → let refused : Result (Unit {0}) LabFault = Err why in refused ≡ undo_answer s
-    → new ≡ undone s → text ≡ refusal_text why → Does s Back text new
-back_refused s why text new e f t =
+pub back_refused : (w : Wording) (s : State) (why : LabFault) (text : List ℕ) (new : State) → let refused : Result (Unit {0}) LabFault = Err why in refused ≡ undo_answer s
+    → new ≡ undone s → text ≡ refusal_text why → Does w s Back text new
+back_refused w s why text new e f t =
     inl (replies text (refusal_text why) new s t (f ∙ go s.kept refl e) ∙ ap (back_reply s) e) where
       go : (events : List Event) → s.kept ≡ events → let refused : Result (Unit {0}) LabFault = Err why in refused ≡ dropped_answer events → undone s ≡ s
       go [] is refused =
@@ -68,46 +69,46 @@ back_refused s why text new e f t =
 
 -- ---- rewind
 
-pub rewind_done : (s : State) (node : NodeId) (k : ℕ) (removed kept : ℕ) (text : List ℕ) (new : State) → Ok removed ≡ rewind_answer s node.number k
-    → new ≡ rewound s node.number k → kept ≡ length new.kept → text ≡ removed_text removed kept → Does s (Rewind node k) text new
-rewind_done s node k removed kept text new e f counts t =
+pub rewind_done : (w : Wording) (s : State) (node : NodeId) (k : ℕ) (removed kept : ℕ) (text : List ℕ) (new : State) → Ok removed ≡ rewind_answer s node.number k
+    → new ≡ rewound s node.number k → kept ≡ length new.kept → text ≡ removed_text removed kept → Does w s (Rewind node k) text new
+rewind_done w s node k removed kept text new e f counts t =
     let after : State = rewound s node.number k in
     inl (replies text (removed_text removed (length after.kept)) new after (t ∙ ap (removed_text removed) (counts ∙ ap (λ (n : State). length n.kept) f)) f
     ∙ ap (rewind_reply s after) e)
 
-pub rewind_refused : (s : State) (node : NodeId) (k : ℕ) (why : LabFault) (text : List ℕ) (new : State) → Err why ≡ rewind_answer s node.number k
-    → new ≡ s → text ≡ refusal_text why → Does s (Rewind node k) text new
-rewind_refused s node k why text new e f t =
+pub rewind_refused : (w : Wording) (s : State) (node : NodeId) (k : ℕ) (why : LabFault) (text : List ℕ) (new : State) → Err why ≡ rewind_answer s node.number k
+    → new ≡ s → text ≡ refusal_text why → Does w s (Rewind node k) text new
+rewind_refused w s node k why text new e f t =
     inl (replies text (refusal_text why) new s t f ∙ ap (λ (r : Result ℕ LabFault). rewind_reply s (rewound s node.number k) r) e)
 
 -- ---- trace
 
-pub trace_done : (s : State) (node : NodeId) (steps : List Made) (text : List ℕ) → steps ≡ history_of s node.number → text ≡ steps_text node steps
-    → Does s (Trace node) text s
-trace_done s node steps text e t = inl (replies text (steps_text node (history_of s node.number)) s s (t ∙ ap (steps_text node) e) refl)
+pub trace_done : (w : Wording) (s : State) (node : NodeId) (steps : List Made) (text : List ℕ) → steps ≡ history_of s node.number → text ≡ steps_text node steps
+    → Does w s (Trace node) text s
+trace_done w s node steps text e t = inl (replies text (steps_text node (history_of s node.number)) s s (t ∙ ap (steps_text node) e) refl)
 
-pub trace_refused : (s : State) (node : NodeId) (why : LabFault) (text : List ℕ) → why ≡ fault.Memory → text ≡ refusal_text why → Does s (Trace node) text s
-trace_refused s node why text e t = inr (tt, t ∙ ap refusal_text e, refl)
+pub trace_refused : (w : Wording) (s : State) (node : NodeId) (why : LabFault) (text : List ℕ) → why ≡ fault.Memory → text ≡ refused_text w why → Does w s (Trace node) text s
+trace_refused w s node why text e t = inr (tt, t ∙ ap (refused_text w) e, refl)
 
 -- ---- dump
 
-pub dump_done : (s : State) (chip : List NodeRecord) (text said : List ℕ) → chip ≡ chip_of s → text ≡ printed chip → said ≡ text → Does s Dump said s
-dump_done s chip text said e t f = inl (replies said (printed (chip_of s)) s s (f ∙ t ∙ ap printed e) refl)
+pub dump_done : (w : Wording) (s : State) (chip : List NodeRecord) (text said : List ℕ) → chip ≡ chip_of s → text ≡ printed chip → said ≡ text → Does w s Dump said s
+dump_done w s chip text said e t f = inl (replies said (printed (chip_of s)) s s (f ∙ t ∙ ap printed e) refl)
 
-pub dump_refused : (s : State) (text : List ℕ) → text ≡ refusal_text fault.Memory → Does s Dump text s
-dump_refused s text t = inr (tt, t, refl)
+pub dump_refused : (w : Wording) (s : State) (text : List ℕ) → text ≡ refused_text w fault.Memory → Does w s Dump text s
+dump_refused w s text t = inr (tt, t, refl)
 
 -- ---- why
 
-why_done : (s : State) (from to : NodeId) (k j : ℕ) (answer : Result (Option (List Link)) LabFault) (text : List ℕ)
+why_done : (w : Wording) (s : State) (from to : NodeId) (k j : ℕ) (answer : Result (Option (List Link)) LabFault) (text : List ℕ)
     → IsAnswer (why_answer s from.number k to.number j) answer
-    → text ≡ why_text s answer → Does s (Why from k to j) text s
-why_done s from to k j answer text (inl e) t =
-    inl (replies text (why_text s (why_answer s from.number k to.number j)) s s (t ∙ ap (why_text s) e) refl)
-why_done s from to k j answer text (inr e) t = inr (e.1, t ∙ ap (why_text s) e.0, refl)
+    → text ≡ why_text w s answer → Does w s (Why from k to j) text s
+why_done w s from to k j answer text (inl e) t =
+    inl (replies text (why_text w s (why_answer s from.number k to.number j)) s s (t ∙ ap (why_text w s) e) refl)
+why_done w s from to k j answer text (inr e) t = inr (e.1, t ∙ ap (why_text w s) e.0, refl)
 
-pub why_independent : (s : State) (from to : NodeId) (k j : ℕ) → why_answer s from.number k to.number j ≡ Ok None → Does s (Why from k to j) independent s
-why_independent s from to k j e = why_done s from to k j (Ok None) independent (inl (sym e)) refl
+pub why_independent : (w : Wording) (s : State) (from to : NodeId) (k j : ℕ) → why_answer s from.number k to.number j ≡ Ok None → Does w s (Why from k to j) independent s
+why_independent w s from to k j e = why_done w s from to k j (Ok None) independent (inl (sym e)) refl
 
 -- the texts of what is told of a chain are those of its links
 told_texts : (s : State) (told : List Made) (links : List Link) → map Some told ≡ map (λ (link : Link). made_in (told_of_kept s) link.place) links
@@ -120,18 +121,18 @@ told_texts s (made ∷ told) (link ∷ links) e =
     let others : map Some told ≡ map (λ (link : Link). made_in (told_of_kept s) link.place) links = cc in
     ap (λ (o : Option Made). told_text o ++ flat_map made_text told) first ∙ ap (λ z. link_text s link ++ z) (told_texts s told links others)
 
-pub why_told : (s : State) (from to : NodeId) (k j : ℕ) (links : List Link) (told said : List Made) (text : List ℕ)
+pub why_told : (w : Wording) (s : State) (from to : NodeId) (k j : ℕ) (links : List Link) (told said : List Made) (text : List ℕ)
     → why_answer s from.number k to.number j ≡ Ok (Some links) → map Some told ≡ map (λ (link : Link). made_in (told_of_kept s) link.place) links
-    → said ≡ told → text ≡ chain_text (length said) ++ flat_map made_text said → Does s (Why from k to j) text s
-why_told s from to k j links told said text e same is t =
+    → said ≡ told → text ≡ chain_text (length said) ++ flat_map made_text said → Does w s (Why from k to j) text s
+why_told w s from to k j links told said text e same is t =
     let long : length told ≡ length links =
     sym (length-map told (λ (made : Made). Some made)) ∙ ap length same ∙ length-map links (λ (link : Link). made_in (told_of_kept s) link.place) in
-    why_done s from to k j (Ok (Some links)) text (inl (sym e))
+    why_done w s from to k j (Ok (Some links)) text (inl (sym e))
     (t ∙ ap (λ z. chain_text (length z) ++ flat_map made_text z) is ∙ ap (λ (n : ℕ). chain_text n ++ flat_map made_text told) long
     ∙ ap (λ z. chain_text (length links) ++ z) (told_texts s told links same))
 
-pub why_refused : (s : State) (from to : NodeId) (k j : ℕ) (why : LabFault) (text : List ℕ)
+pub why_refused : (w : Wording) (s : State) (from to : NodeId) (k j : ℕ) (why : LabFault) (text : List ℕ)
     → (why_answer s from.number k to.number j ≡ Err why) ⊎ ((why ≡ fault.Memory) × IsOk (why_answer s from.number k to.number j))
-    → text ≡ refusal_text why → Does s (Why from k to j) text s
-why_refused s from to k j why text (inl e) t = why_done s from to k j (Err why) text (inl (sym e)) t
-why_refused s from to k j why text (inr e) t = inr (e.1, t ∙ ap refusal_text e.0, refl)
+    → text ≡ refused_text w why → Does w s (Why from k to j) text s
+why_refused w s from to k j why text (inl e) t = why_done w s from to k j (Err why) text (inl (sym e)) t
+why_refused w s from to k j why text (inr e) t = inr (e.1, t ∙ ap (refused_text w) e.0, refl)

@@ -10,7 +10,9 @@ use Rattle.ga_event.specs.Told.{made_in}
 use Rattle.ga_event.specs.declared.made.Made.{Made}
 use Rattle.ga_lab.specs.Machine.{State, chip_of, step_answer, stepped, undo_answer, undone, rewind_answer, rewound, word_at, history_of, told_of_kept, why_answer}
 use Rattle.ga_lab.specs.declared.fault.LabFault.{LabFault}
-use Rattle.ga_display.specs.Texts.{made_text, removed_text, refusal_text, node_text, memory_text, counts_text, trace_text, chain_text, independent, no_syntax, no_long}
+use Rattle.ga_display.specs.declared.wording.Wording.{Wording}
+use Rattle.ga_display.specs.declared.wording.Wording.TheVariants.{Brief}
+use Rattle.ga_display.specs.Texts.{made_text, removed_text, refusal_text, refused_text, node_text, memory_text, counts_text, trace_text, chain_text, independent, no_syntax, no_long}
 use Rattle.ga_console.specs.Commands.{SpellsCommand}
 use Rattle.ga_console.specs.declared.command.Command.{Command}
 use Rattle.ga_console.specs.declared.command.Command.TheVariants.{Step, Back, Rewind, Node, Memory, Trace, Why, Count, Dump, Quit}
@@ -19,9 +21,9 @@ use Rattle.ga_console.specs.declared.command.Command.TheVariants.{Step, Back, Re
 abbrev pub Reply : Type 0
 Reply = Text × State
 
-abbrev pub step_reply : State → NodeId → Result Made LabFault → Reply
-step_reply s node (Ok made) = (made_text made, stepped s node)
-step_reply s node (Err why) = (refusal_text why, s)
+abbrev pub step_reply : Wording → State → NodeId → Result Made LabFault → Reply
+step_reply wording s node (Ok made) = (made_text made, stepped s node)
+step_reply wording s node (Err why) = (refused_text wording why, s)
 
 abbrev pub back_reply : State → Result (Unit {0}) LabFault → Reply
 back_reply s (Ok done) = (removed_text 1 (length (undone s).kept), undone s)
@@ -49,23 +51,27 @@ link_text s link = told_text (made_in (told_of_kept s) link.place)
 abbrev pub links_text : State → List Link → Text
 links_text s links = chain_text (length links) ++ flat_map (link_text s) links
 
-abbrev pub why_text : State → Result (Option (List Link)) LabFault → Text
-why_text s (Ok None) = independent
-why_text s (Ok (Some links)) = links_text s links
-why_text s (Err why) = refusal_text why
+abbrev pub why_text : Wording → State → Result (Option (List Link)) LabFault → Text
+why_text wording s (Ok None) = independent
+why_text wording s (Ok (Some links)) = links_text s links
+why_text wording s (Err why) = refused_text wording why
 
--- what the machine replies to a command
+-- what the machine replies to a command, in a session of this wording
+abbrev pub worded_reply : Wording → State → Command → Reply
+worded_reply wording s (Step node) = step_reply wording s node (step_answer s node)
+worded_reply wording s Back = back_reply s (undo_answer s)
+worded_reply wording s (Rewind node k) = rewind_reply s (rewound s node.number k) (rewind_answer s node.number k)
+worded_reply wording s (Node node) = (node_text node (record_at (chip_of s) node.number), s)
+worded_reply wording s (Memory node address) = (memory_text node address (word_at (record_at (chip_of s) node.number) address), s)
+worded_reply wording s (Trace node) = (steps_text node (history_of s node.number), s)
+worded_reply wording s (Why from k to j) = (why_text wording s (why_answer s from.number k to.number j), s)
+worded_reply wording s Count = (counts_text (length s.kept) s.made s.limit, s)
+worded_reply wording s Dump = (printed (chip_of s), s)
+worded_reply wording s Quit = ([], s)
+
+-- what the debugger replies
 abbrev pub reply : State → Command → Reply
-reply s (Step node) = step_reply s node (step_answer s node)
-reply s Back = back_reply s (undo_answer s)
-reply s (Rewind node k) = rewind_reply s (rewound s node.number k) (rewind_answer s node.number k)
-reply s (Node node) = (node_text node (record_at (chip_of s) node.number), s)
-reply s (Memory node address) = (memory_text node address (word_at (record_at (chip_of s) node.number) address), s)
-reply s (Trace node) = (steps_text node (history_of s node.number), s)
-reply s (Why from k to j) = (why_text s (why_answer s from.number k to.number j), s)
-reply s Count = (counts_text (length s.kept) s.made s.limit, s)
-reply s Dump = (printed (chip_of s), s)
-reply s Quit = ([], s)
+reply s asked = worded_reply Brief s asked
 
 -- The command needs memory: a step that would be made, a trace, why where both steps stand, or a dump.
 abbrev pub Grows : State → Command → Type 0
@@ -81,14 +87,19 @@ Grows s Dump = Unit {0}
 Grows s Quit = ⊥
 
 -- The reply to a command. Where memory is wanting, a command that needs it is refused and changes nothing.
-abbrev pub Does : State → Command → Text → State → Type 0
-Does s asked answer new = ((answer, new) ≡ reply s asked) ⊎ (Grows s asked × (answer ≡ refusal_text fault.Memory) × (new ≡ s))
+abbrev pub Does : Wording → State → Command → Text → State → Type 0
+Does wording s asked answer new =
+    ((answer, new) ≡ worded_reply wording s asked) ⊎ (Grows s asked × (answer ≡ refused_text wording fault.Memory) × (new ≡ s))
 
--- The answer to a line: it is too long, or spells a command, or spells none.
-pub data LineAnswer (s : State) (line : Line) (answer : Text) (new : State) : Type 0 where
-  long : longest < length line → answer ≡ no_long → new ≡ s → LineAnswer s line answer new
-  command : (c : Command) → length line ≤ longest → SpellsCommand c line → Does s c answer new → LineAnswer s line answer new
-  syntax : length line ≤ longest → ((c : Command) → ¬ SpellsCommand c line) → answer ≡ no_syntax → new ≡ s → LineAnswer s line answer new
+-- The answer to a line, in a session of this wording: it is too long, or spells a command, or spells none.
+pub data WordedAnswer (wording : Wording) (s : State) (line : Line) (answer : Text) (new : State) : Type 0 where
+  long : longest < length line → answer ≡ no_long → new ≡ s → WordedAnswer wording s line answer new
+  command : (c : Command) → length line ≤ longest → SpellsCommand c line → Does wording s c answer new → WordedAnswer wording s line answer new
+  syntax : length line ≤ longest → ((c : Command) → ¬ SpellsCommand c line) → answer ≡ no_syntax → new ≡ s → WordedAnswer wording s line answer new
+
+-- the debugger's
+abbrev pub LineAnswer : State → Line → Text → State → Type 0
+LineAnswer s line answer new = WordedAnswer Brief s line answer new
 
 -- ---- the machines to which a session comes
 

@@ -1,12 +1,14 @@
 -- What the command part of a session says, how it may end, and to which machine it leads (docs/REFERENCE.md, "Sessions"; this
 -- project's own). A is how the session answers a line: of the debugger's it is Answer.
 use Rattle.std.specs.Prelude.{codes, ◌≡◌, ◌≢◌, ℕ, ◌+◌, ◌<◌, ◌≤◌, ◌⊎◌, List, [], ◌∷◌, ◌++◌, length, take, nat_le, if◌then◌else◌, Result, Ok, Err}
-use Rattle.ga_text.specs.Lines.{Text, Line, Bytes, lines_of, ended_lines}
+use Rattle.ga_text.specs.Lines.{Text, Line, Bytes, longest, lines_of, ended_lines}
 use Rattle.std.specs.List.{AllByRecursion}
 use Rattle.ga_text.specs.Output.{Begins}
 use Rattle.ga_display.specs.Texts.{no_input}
 use Rattle.ga_console.specs.declared.commands.Ending.{Ending}
 use Rattle.ga_console.specs.declared.commands.Ending.TheVariants.{Ended, Quit, Past, ReadFailed}
+use Rattle.ga_console.specs.declared.responder.Turn.{Turn}
+use Rattle.ga_console.specs.declared.responder.Turn.TheVariants as turn
 use Rattle.ga_text.specs.declared.output.WriteFailed.{WriteFailed}
 
 -- ---- how a session answers one line, whatever its machine is (docs/REFERENCE.md, "Sessions"; this project's own)
@@ -18,6 +20,16 @@ Answering M = M → Line → Text → M → Type 0
 -- the line that ends a session
 abbrev pub quit_line : Line
 quit_line = codes "quit"
+
+-- a line, of which the first `longest + 1` bytes are here, is answered and isn't quit
+abbrev pub AnswersLine : {M : Type 0} → Answering M → M → Line → Text → M → Type 0
+AnswersLine A m line answer new = (part : Line) → line ≡ take (longest + 1) part → A m part answer new × (part ≢ quit_line)
+
+-- a line is answered, as far as the answer can be written, or ends the session
+abbrev pub Turns : {M : Type 0} → Answering M → M → Line → M → Result Turn WriteFailed → Text → Type 0
+Turns A m line new (Ok turn.Answered) answer = AnswersLine A m line answer new
+Turns A m line new (Ok turn.Quit) answer = (line ≡ quit_line) × (new ≡ m) × (answer ≡ [])
+Turns A m line new (Err failed) answer = AnswersLine A m line answer new
 
 abbrev pub HasNoQuit : List Line → Type 0
 HasNoQuit lines = AllByRecursion (λ line. line ≢ quit_line) lines

@@ -9,11 +9,11 @@ Within least greatest n = (least ≤ n) × (n ≤ greatest)
 -- each number is in its range
 abbrev pub AreInRange : Settings → Type 0
 AreInRange (Debug limit) = Within 1 4000000 limit
-AreInRange (Explore limit file) = Within 1 4000000 limit
+AreInRange (Explore limit chip file) = Within 1 100000000 limit
 AreInRange (Race workers calls limit) = Within 1 16 workers × Within 1 100000 calls × Within 1 4000000 limit
 AreInRange (Check most settled session workers progress file) = Within 1 4294967295 most × IfSome session (Within 1 4294967295) × Within 1 16 workers
 AreInRange Dap = Unit {0}
 AreInRange (Assemble file) = Unit {0}
 AreInRange (List file) = Unit {0}
 AreInRange (Disassemble file) = Unit {0}
-AreInRange (Draw cause rewind from to all only fold races file) = Within 1 4294967295 from × Within 1 4294967295 to
+AreInRange (Draw limit cause rewind from to all only fold races chip file) = Within 1 100000000 limit × Within 1 4294967295 from × Within 1 4294967295 to

@@ -16,6 +16,6 @@ mod settings;
 pub use command::{Command, command_of};
 pub use commands::{Ending, serve};
 pub use race::race_report;
-pub use responder::{Responder, Turn};
+pub use responder::{Responder, Turn, answer_worded, obey_worded};
 pub use run::{Status, open_image, refuse, session, session_with, status_of};
 pub use settings::{LineFault, Settings, arguments};

@@ -3,11 +3,10 @@ ghost use Rattle.ga_text.specs.Output.{Says};
 ghost use Rattle.std.specs.Prelude.{◌≡◌, ◌++◌, length, flat_map};
 ghost use Rattle.ga_display.specs.Texts.{made_text, chain_text};
 ghost use Rattle.ga_console.specs.Replies.{Does, steps_text};
+ghost use Rattle.ga_display.specs.declared.wording.Wording.{Wording as Worded};
 ghost use Rattle.ga_console.specs.declared.command.Command.TheVariants.{Node, Memory, Trace, Why, Count, Dump};
 
-use ga_display::{
-    refusal_text, say_chain_count, say_counts, say_made, say_memory, say_node, say_trace,
-};
+use ga_display::{Wording, say_chain_count, say_counts, say_made, say_memory, say_node, say_trace};
 use ga_grid::NodeId;
 use ga_image::print;
 use ga_lab::{Lab, LabFault, Made};
@@ -17,7 +16,7 @@ use std::io::Write;
 
 /// `node NNN`: shows the node.
 pub fn node<W: Write>(lab: &Lab, node: NodeId, writer: &mut Writer<'_, W>) -> Spoken
-    ensures { Says result (λ text. Does lab.now (Node node) text lab.now)
+    ensures { (wording : Worded) → Says result (λ text. Does wording lab.now (Node node) text lab.now)
         W.contents writer.old writer.new }
 {
     say_node(writer, node, lab.node(node))
@@ -25,7 +24,7 @@ pub fn node<W: Write>(lab: &Lab, node: NodeId, writer: &mut Writer<'_, W>) -> Sp
 
 /// `mem NNN HH`: shows the word at an address of the node's memory.
 pub fn memory<W: Write>(lab: &Lab, node: NodeId, address: u8, writer: &mut Writer<'_, W>) -> Spoken
-    ensures { Says result (λ text. Does lab.now (Memory node address) text lab.now)
+    ensures { (wording : Worded) → Says result (λ text. Does wording lab.now (Memory node address) text lab.now)
         W.contents writer.old writer.new }
 {
     say_memory(writer, node, address, lab.memory(node, address))
@@ -33,20 +32,25 @@ pub fn memory<W: Write>(lab: &Lab, node: NodeId, address: u8, writer: &mut Write
 
 /// `count`: shows how many events are kept, how many were made, and how many may be kept.
 pub fn count<W: Write>(lab: &Lab, writer: &mut Writer<'_, W>) -> Spoken
-    ensures { Says result (λ text. Does lab.now Count text lab.now)
+    ensures { (wording : Worded) → Says result (λ text. Does wording lab.now Count text lab.now)
         W.contents writer.old writer.new }
 {
     say_counts(writer, lab.counts())
 }
 
 /// `trace NNN`: shows the steps of the node, a line for each.
-pub fn trace<W: Write>(lab: &Lab, node: NodeId, writer: &mut Writer<'_, W>) -> Spoken
-    ensures { Says result (λ text. Does lab.now (Trace node) text lab.now)
+pub fn trace<W: Write>(
+    lab: &Lab,
+    node: NodeId,
+    wording: Wording,
+    writer: &mut Writer<'_, W>,
+) -> Spoken
+    ensures { Says result (λ text. Does wording lab.now (Trace node) text lab.now)
         W.contents writer.old writer.new }
 {
     match lab.history(node) {
         Ok(steps) => say_steps(node, steps.as_slice(), writer),
-        Err(fault) => writer.say(refusal_text(fault)),
+        Err(fault) => writer.say(wording.refusal(fault)),
     }
 }
 
@@ -67,15 +71,16 @@ pub fn why<W: Write>(
     lab: &Lab,
     from: (NodeId, u32),
     to: (NodeId, u32),
+    wording: Wording,
     writer: &mut Writer<'_, W>,
 ) -> Spoken
-    ensures { Says result (λ text. Does lab.now (Why from.0 from.1 to.0 to.1) text lab.now)
+    ensures { Says result (λ text. Does wording lab.now (Why from.0 from.1 to.0 to.1) text lab.now)
         W.contents writer.old writer.new }
 {
     match lab.explain(from, to) {
         Ok(None) => writer.say(b"independent\n"),
         Ok(Some(chain)) => say_chain(chain.as_slice(), writer),
-        Err(fault) => writer.say(refusal_text(fault)),
+        Err(fault) => writer.say(wording.refusal(fault)),
     }
 }
 
@@ -92,12 +97,17 @@ fn say_chain<W: Write>(events: &[Made], writer: &mut Writer<'_, W>) -> Spoken
 }
 
 /// `dump`: shows the chip as an image.
-pub fn dump<W: Write>(alloc: Global, lab: &Lab, writer: &mut Writer<'_, W>) -> Spoken
-    ensures { Says result (λ text. Does lab.now Dump text lab.now)
+pub fn dump<W: Write>(
+    alloc: Global,
+    lab: &Lab,
+    wording: Wording,
+    writer: &mut Writer<'_, W>,
+) -> Spoken
+    ensures { Says result (λ text. Does wording lab.now Dump text lab.now)
         W.contents writer.old writer.new }
 {
     match print(alloc, lab.chip()) {
         Ok(image) => writer.say_blocks(image.as_slice()),
-        Err(_) => writer.say(refusal_text(LabFault::Memory)),
+        Err(_) => writer.say(wording.refusal(LabFault::Memory)),
     }
 }

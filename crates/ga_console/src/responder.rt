@@ -3,12 +3,14 @@ ghost use Rattle.ga_text.specs.Output.{Says};
 ghost use Rattle.std.specs.Prelude.{◌≡◌};
 ghost use Rattle.ga_text.specs.Lines.{Bytes};
 ghost use Rattle.ga_lab.specs.Machine.{State};
-ghost use Rattle.ga_console.specs.Replies.{LineAnswer, Does};
-ghost use Rattle.ga_console.specs.inner.Run.{Turns, AnswersCommand};
+ghost use Rattle.ga_console.specs.Replies.{WordedAnswer, Does};
+ghost use Rattle.ga_console.specs.Session.{Turns};
+ghost use Rattle.ga_console.specs.inner.Run.{AnswersCommand};
 
 use super::changes::{back, rewind, step};
 use super::command::{Command, command_of};
 use super::readings::{count, dump, memory, node, trace, why};
+use ga_display::Wording;
 use ga_image::LINE_LIMIT;
 use ga_lab::Lab;
 use ga_text::{Spoken, WriteFailed, Writer};
@@ -78,7 +80,7 @@ impl Responder for Lab {
         line: &[u8],
         writer: &mut Writer<'_, W>,
     ) -> Result<Turn, WriteFailed> {
-        answer(alloc, self, line, writer)
+        answer_worded(alloc, self, line, Wording::Brief, writer)
     }
 
     #[inline(always)]
@@ -88,18 +90,22 @@ impl Responder for Lab {
         command: Command,
         writer: &mut Writer<'_, W>,
     ) -> Spoken {
-        obey(alloc, self, command, writer)
+        obey_worded(alloc, self, command, Wording::Brief, writer)
     }
 }
 
-/// Answers a line, of which at least the first 201 bytes are here.
-fn answer<W: Write>(
+/// Answers a line as the debugger does, with refusals in this wording. At least the first 201 bytes of the line are here.
+///
+/// # Errors
+/// A write failed.
+pub fn answer_worded<W: Write>(
     alloc: Global,
     lab: &mut Lab,
     line: &[u8],
+    wording: Wording,
     writer: &mut Writer<'_, W>,
 ) -> Result<Turn, WriteFailed>
-    ensures { Says result (Turns LineAnswer lab.old line.now lab.new result) W.contents writer.old writer.new }
+    ensures { Says result (Turns (WordedAnswer wording) lab.old line.now lab.new result) W.contents writer.old writer.new }
 {
     if line.len() > LINE_LIMIT {
         writer.say(b"no 32 long\n")?;
@@ -113,38 +119,42 @@ fn answer<W: Write>(
         Some(command) => match command {
             Command::Quit => Ok(Turn::Quit),
             _ => {
-                obey(alloc, lab, command, writer)?;
+                obey_worded(alloc, lab, command, wording, writer)?;
                 Ok(Turn::Answered)
             }
         },
     }
 }
 
-/// Carries a command out. `quit` asks for nothing here.
+/// Carries a command out and answers as the debugger does, with refusals in this wording. `quit` asks for nothing here.
+///
+/// # Errors
+/// A write failed.
 #[inline(always)]
-fn obey<W: Write>(
+pub fn obey_worded<W: Write>(
     alloc: Global,
     lab: &mut Lab,
     command: Command,
+    wording: Wording,
     writer: &mut Writer<'_, W>,
 ) -> Spoken
-    ensures { Says result (λ text. Does lab.old command text lab.new) W.contents writer.old writer.new }
+    ensures { Says result (λ text. Does wording lab.old command text lab.new) W.contents writer.old writer.new }
 {
     match command {
-        Command::Step(at) => step(lab, at, writer),
+        Command::Step(at) => step(lab, at, wording, writer),
         Command::Back => back(lab, writer),
         Command::Rewind(at, number) => rewind(lab, at, number, writer),
         Command::Node(at) => node(lab, at, writer),
         Command::Memory(at, address) => memory(lab, at, address, writer),
-        Command::Trace(at) => trace(lab, at, writer),
+        Command::Trace(at) => trace(lab, at, wording, writer),
         Command::Why {
             from,
             from_step,
             to,
             to_step,
-        } => why(lab, (from, from_step), (to, to_step), writer),
+        } => why(lab, (from, from_step), (to, to_step), wording, writer),
         Command::Count => count(lab, writer),
-        Command::Dump => dump(alloc, lab, writer),
+        Command::Dump => dump(alloc, lab, wording, writer),
         Command::Quit => Ok(()),
     }
 }

@@ -1,5 +1,5 @@
 //! The command line.
-ghost use Rattle.std.specs.Prelude.{IfOk, IfSome};
+ghost use Rattle.std.specs.Prelude.{◌≤◌, IfOk, IfSome};
 ghost use Rattle.ga_console.specs.Settings.{AreInRange, Within};
 
 mod lines;
@@ -7,12 +7,15 @@ mod lines;
 use clap::ArgMatches;
 use ga_grid::NodeId;
 use ga_text::{node_in, number_in};
-use lines::{GREATEST_LIMIT, MOST_CALLS, MOST_WORKERS, program};
+use lines::{GREATEST_EXPLORED, GREATEST_LIMIT, MOST_CALLS, MOST_WORKERS, program};
 use std::alloc::Global;
 use thiserror::Error;
 
 /// How many events are kept where no limit is given.
 const DEFAULT_LIMIT: u32 = 1_000_000;
+
+/// How many events a session of exploring keeps where no limit is given.
+const DEFAULT_EXPLORED: u32 = 20_000_000;
 
 /// How many runs are made at most where no number is given.
 const DEFAULT_MOST: u32 = 1_000_000;
@@ -22,16 +25,18 @@ const DEFAULT_FOLD: u32 = 3;
 
 /// What the program is to do.
 ///
-/// A `file` is the name of one that is read before standard input, or none.
+/// A `file` is the name of one that is read before standard input, or none. A `chip` is the name of a file whose image gives the chip, where
+/// the other gives source, or none.
 #[derive(Drop, PartialEq, Eq)]
 pub enum Settings {
     /// Serve a session that keeps up to this many events, 1 to 4000000.
     Debug {
         limit: u32,
     },
-    /// Serve a session of exploring that keeps up to this many events, 1 to 4000000.
+    /// Serve a session of exploring that keeps up to this many events, 1 to 100000000.
     Explore {
         limit: u32,
+        chip: Option<String>,
         file: Option<String>,
     },
     /// Run 1 to 16 workers, of which each makes 1 to 100000 calls, over a chip that keeps up to this many events, 1 to 4000000.
@@ -65,12 +70,13 @@ pub enum Settings {
     Disassemble {
         file: Option<String>,
     },
-    /// Draw the kept events of a session from one place of their list on and up to another, both counted from 1. Shown are the
+    /// Draw the kept events of a session that keeps up to `limit`, 1 to 100000000, from one place of their list on and up to another, both counted from 1. Shown are the
     /// causes of a step, and what a rollback of a step would take; each step is a node and a number, counted from 1. Idle nodes and
     /// those that work by themselves are drawn too where `all` is set, and with `only` nothing but such causes and what would be taken;
     /// from `fold` on that many own steps in a row are one mark, where it is not 0. Steps that could have come out otherwise are marked
     /// where `races` is set.
     Draw {
+        limit: u32,
         cause: Option<(NodeId, u32)>,
         rewind: Option<(NodeId, u32)>,
         from: u32,
@@ -79,6 +85,7 @@ pub enum Settings {
         only: bool,
         fold: u32,
         races: bool,
+        chip: Option<String>,
         file: Option<String>,
     },
 }
@@ -127,12 +134,13 @@ fn chosen(alloc: Global, matches: &ArgMatches<'_>) -> Result<Settings, LineFault
 {
     match matches.subcommand() {
         Some(("debug", debug)) => Ok(Settings::Debug {
-            limit: limit(debug)?,
+            limit: limit(debug, DEFAULT_LIMIT, GREATEST_LIMIT)?,
         }),
         Some(("explore", explorer)) => {
-            let limit = limit(explorer)?;
+            let limit = limit(explorer, DEFAULT_EXPLORED, GREATEST_EXPLORED)?;
             Ok(Settings::Explore {
                 limit,
+                chip: name(alloc, explorer.get_str("chip"))?,
                 file: file(alloc, explorer)?,
             })
         }
@@ -142,7 +150,7 @@ fn chosen(alloc: Global, matches: &ArgMatches<'_>) -> Result<Settings, LineFault
             Ok(Settings::Race {
                 workers,
                 calls,
-                limit: limit(race)?,
+                limit: limit(race, DEFAULT_LIMIT, GREATEST_LIMIT)?,
             })
         }
         Some(("check", check)) => checked(alloc, check),
@@ -169,20 +177,34 @@ fn checked(alloc: Global, check: &ArgMatches<'_>) -> Result<Settings, LineFault>
     Ok(Settings::Check {
         most,
         settled: check.get_flag("settled"),
-        session: order(check.get_str("session"))?,
+        session: order(alloc, check.get_str("session"))?,
         workers: workers(check.get_str("workers"))?,
         progress: check.get_flag("progress"),
         file: file(alloc, check)?,
     })
 }
 
-/// The number of an order, counted from 1, where one is given.
-fn order(text: Option<&str>) -> Result<Option<u32>, LineFault>
+/// The number of an order, counted from 1, where one is given, spelled as in a command.
+fn order(alloc: Global, text: Option<&str>) -> Result<Option<u32>, LineFault>
     ensures in_range { IfOk result (λ order. IfSome order (λ n. Within 1 4294967295 n)) }
 {
     match text {
         None => Ok(None),
-        given => Ok(Some(number(given, u32::MAX)?)),
+        Some(given) => match number_in(given.as_bytes()) {
+            Some(_) => Ok(Some(number(text, u32::MAX)?)),
+            None => Err(no_order(alloc, given)),
+        },
+    }
+}
+
+/// Tells that these digits are no number of an order, in the form of clap's errors.
+fn no_order(alloc: Global, digits: &str) -> LineFault {
+    match format!(in alloc;
+        "error: invalid value '{digits}' for '--session <K>': K is a decimal number without leading zeros\n\n\
+        For more information, try '--help'.\n"
+    ) {
+        Ok(text) => LineFault::Refused(text),
+        Err(_) => LineFault::Memory,
     }
 }
 
@@ -200,9 +222,11 @@ fn workers(text: Option<&str>) -> Result<u32, LineFault>
 fn drawn(alloc: Global, draw: &ArgMatches<'_>) -> Result<Settings, LineFault>
     ensures in_range { IfOk result AreInRange }
 {
+    let limit = limit(draw, DEFAULT_EXPLORED, GREATEST_EXPLORED)?;
     let from = place(draw.get_str("from"), 1)?;
     let to = place(draw.get_str("to"), u32::MAX)?;
     Ok(Settings::Draw {
+        limit,
         cause: step(alloc, draw, "cause")?,
         rewind: step(alloc, draw, "rewind")?,
         from,
@@ -211,6 +235,7 @@ fn drawn(alloc: Global, draw: &ArgMatches<'_>) -> Result<Settings, LineFault>
         only: draw.get_flag("only"),
         fold: fold(draw.get_str("fold"))?,
         races: draw.get_flag("races"),
+        chip: name(alloc, draw.get_str("chip"))?,
         file: file(alloc, draw)?,
     })
 }
@@ -218,8 +243,15 @@ fn drawn(alloc: Global, draw: &ArgMatches<'_>) -> Result<Settings, LineFault>
 /// The name of the file, where one is given that is not `-`.
 fn file(alloc: Global, matches: &ArgMatches<'_>) -> Result<Option<String>, LineFault> {
     match matches.get_str("FILE") {
-        None => Ok(None),
         Some("-") => Ok(None),
+        given => name(alloc, given),
+    }
+}
+
+/// The name of a file, where one is given.
+fn name(alloc: Global, text: Option<&str>) -> Result<Option<String>, LineFault> {
+    match text {
+        None => Ok(None),
         Some(name) => match String::from_str(alloc, name) {
             Ok(name) => Ok(Some(name)),
             Err(_) => Err(LineFault::Memory),
@@ -227,12 +259,15 @@ fn file(alloc: Global, matches: &ArgMatches<'_>) -> Result<Option<String>, LineF
     }
 }
 
-fn limit(matches: &ArgMatches<'_>) -> Result<u32, LineFault>
-    ensures in_range { IfOk result (λ n. Within 1 4000000 n) }
+/// How many events are kept at most: the number that is given, or the usual one.
+fn limit(matches: &ArgMatches<'_>, usual: u32, greatest: u32) -> Result<u32, LineFault>
+    requires positive { 1 ≤ usual }
+    requires below { usual ≤ greatest }
+    ensures in_range { IfOk result (λ n. Within 1 greatest n) }
 {
     match matches.get_str("limit") {
-        None => Ok(DEFAULT_LIMIT),
-        given => number(given, GREATEST_LIMIT),
+        None => Ok(usual),
+        given => number(given, greatest),
     }
 }
 

@@ -18,8 +18,10 @@ use Rattle.ga_search.specs.Backward.{newest_held, number_of_step, left_from}
 use Rattle.ga_search.specs.Conditions.{conditions_asked}
 use Rattle.ga_search.specs.Running.{Running, running, chosen, told_by_step, moved_by, after_events, AreMade}
 use Rattle.ga_search.specs.declared.schedule.Schedule.{Schedule}
-use Rattle.ga_console.specs.Replies.{Reply, Does, LineAnswer, reply, step_reply, back_reply, rewind_reply}
-use Rattle.ga_console.specs.Replies.LineAnswer.{long, command, syntax}
+use Rattle.ga_display.specs.declared.wording.Wording.{Wording}
+use Rattle.ga_display.specs.declared.wording.Wording.TheVariants.{Advised}
+use Rattle.ga_console.specs.Replies.{Reply, Does, WordedAnswer, worded_reply, step_reply, back_reply, rewind_reply}
+use Rattle.ga_console.specs.Replies.WordedAnswer.{long, command, syntax}
 use Rattle.ga_console.specs.declared.command.Command.{Command}
 use Rattle.ga_console.specs.declared.command.Command.TheVariants.{Step, Back, Rewind, Node, Memory, Trace, Why, Count, Dump, Quit}
 use Rattle.ga_explorer.specs.Answers.{Explores, AnswersOther}
@@ -109,10 +111,10 @@ run_same s schedule (suc n) h e = let more = run_made (running s schedule) (suc 
 
 -- ---- commands
 
-step_same : (s : State) (node : NodeId) (a : Result Made LabFault) → step_answer s node ≡ a → IsUnmoved s (step_reply s node a).1 → (step_reply s node a).1 ≡ s
-step_same s node (Ok made) is h =
+step_same : (w : Wording) (s : State) (node : NodeId) (a : Result Made LabFault) → step_answer s node ≡ a → IsUnmoved s (step_reply w s node a).1 → (step_reply w s node a).1 ≡ s
+step_same w s node (Ok made) is h =
     let more = stepped_made s node (ap (λ (z : Result Made LabFault). is_some (result_ok z)) is) in let same = h.1 in absurd (let no : ⊥ = omega (arith, more, same) in no)
-step_same s node (Err why) is h = refl
+step_same w s node (Err why) is h = refl
 
 back_same : (s : State) (a : Result (Unit {0}) LabFault) → IsUnmoved s (back_reply s a).1 → (back_reply s a).1 ≡ s
 back_same s (Ok done) h = earlier_same s (length s.kept - 1) h.0
@@ -122,29 +124,29 @@ rewind_same : (s : State) (n k : ℕ) (a : Result ℕ LabFault) → events_in (c
 rewind_same s n k (Ok removed) caused h = rewound_same s n k caused h.0
 rewind_same s n k (Err why) caused h = refl
 
-reply_same : (s : State) (c : Command) → events_in (causes_of s) ≡ s.kept → IsUnmoved s (reply s c).1 → (reply s c).1 ≡ s
-reply_same s (Step node) caused h = step_same s node (step_answer s node) refl h
-reply_same s Back caused h = back_same s (undo_answer s) h
-reply_same s (Rewind node k) caused h = rewind_same s node.number k (rewind_answer s node.number k) caused h
-reply_same s (Node node) caused h = refl
-reply_same s (Memory node address) caused h = refl
-reply_same s (Trace node) caused h = refl
-reply_same s (Why from k to j) caused h = refl
-reply_same s Count caused h = refl
-reply_same s Dump caused h = refl
-reply_same s Quit caused h = refl
+reply_same : (w : Wording) (s : State) (c : Command) → events_in (causes_of s) ≡ s.kept → IsUnmoved s (worded_reply w s c).1 → (worded_reply w s c).1 ≡ s
+reply_same w s (Step node) caused h = step_same w s node (step_answer s node) refl h
+reply_same w s Back caused h = back_same s (undo_answer s) h
+reply_same w s (Rewind node k) caused h = rewind_same s node.number k (rewind_answer s node.number k) caused h
+reply_same w s (Node node) caused h = refl
+reply_same w s (Memory node address) caused h = refl
+reply_same w s (Trace node) caused h = refl
+reply_same w s (Why from k to j) caused h = refl
+reply_same w s Count caused h = refl
+reply_same w s Dump caused h = refl
+reply_same w s Quit caused h = refl
 
 -- what is the same as another machine, which is unmoved
 same_as : (s other new : State) → new ≡ other → (IsUnmoved s other → other ≡ s) → IsUnmoved s new → new ≡ s
 same_as s other new is go h = is ∙ go (ap (λ (m : State). length m.kept) (sym is) ∙ h.0, ap (λ (m : State). m.made) (sym is) ∙ h.1)
 
-does_same : (s : State) (c : Command) (answer : List ℕ) (new : State) → events_in (causes_of s) ≡ s.kept → Does s c answer new → IsUnmoved s new → new ≡ s
-does_same s c answer new caused (inl e) h = same_as s (reply s c).1 new (ap (λ (r : Reply). r.1) e) (reply_same s c caused) h
-does_same s c answer new caused (inr refused) h = refused.2
+does_same : (w : Wording) (s : State) (c : Command) (answer : List ℕ) (new : State) → events_in (causes_of s) ≡ s.kept → Does w s c answer new → IsUnmoved s new → new ≡ s
+does_same w s c answer new caused (inl e) h = same_as s (worded_reply w s c).1 new (ap (λ (r : Reply). r.1) e) (reply_same w s c caused) h
+does_same w s c answer new caused (inr refused) h = refused.2
 
-line_same : (s : State) (line answer : List ℕ) (new : State) → events_in (causes_of s) ≡ s.kept → LineAnswer s line answer new → IsUnmoved s new → new ≡ s
+line_same : (s : State) (line answer : List ℕ) (new : State) → events_in (causes_of s) ≡ s.kept → WordedAnswer Advised s line answer new → IsUnmoved s new → new ≡ s
 line_same s line answer new caused (long past text same) h = same
-line_same s line answer new caused (command c short spelled does) h = does_same s c answer new caused does h
+line_same s line answer new caused (command c short spelled does) h = does_same Advised s c answer new caused does h
 line_same s line answer new caused (syntax short none text same) h = same
 
 other_same : (s : State) (line answer : List ℕ) (new : State) → events_in (causes_of s) ≡ s.kept → AnswersOther s line answer new → IsUnmoved s new → new ≡ s

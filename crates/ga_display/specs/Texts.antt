@@ -19,6 +19,8 @@ use Rattle.ga_event.specs.declared.made.Made.{Made}
 use Rattle.ga_event.specs.declared.made.Made.TheVariants.{Own, Pass}
 use Rattle.ga_lab.specs.declared.fault.LabFault.{LabFault}
 use Rattle.ga_lab.specs.declared.fault.LabFault.TheVariants.{Waiting, Stopped, Full, Memory, Empty, NoStep, Spent}
+use Rattle.ga_display.specs.declared.wording.Wording.{Wording}
+use Rattle.ga_display.specs.declared.wording.Wording.TheVariants.{Brief, Advised}
 
 -- words with one space between two of them
 abbrev pub spaced : List Text → Text
@@ -117,6 +119,31 @@ refusal_text Memory = codes "no 4 memory\n"
 refusal_text Empty = codes "no 5 empty\n"
 refusal_text NoStep = codes "no 6 nostep\n"
 refusal_text Spent = codes "no 7 spent\n"
+
+-- what to do where no further event is kept, or no memory is left, and the line's end (docs/REFERENCE.md, "Exploring")
+abbrev pub advice_text : LabFault → Text
+advice_text Waiting = codes "\n"
+advice_text Stopped = codes "\n"
+advice_text Full = codes ": give a greater --limit; or save, dump, and go on from the dump\n"
+advice_text Memory = codes ": save, dump, and go on from the dump\n"
+advice_text Empty = codes "\n"
+advice_text NoStep = codes "\n"
+advice_text Spent = codes "\n"
+
+-- a refusal in a session of exploring, with what to do
+abbrev pub advised_text : LabFault → Text
+advised_text Waiting = refusal_text Waiting
+advised_text Stopped = refusal_text Stopped
+advised_text Full = codes "no 3 full" ++ advice_text Full
+advised_text Memory = codes "no 4 memory" ++ advice_text Memory
+advised_text Empty = refusal_text Empty
+advised_text NoStep = refusal_text NoStep
+advised_text Spent = refusal_text Spent
+
+-- a refusal in a session of this kind
+abbrev pub refused_text : Wording → LabFault → Text
+refused_text Brief why = refusal_text why
+refused_text Advised why = advised_text why
 
 -- the line spells no command
 abbrev pub no_syntax : Text

@@ -1,29 +1,30 @@
 -- From the text that is read to a machine that is opened on it.
-use Rattle.std.proofs.Common.{◌≡◌, ℕ, ◌<◌, inl, inr, List, [], ◌∷◌, ◌++◌, length, true, false, refl, arith, Result, Ok, Err}
+use Rattle.std.proofs.Common.{◌≡◌, Option, Some, None, ℕ, ◌<◌, inl, inr, List, [], ◌∷◌, ◌++◌, length, true, false, refl, arith, Result, Ok, Err}
 use Rattle.ga_image.proofs.Room.{short_image}
 use Rattle.ga_image.specs.declared.fault.ImageFault.{ImageFault}
 use Rattle.ga_text.specs.Input.{input_limit, Unread}
 use Rattle.ga_text.specs.Image.{HasNoEnd}
 use Rattle.ga_console.specs.Run.{IsReadAlone, IsFault}
 use Rattle.ga_console.specs.declared.run.Status.{Status}
-use Rattle.ga_explorer.specs.Opening.{Exploring, begins_as_image, OpensExploring, IsFront, IsRefusedImage, IsBegun}
+use Rattle.ga_explorer.specs.Opening.{Exploring, begins_as_image, is_read_as_image, OpensExploring, OpensFront, IsFront, IsRefusedImage, IsBegun}
 use Rattle.ga_explorer.specs.Opening.Unbegun.{image_refused, source_refused}
-use Rattle.ga_explorer.specs.inner.{IsOpened}
+use Rattle.ga_explorer.specs.inner.{IsOpened, IsFaultOf}
 use Rattle.ga_explorer.specs.declared.opening.Unopened.TheVariants.{Image, Source}
 
-refused_image : (image ahead rest : List ℕ) (fault : ImageFault) → IsReadAlone image ahead rest → begins_as_image image ≡ true → IsFault image fault
-    → IsRefusedImage (image ++ ahead) rest fault
-refused_image image ahead rest fault part is (inl e) = inl e
-refused_image image ahead rest fault part is (inr e) = inr (record { image = image; ahead = ahead; splits = refl; part = part; faulty = e }, is)
+refused_image : (chip : Option (List ℕ)) (image ahead rest : List ℕ) (fault : ImageFault) → IsReadAlone image ahead rest → IsFaultOf chip image fault
+    → IsRefusedImage chip (image ++ ahead) rest fault
+refused_image None image ahead rest fault part (is, inl e) = inl e
+refused_image None image ahead rest fault part (is, inr e) = inr (record { image = image; ahead = ahead; splits = refl; part = part; faulty = e }, is)
+refused_image (Some given) image ahead rest fault part e = inr (record { source = image; ahead = ahead; splits = refl; part = part; is_source = refl }, e)
 
 -- of a text that was read whole
-pub begun_after : (limit : ℕ) (left text : List ℕ) (input : Unread) (rest written : List ℕ) (result : Result Exploring Status) → left ≡ text ++ (input.bytes ++ rest)
+pub begun_after : (chip : Option (List ℕ)) (limit : ℕ) (left text : List ℕ) (input : Unread) (rest written : List ℕ) (result : Result Exploring Status) → left ≡ text ++ (input.bytes ++ rest)
     → left ≡ (text ++ input.bytes) ++ rest → input.taken ≡ length text → IsFront text (input.bytes ++ rest) → IsReadAlone text input.bytes rest
-    → IsOpened limit text written result → IsBegun limit left input rest written result
-begun_after limit left text input rest written (Ok begun) split whole taken front alone opened = (opened.0, text, split, taken, front, opened.1)
-begun_after limit left text input rest written (Err status) split whole taken front alone (Image fault, why, declined) =
-    (text ++ input.bytes, whole, image_refused fault (refused_image text input.bytes rest fault alone why.0 why.1) declined)
-begun_after limit left text input rest written (Err status) split whole taken front alone (Source, why, declined) =
+    → IsOpened chip limit text written result → IsBegun chip limit left input rest written result
+begun_after chip limit left text input rest written (Ok begun) split whole taken front alone opened = (opened.0, text, split, taken, front, opened.1)
+begun_after chip limit left text input rest written (Err status) split whole taken front alone (Image fault, why, declined) =
+    (text ++ input.bytes, whole, image_refused fault (refused_image chip text input.bytes rest fault alone why) declined)
+begun_after chip limit left text input rest written (Err status) split whole taken front alone (Source, why, declined) =
     (text ++ input.bytes, whole, source_refused (record { source = text; ahead = input.bytes; splits = refl; part = alone; is_source = why }) declined.0 declined.1)
 
 not_both : (text : List ℕ) → begins_as_image text ≡ true → begins_as_image text ≡ false → ⊥
@@ -34,10 +35,18 @@ too_long limit text begun full is (inl opens) =
     let short : length text < 16777216 = short_image text opens.1.0 opens.1.1 in omega arith
 too_long limit text begun full is (inr opens) = not_both text is opens.0
 
+-- it is source, and no image
+no_image : (chip : Option (List ℕ)) (text : List ℕ) → is_read_as_image chip text ≡ true → is_read_as_image chip text ≡ false → ⊥
+no_image chip text is other = cc
+
+not_so_long : (chip : Option (List ℕ)) (limit : ℕ) (text : List ℕ) (begun : Exploring) → length text ≡ input_limit → is_read_as_image chip text ≡ true → OpensFront chip text limit begun → ⊥
+not_so_long None limit text begun full is opens = too_long limit text begun full is opens
+not_so_long (Some given) limit text begun full is opens = absurd (cc)
+
 -- No image that is accepted reaches the bound of the input.
-pub begun_full : (limit byte : ℕ) (left text : List ℕ) (input : Unread) (rest written : List ℕ) (result : Result Exploring Status) → left ≡ (text ++ byte ∷ []) ++ rest
-    → length text ≡ input_limit → HasNoEnd text → begins_as_image text ≡ true → IsOpened limit text written result → IsBegun limit left input rest written result
-begun_full limit byte left text input rest written (Ok begun) whole full none is opened = absurd (too_long limit text begun full is opened.1)
-begun_full limit byte left text input rest written (Err status) whole full none is (Image fault, why, declined) =
-    (text ++ byte ∷ [], whole, image_refused fault (refused_image text (byte ∷ []) rest fault (inr (inr (full, refl, none))) why.0 why.1) declined)
-begun_full limit byte left text input rest written (Err status) whole full none is (Source, why, declined) = absurd (not_both text is why)
+pub begun_full : (chip : Option (List ℕ)) (limit byte : ℕ) (left text : List ℕ) (input : Unread) (rest written : List ℕ) (result : Result Exploring Status) → left ≡ (text ++ byte ∷ []) ++ rest
+    → length text ≡ input_limit → HasNoEnd text → is_read_as_image chip text ≡ true → IsOpened chip limit text written result → IsBegun chip limit left input rest written result
+begun_full chip limit byte left text input rest written (Ok begun) whole full none is opened = absurd (not_so_long chip limit text begun full is opened.1)
+begun_full chip limit byte left text input rest written (Err status) whole full none is (Image fault, why, declined) =
+    (text ++ byte ∷ [], whole, image_refused fault (refused_image chip text (byte ∷ []) rest fault (inr (inr (full, refl, none))) why) declined)
+begun_full chip limit byte left text input rest written (Err status) whole full none is (Source, why, declined) = absurd (no_image chip text is why)

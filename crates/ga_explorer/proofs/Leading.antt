@@ -7,6 +7,7 @@ use Rattle.ga_event.specs.declared.made.Made.{Made}
 use Rattle.ga_event.specs.Next.{next}
 use Rattle.ga_lab.specs.Machine.{State, chip_of, step_answer, with_event, unless_refused, stepped, actor_of, stepped_all}
 use Rattle.ga_lab.specs.declared.fault.LabFault.{LabFault}
+use Rattle.ga_display.specs.declared.wording.Wording.TheVariants.{Brief}
 use Rattle.ga_console.specs.Replies.{reply, step_reply}
 use Rattle.ga_console.specs.declared.command.Command.TheVariants.{Step}
 use Rattle.ga_answers.specs.Saved.{saved_line}
@@ -16,7 +17,7 @@ use Rattle.ga_explorer.specs.Leading.{Leads}
 step_leads : (s : State) (n : NodeId) → (reply s (Step n)).1 ≡ stepped s n
 step_leads s n = go (step_answer s n) refl
   where
-    go : (a : Result Made LabFault) → step_answer s n ≡ a → (step_reply s n a).1 ≡ stepped s n
+    go : (a : Result Made LabFault) → step_answer s n ≡ a → (step_reply Brief s n a).1 ≡ stepped s n
     go (Ok m) is = refl
     go (Err why) is = sym (ap (λ (z : Result Made LabFault). unless_refused s z (with_event s (next (chip_of s) n))) is)
 

@@ -9,9 +9,9 @@ use Rattle.ga_notes.specs.declared.notes.Notes.{Notes}
 use Rattle.ga_explorer.specs.Commands.{request_in, lone_request, lone_question, named_request, named_question, Explored}
 use Rattle.std.specs.Result.{IsErr}
 use Rattle.std.proofs.lemmas.List.{take_all}
-use Rattle.ga_console.specs.Replies.{LineAnswer}
-use Rattle.ga_console.specs.inner.Run.{Turns, AnswersLine}
-use Rattle.ga_console.specs.Session.{quit_line}
+use Rattle.ga_display.specs.declared.wording.Wording.TheVariants.{Advised}
+use Rattle.ga_console.specs.Replies.{WordedAnswer}
+use Rattle.ga_console.specs.Session.{quit_line, Turns, AnswersLine}
 use Rattle.ga_lab.specs.Machine.{State}
 use Rattle.ga_text.specs.declared.output.WriteFailed.{WriteFailed}
 use Rattle.ga_console.specs.declared.responder.Turn.{Turn}
@@ -54,12 +54,12 @@ of_debugger : (line part : List ℕ) → line ≡ take 201 part → IsOfDebugger
 of_debugger line part e (inl long) = inl (omega (arith, long, ap length e, length-take 201 part))
 of_debugger line part e (inr here) = let P : List ℕ → Type 0 = IsOfDebugger in subst P (sym (whole line part e here.0)) (inr here)
 
-other_line : (s : State) (line answer : List ℕ) (new : State) → IsOfDebugger line → AnswersLine LineAnswer s line answer new → AnswersLine AnswersOther s line answer new
+other_line : (s : State) (line answer : List ℕ) (new : State) → IsOfDebugger line → AnswersLine (WordedAnswer Advised) s line answer new → AnswersLine AnswersOther s line answer new
 other_line s line answer new of done = λ part kept.
     let answered = done part kept in (inl (of_debugger line part kept of, answered.0), answered.1)
 
 pub other_turn : (s : State) (line : List ℕ) (new : State) (result : Result Turn WriteFailed) (answer : List ℕ) → IsOfDebugger line
-    → Turns LineAnswer s line new result answer → Turns AnswersOther s line new result answer
+    → Turns (WordedAnswer Advised) s line new result answer → Turns AnswersOther s line new result answer
 other_turn s line new (Ok turn.Answered) answer of done = other_line s line answer new of done
 other_turn s line new (Ok turn.Quit) answer of done = done
 other_turn s line new (Err failed) answer of done = other_line s line answer new of done

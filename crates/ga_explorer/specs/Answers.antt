@@ -3,7 +3,8 @@ use Rattle.std.specs.Prelude.{◌≡◌, ◌≢◌, ◌+◌, ◌<◌, ◌≤◌,
 use Rattle.ga_text.specs.Lines.{longest, Text, Line}
 use Rattle.ga_text.specs.declared.output.WriteFailed.{WriteFailed}
 use Rattle.ga_lab.specs.Machine.{State}
-use Rattle.ga_console.specs.Replies.{LineAnswer}
+use Rattle.ga_display.specs.declared.wording.Wording.TheVariants.{Advised}
+use Rattle.ga_console.specs.Replies.{WordedAnswer}
 use Rattle.ga_console.specs.Commands.{SpellsCommand}
 use Rattle.ga_console.specs.Session.{quit_line}
 use Rattle.ga_console.specs.declared.responder.Turn.{Turn}
@@ -22,10 +23,10 @@ IsOfDebugger line = (longest < length line) ⊎ ((length line ≤ longest) × (c
 abbrev pub IsNoCommand : Line → Type 0
 IsNoCommand line = (length line ≤ longest) × ((c : Command) → ¬ SpellsCommand c line)
 
--- The answer to a line that spells no command of exploring: that of the debugger; or what to write in its place, where it spells none
--- of the debugger either.
+-- The answer to a line that spells no command of exploring: that of the debugger, with what to do where it is refused for want of room; or
+-- what to write in its place, where it spells none of the debugger either.
 abbrev pub AnswersOther : State → Line → Text → State → Type 0
-AnswersOther s line answer new = (IsOfDebugger line × LineAnswer s line answer new) ⊎ (IsNoCommand line × (answer ≡ no_command line) × (new ≡ s))
+AnswersOther s line answer new = (IsOfDebugger line × WordedAnswer Advised s line answer new) ⊎ (IsNoCommand line × (answer ≡ no_command line) × (new ≡ s))
 
 -- The answer to a line: it spells a command of exploring, or is answered as one that spells none.
 pub data Explores (e : Exploring) (line answer : Text) (new : Exploring) : Type 0 where

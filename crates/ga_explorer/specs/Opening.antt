@@ -1,5 +1,6 @@
--- What a session of exploring begins on: an image, or source (docs/REFERENCE.md, "Exploring"; this project's own).
-use Rattle.std.specs.Prelude.{Option, ◌≡◌, ℕ, ◌⊎◌, Bool, true, false, List, [], ◌++◌, length, take, codes, bytes_eq, Result, Ok, Err, Some, None}
+-- What a session of exploring begins on: an image, or source, which may have a chip of its own (docs/REFERENCE.md, "Exploring"; this project's own).
+use Rattle.std.specs.Prelude.{Option, option_map, Vec, ◌≡◌, ℕ, ◌⊎◌, Bool, true, false, List, [], ◌++◌, length, take, codes, bytes_eq, Result, Ok, Err, Some, None}
+use Rattle.std.specs.Global.{Global}
 use Rattle.ga_lab.specs.Machine.{State, first}
 use Rattle.ga_notes.specs.declared.notes.Notes.{Notes}
 use Rattle.std.specs.List.{All}
@@ -15,7 +16,7 @@ use Rattle.ga_source.specs.Made.{IsChipOfSource}
 use Rattle.ga_notes.specs.Notes.{AreOfSource}
 use Rattle.ga_text.specs.Input.{Unread}
 use Rattle.ga_text.specs.Image.{EndsAtEnd, HasNoEnd}
-use Rattle.ga_console.specs.Run.{Opens as OpensImage, IsReadAlone, Faulty, Refuses}
+use Rattle.ga_console.specs.Run.{Opens as OpensImage, IsReadAlone, Faulty, Refuses, IsFault}
 use Rattle.ga_console.specs.declared.run.Status.{Status}
 use Rattle.ga_console.specs.declared.run.Status.TheVariants.{ImageRefused, StreamFault}
 
@@ -50,33 +51,69 @@ abbrev pub OpensExploring : Text → ℕ → Exploring → Type 0
 OpensExploring text limit begun = ((begins_as_image text ≡ true) × OpensImage text limit begun.lab × (begun.notes ≡ None))
     ⊎ ((begins_as_image text ≡ false) × OpensSource text limit begun)
 
+-- The notes are those of a source and of the programs that it has.
+pub record AreNotesOf (source : Text) (notes : Notes) : Type 0 where
+  pub chip : List NodeState
+  pub programs : List Program
+  pub assembled : IsAssembled chip programs
+  pub read : AreRead source programs
+  pub asked : AreAsked source programs
+  pub groups : All HasGroups programs
+  pub made : IsChipOfSource source chip
+  pub says : AreOfSource source programs notes
+
+-- The machine has as its load the chip of an image, and the notes are those of the source, whatever that chip holds.
+pub record OpensOnImage (source image : Text) (limit : ℕ) (begun : Exploring) : Type 0 where
+  pub notes : Notes
+  pub opens : OpensImage image limit begun.lab
+  pub noted : begun.notes ≡ Some notes
+  pub notes_of : AreNotesOf source notes
+
+-- the text of the image that is given for the chip, where one is
+abbrev pub image_of : Option (Vec ℕ Global) → Option Text
+image_of chip = option_map (λ (image : Vec ℕ Global). image.items) chip
+
+-- what is opened on a text: where an image is given for the chip, the text is its source
+abbrev pub OpensFront : Option Text → Text → ℕ → Exploring → Type 0
+OpensFront None text limit begun = OpensExploring text limit begun
+OpensFront (Some image) text limit begun = OpensOnImage text image limit begun
+
+-- the text is read as an image: never where another image is given for the chip
+abbrev pub is_read_as_image : Option Text → Text → Bool
+is_read_as_image None text = begins_as_image text
+is_read_as_image (Some image) text = false
+
 -- The text goes up to its first line `end`; or no such line was read, and nothing is left behind it.
 abbrev pub IsFront : Text → Bytes → Type 0
 IsFront text behind = EndsAtEnd text ⊎ ((behind ≡ []) × HasNoEnd text)
 
--- The image was refused with its first fault, and nothing was read behind it; or memory was wanting before.
-abbrev pub IsRefusedImage : Bytes → Bytes → ImageFault → Type 0
-IsRefusedImage read rest fault =
-    (fault ≡ no_memory) ⊎ ((faulty : Faulty read rest fault) × (begins_as_image faulty.image ≡ true))
-
 -- Source was read, and nothing behind it.
-pub record IsSourceAlone (read rest : Bytes) : Type 0 where
+pub record IsSourceAlone (chip : Option Text) (read rest : Bytes) : Type 0 where
   pub source : Text
   pub ahead : Bytes
   pub splits : read ≡ source ++ ahead
   pub part : IsReadAlone source ahead rest
-  pub is_source : begins_as_image source ≡ false
+  pub is_source : is_read_as_image chip source ≡ false
+
+-- The image that was read has this first fault, and nothing was read behind it; or the one that is given for the chip has.
+abbrev pub IsFaultyImage : Option Text → Bytes → Bytes → ImageFault → Type 0
+IsFaultyImage None read rest fault = (faulty : Faulty read rest fault) × (begins_as_image faulty.image ≡ true)
+IsFaultyImage (Some image) read rest fault = IsSourceAlone (Some image) read rest × IsFault image fault
+
+-- an image was refused with its first fault; or memory was wanting before
+abbrev pub IsRefusedImage : Option Text → Bytes → Bytes → ImageFault → Type 0
+IsRefusedImage chip read rest fault = (fault ≡ no_memory) ⊎ IsFaultyImage chip read rest fault
 
 -- Why no session begins, what is written then, and the status: read was read of the input, and rest is left of it.
-pub data Unbegun (read rest : Bytes) (written : Text) (status : Status) : Type 0 where
-  image_refused : (fault : ImageFault) → IsRefusedImage read rest fault → Refuses fault written status → Unbegun read rest written status
+pub data Unbegun (chip : Option Text) (read rest : Bytes) (written : Text) (status : Status) : Type 0 where
+  image_refused : (fault : ImageFault) → IsRefusedImage chip read rest fault → Refuses fault written status → Unbegun chip read rest written status
   -- standard error tells why
-  source_refused : IsSourceAlone read rest → written ≡ [] → status ≡ ImageRefused → Unbegun read rest written status
+  source_refused : IsSourceAlone chip read rest → written ≡ [] → status ≡ ImageRefused → Unbegun chip read rest written status
   -- a read failed in the image or source
-  unread : HasNoEnd read → written ≡ [] → status ≡ StreamFault → Unbegun read rest written status
+  unread : HasNoEnd read → written ≡ [] → status ≡ StreamFault → Unbegun chip read rest written status
 
 -- A text was taken of what was left to read, and a machine opened on it; or no session begins.
-abbrev pub IsBegun : ℕ → Bytes → Unread → Bytes → Text → Result Exploring Status → Type 0
-IsBegun limit left input rest written (Ok begun) = (written ≡ []) × (text : Text) × (left ≡ text ++ (input.bytes ++ rest))
-    × (input.taken ≡ length text) × IsFront text (input.bytes ++ rest) × OpensExploring text limit begun
-IsBegun limit left input rest written (Err status) = (read : Bytes) × (left ≡ read ++ rest) × Unbegun read rest written status
+abbrev pub IsBegun : Option Text → ℕ → Bytes → Unread → Bytes → Text → Result Exploring Status → Type 0
+IsBegun chip limit left input rest written (Ok begun) = (written ≡ []) × (text : Text) × (left ≡ text ++ (input.bytes ++ rest))
+    × (input.taken ≡ length text) × IsFront text (input.bytes ++ rest) × OpensFront chip text limit begun
+IsBegun chip limit left input rest written (Err status) = (read : Bytes) × (left ≡ read ++ rest) × Unbegun chip read rest written status

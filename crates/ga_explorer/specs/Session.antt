@@ -1,5 +1,5 @@
 -- What a whole session of exploring may write, and how it may end (docs/REFERENCE.md, "Exploring"; this project's own).
-use Rattle.std.specs.Prelude.{◌≡◌, ℕ, ◌-◌, ◌++◌, length, Result}
+use Rattle.std.specs.Prelude.{◌≡◌, ℕ, ◌-◌, ◌++◌, length, Option, Result}
 use Rattle.ga_text.specs.Lines.{Bytes, Text}
 use Rattle.ga_text.specs.Input.{input_limit}
 use Rattle.ga_text.specs.Output.{ready}
@@ -8,23 +8,25 @@ use Rattle.ga_console.specs.Session.{Serves, Written}
 use Rattle.ga_console.specs.declared.commands.Ending.{Ending}
 use Rattle.ga_text.specs.declared.output.WriteFailed.{WriteFailed}
 use Rattle.ga_console.specs.declared.run.Status.{Status}
-use Rattle.ga_explorer.specs.Opening.{Exploring, OpensExploring, IsFront, Unbegun}
+use Rattle.ga_explorer.specs.Opening.{Exploring, OpensFront, IsFront, Unbegun}
 use Rattle.ga_explorer.specs.Answers.{Explores}
 
--- The text, an image or source, was accepted, and the commands behind it were served to this ending.
-pub record ServedExploring (limit : ℕ) (read rest : Bytes) (written : Text) (ending : Result Ending WriteFailed) : Type 0 where
+-- The text, an image or source, was accepted, and so was the image that is given for its chip, if one is; and the commands behind it were
+-- served to this ending.
+pub record ServedExploring (chip : Option Text) (limit : ℕ) (read rest : Bytes) (written : Text) (ending : Result Ending WriteFailed) : Type 0 where
   pub text : Text
   pub commands : Bytes
   pub begun : Exploring
   pub said : Text
   pub splits : read ≡ text ++ commands
   pub front : IsFront text (commands ++ rest)
-  pub opens : OpensExploring text limit begun
+  pub opens : OpensFront chip text limit begun
   pub last : Exploring
   pub serves : Serves Explores (input_limit - length text) begun commands rest said last ending
   pub out : Written ending (ready ++ said) written
 
 -- What a session may have written, where read was read of its input and rest is left of it, and its status.
-pub data RunsExploring (limit : ℕ) (read rest : Bytes) (written : Text) (status : Status) : Type 0 where
-  served : (ending : Result Ending WriteFailed) → status ≡ status_of ending → ServedExploring limit read rest written ending → RunsExploring limit read rest written status
-  unbegun : Unbegun read rest written status → RunsExploring limit read rest written status
+pub data RunsExploring (chip : Option Text) (limit : ℕ) (read rest : Bytes) (written : Text) (status : Status) : Type 0 where
+  served : (ending : Result Ending WriteFailed) → status ≡ status_of ending → ServedExploring chip limit read rest written ending
+      → RunsExploring chip limit read rest written status
+  unbegun : Unbegun chip read rest written status → RunsExploring chip limit read rest written status

@@ -1,11 +1,12 @@
 -- What only private contracts and proofs name.
-use Rattle.std.specs.Prelude.{Option, ◌≡◌, ℕ, true, false, [], Result, Ok, Err}
+use Rattle.std.specs.Prelude.{Option, Some, None, ◌≡◌, ℕ, true, false, [], Result, Ok, Err}
 use Rattle.ga_lab.specs.Machine.{State}
 use Rattle.ga_notes.specs.declared.notes.Notes.{Notes}
-use Rattle.ga_explorer.specs.Opening.{Exploring, begins_as_image, OpensExploring}
+use Rattle.ga_explorer.specs.Opening.{Exploring, begins_as_image, is_read_as_image, OpensFront}
 use Rattle.ga_explorer.specs.Forms.{CommandForm}
 use Rattle.ga_explorer.specs.declared.forms.Row.{Row}
 use Rattle.ga_text.specs.Lines.{Text, Bytes}
+use Rattle.ga_image.specs.declared.fault.ImageFault.{ImageFault}
 use Rattle.ga_console.specs.Run.{IsFault, Refuses}
 use Rattle.ga_console.specs.declared.run.Status.{Status}
 use Rattle.ga_console.specs.declared.run.Status.TheVariants.{ImageRefused}
@@ -29,10 +30,15 @@ entry_of row = record { name = row.name.now; form = row.form.now; does = row.doe
 
 -- ---- what is written once an image or source was read
 
--- why there is no machine that has the text's chip as its load
-abbrev pub IsUnopened : Text → Unopened → Type 0
-IsUnopened text (Image fault) = (begins_as_image text ≡ true) × IsFault text fault
-IsUnopened text Source = begins_as_image text ≡ false
+-- the image that has the chip has this fault: the text, or the one that is given
+abbrev pub IsFaultOf : Option Text → Text → ImageFault → Type 0
+IsFaultOf None text fault = (begins_as_image text ≡ true) × IsFault text fault
+IsFaultOf (Some image) text fault = IsFault image fault
+
+-- why there is no machine that has the chip as its load
+abbrev pub IsUnopened : Option Text → Text → Unopened → Type 0
+IsUnopened chip text (Image fault) = IsFaultOf chip text fault
+IsUnopened chip text Source = is_read_as_image chip text ≡ false
 
 -- a refusal is written, or standard error tells why
 abbrev pub Declines : Unopened → Text → Status → Type 0
@@ -40,9 +46,9 @@ Declines (Image fault) written status = Refuses fault written status
 Declines Source written status = (written ≡ []) × (status ≡ ImageRefused)
 
 -- a machine was opened on the text, or that was declined
-abbrev pub IsOpened : ℕ → Text → Text → Result Exploring Status → Type 0
-IsOpened limit text written (Ok begun) = (written ≡ []) × OpensExploring text limit begun
-IsOpened limit text written (Err status) = (why : Unopened) × IsUnopened text why × Declines why written status
+abbrev pub IsOpened : Option Text → ℕ → Text → Text → Result Exploring Status → Type 0
+IsOpened chip limit text written (Ok begun) = (written ≡ []) × OpensFront chip text limit begun
+IsOpened chip limit text written (Err status) = (why : Unopened) × IsUnopened chip text why × Declines why written status
 
 -- ---- what is told to a question, and written
 

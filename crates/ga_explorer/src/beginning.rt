@@ -2,11 +2,11 @@
 ghost use Rattle.std.specs.Prelude.{◌≡◌, ◌++◌, [], Some};
 ghost use Rattle.ga_text.specs.Lines.{Bytes};
 ghost use Rattle.ga_text.specs.Input.{IsWithin};
-ghost use Rattle.ga_explorer.specs.Opening.{IsBegun};
+ghost use Rattle.ga_explorer.specs.Opening.{IsBegun, image_of};
 ghost use Rattle.ga_explorer.specs.inner.{IsOpened};
 
 use crate::explorer::Explorer;
-use crate::opening::{Unopened, is_image, open_text};
+use crate::opening::{Unopened, is_read_as_image, open_text};
 use ga_console::{Status, refuse};
 use ga_image::{ImageCause, ImageFault};
 use ga_notes::tell_long;
@@ -21,8 +21,8 @@ const NO_MEMORY: ImageFault = ImageFault {
 };
 
 /// Reads an image or source up to its first line `end`, and opens a lab that has its chip as its load, to be explored. A text whose first line
-/// begins with `ga144` is an image, and any other is source. A refused image gets its refusal on `writer`; source gets a line on
-/// `errors`, as `ga144 asm` writes it.
+/// begins with `ga144` is an image, and any other is source. Where an image is given for the `chip`, the load is that one's, and the text is
+/// its source. A refused image gets its refusal on `writer`; source gets a line on `errors`, as `ga144 asm` writes it.
 ///
 /// # Errors
 /// The status of a session that ends so.
@@ -32,13 +32,14 @@ pub fn begin<R: Read, W: Write, E: Write>(
     reader: &mut R,
     writer: &mut W,
     errors: &mut E,
+    chip: Option<Vec<u8>>,
     limit: u32,
 ) -> Result<Explorer, Status>
     requires fresh { input.old ≡ record { bytes = []; taken = 0 } }
     ensures begun { (left before : Bytes) →
         R.remaining reader.old ≡ Some left → W.contents writer.old ≡ Some before →
         (rest text : Bytes) × (R.remaining reader.new ≡ Some rest) × (W.contents writer.new ≡ Some (before ++ text))
-        × IsBegun limit left input.new rest text result }
+        × IsBegun (image_of chip) limit left input.new rest text result }
     ensures within { IsWithin input.new }
 {
     let mut text = Vec::new(alloc);
@@ -47,14 +48,14 @@ pub fn begin<R: Read, W: Write, E: Write>(
         Ok(ImageEnd::Failed) => Err(Status::StreamFault),
         Ok(ImageEnd::Past) => {
             // No image that is accepted is so long.
-            if is_image(text.as_slice()) {
-                return open_or_refuse(alloc, writer, errors, text, limit);
+            if is_read_as_image(&chip, text.as_slice()) {
+                return open_or_refuse(alloc, writer, errors, text, chip, limit);
             }
             tell_long(errors);
             Err(Status::ImageRefused)
         }
-        Ok(ImageEnd::Ended) => open_or_refuse(alloc, writer, errors, text, limit),
-        Ok(ImageEnd::EndLine) => open_or_refuse(alloc, writer, errors, text, limit),
+        Ok(ImageEnd::Ended) => open_or_refuse(alloc, writer, errors, text, chip, limit),
+        Ok(ImageEnd::EndLine) => open_or_refuse(alloc, writer, errors, text, chip, limit),
     }
 }
 
@@ -64,12 +65,13 @@ fn open_or_refuse<W: Write, E: Write>(
     writer: &mut W,
     errors: &mut E,
     text: Vec<u8>,
+    chip: Option<Vec<u8>>,
     limit: u32,
 ) -> Result<Explorer, Status>
     ensures { (before : Bytes) → W.contents writer.old ≡ Some before →
-        (written : Bytes) × (W.contents writer.new ≡ Some (before ++ written)) × IsOpened limit text.items written result }
+        (written : Bytes) × (W.contents writer.new ≡ Some (before ++ written)) × IsOpened (image_of chip) limit text.items written result }
 {
-    match open_text(alloc, errors, text, limit) {
+    match open_text(alloc, errors, text, chip, limit) {
         Ok(begun) => Ok(begun),
         Err(Unopened::Image(fault)) => Err(refuse(writer, fault)),
         Err(Unopened::Source) => Err(Status::ImageRefused),

@@ -5,11 +5,12 @@ ghost use Rattle.ga_text.specs.Output.{Says};
 ghost use Rattle.ga_explorer.specs.Commands.{request_in, Explored};
 ghost use Rattle.ga_explorer.specs.inner.{exploring};
 ghost use Rattle.ga_explorer.specs.Answers.{ExploresOrQuits, AnswersOther, IsOfDebugger, IsNoCommand};
-ghost use Rattle.ga_console.specs.inner.Run.{Turns};
+ghost use Rattle.ga_console.specs.Session.{Turns};
 
 use crate::commands::{ExplorerCommand, request_of, told};
 use crate::forms::say_no_command;
-use ga_console::{Command, Responder, Turn, command_of};
+use ga_console::{Command, Responder, Turn, answer_worded, command_of, obey_worded};
+use ga_display::Wording;
 use ga_image::LINE_LIMIT;
 use ga_lab::Lab;
 use ga_notes::Notes;
@@ -88,7 +89,7 @@ impl Responder for Explorer {
         command: Command,
         writer: &mut Writer<'_, W>,
     ) -> Spoken {
-        self.lab.obey(alloc, command, writer)
+        obey_worded(alloc, &mut self.lab, command, Wording::Advised, writer)
     }
 }
 
@@ -175,7 +176,7 @@ fn answer_other<W: Write>(
         say_no_command(line, writer)?;
         return Ok(Turn::Answered);
     }
-    lab.answer(alloc, line, writer)
+    answer_worded(alloc, lab, line, Wording::Advised, writer)
 }
 
 /// Whether a line is not too long and spells no command of the debugger.

@@ -1,6 +1,6 @@
-//! What a session of exploring begins on: an image, or source.
-ghost use Rattle.std.specs.Prelude.{◌≡◌, IfOk, IfErr, IfSome};
-ghost use Rattle.ga_explorer.specs.Opening.{begins_as_image, OpensExploring, OpensSource};
+//! What a session of exploring begins on: an image, or source, which may have a chip of its own.
+ghost use Rattle.std.specs.Prelude.{◌≡◌, IfOk, IfErr, IfSome, Some, None};
+ghost use Rattle.ga_explorer.specs.Opening.{begins_as_image, image_of, is_read_as_image, OpensFront, OpensExploring, OpensOnImage, OpensSource, AreNotesOf};
 ghost use Rattle.ga_explorer.specs.inner.{IsUnopened};
 
 use crate::explorer::Explorer;
@@ -8,9 +8,10 @@ use ga_console::open_image;
 use ga_image::ImageFault;
 use ga_lab::Lab;
 use ga_notes::{
-    edited_image, edited_source, notes_of, tell_edited, tell_fault, tell_memory, tell_stores,
+    Notes, edited_image, edited_source, notes_of, tell_edited, tell_fault, tell_memory, tell_stores,
 };
 use ga_source::assemble;
+use ga_text::write_all;
 use std::alloc::Global;
 use std::io::Write;
 
@@ -30,8 +31,18 @@ pub(crate) fn is_image(text: &[u8]) -> bool
     text.starts_with(b"ga144".as_slice())
 }
 
-/// A lab to be explored that has as its load the chip of a text, an image or source. Of source, `errors` is told what `ga144 asm` tells there:
-/// a fault, or stores over code.
+/// Whether a text is read as an image: never where another image is given for the chip.
+pub(crate) fn is_read_as_image(chip: &Option<Vec<u8>>, text: &[u8]) -> bool
+    ensures { result ≡ is_read_as_image (image_of chip.now) text.now }
+{
+    match chip {
+        Some(_) => false,
+        None => is_image(text),
+    }
+}
+
+/// A lab to be explored that has as its load the chip of a text, an image or source; or that of another image, where one is given, and the
+/// text is its source. Of source, `errors` is told what `ga144 asm` tells there: a fault, or stores over code.
 ///
 /// # Errors
 /// The image's first fault, a fault of the source, or want of memory.
@@ -39,10 +50,91 @@ pub(crate) fn open_text<E: Write>(
     alloc: Global,
     errors: &mut E,
     text: Vec<u8>,
+    chip: Option<Vec<u8>>,
+    limit: u32,
+) -> Result<Explorer, Unopened>
+    ensures ok { IfOk result (λ begun. OpensFront (image_of chip) text.items limit begun) }
+    ensures err { IfErr result (λ why. IsUnopened (image_of chip) text.items why) }
+{
+    match chip {
+        Some(image) => open_on_image(alloc, errors, text.as_slice(), image, limit),
+        None => open_alone(alloc, errors, text, limit),
+    }
+}
+
+/// A lab that has as its load the chip of an image, with notes of the cells of a source.
+///
+/// # Errors
+/// A fault of the source, or else the image's first, or want of memory.
+fn open_on_image<E: Write>(
+    alloc: Global,
+    errors: &mut E,
+    source: &[u8],
+    image: Vec<u8>,
+    limit: u32,
+) -> Result<Explorer, Unopened>
+    ensures ok { IfOk result (λ begun. OpensOnImage source.now image.items limit begun) }
+    ensures err { IfErr result (λ why. IsUnopened (Some image.items) source.now why) }
+{
+    let notes = note_source(alloc, errors, source);
+    tell_edited(errors, edited_source(source));
+    let Some(notes) = notes else {
+        return Err(Unopened::Source);
+    };
+    let edited = edited_image(image.as_slice());
+    match open_image(alloc, image, limit) {
+        Ok(lab) => Ok(Explorer::of(lab, Some(notes))),
+        Err(fault) => {
+            tell_edited(errors, edited);
+            tell_chip(errors);
+            Err(Unopened::Image(fault))
+        }
+    }
+}
+
+/// Tells which image was refused, and what is wanted.
+fn tell_chip<E: Write>(errors: &mut E) {
+    let told =
+        b"ga144: the chip is refused: --chip takes the lines that dump writes, ga144 2 to end, and no other\n";
+    let _ = write_all(errors, told);
+}
+
+/// Notes of the cells of a source; or none, where it is told why.
+fn note_source<E: Write>(alloc: Global, errors: &mut E, source: &[u8]) -> Option<Notes>
+    ensures { IfSome result (λ notes. AreNotesOf source.now notes) }
+{
+    match assemble(alloc, source) {
+        Ok(assembled) => {
+            if !tell_stores(alloc, errors, &assembled) {
+                return None;
+            }
+            match notes_of(alloc, source, assembled.programs.as_slice()) {
+                Ok(notes) => Some(notes),
+                Err(_) => {
+                    tell_memory(errors);
+                    None
+                }
+            }
+        }
+        Err(fault) => {
+            tell_fault(errors, fault);
+            None
+        }
+    }
+}
+
+/// A lab that has as its load the chip of a text, an image or source.
+///
+/// # Errors
+/// The image's first fault, a fault of the source, or want of memory.
+fn open_alone<E: Write>(
+    alloc: Global,
+    errors: &mut E,
+    text: Vec<u8>,
     limit: u32,
 ) -> Result<Explorer, Unopened>
     ensures ok { IfOk result (λ begun. OpensExploring text.items limit begun) }
-    ensures err { IfErr result (λ why. IsUnopened text.items why) }
+    ensures err { IfErr result (λ why. IsUnopened None text.items why) }
 {
     if is_image(text.as_slice()) {
         let edited = edited_image(text.as_slice());

@@ -1,5 +1,6 @@
 //! A whole session of exploring.
 ghost use Rattle.ga_text.specs.Output.{ReadsAndWrites};
+ghost use Rattle.ga_explorer.specs.Opening.{image_of};
 ghost use Rattle.ga_explorer.specs.Session.{RunsExploring};
 
 use crate::beginning::begin;
@@ -10,20 +11,21 @@ use std::io::{Read, Write};
 
 /// Reads an image or source and then commands, and answers them as `ga_console::session` does. It knows the debugger's commands,
 /// and those of exploring besides. At most `limit` events are kept. Source that has a fault ends the session: `errors` is told of
-/// it, as by `ga144 asm`, and there is no answer.
+/// it, as by `ga144 asm`, and there is no answer. Where an image is given for the `chip`, what is read first is its source.
 pub fn explore<R: Read, W: Write, E: Write>(
     alloc: Global,
     reader: &mut R,
     writer: &mut W,
     errors: &mut E,
+    chip: Option<Vec<u8>>,
     limit: u32,
 ) -> Status
     // Where the streams tell their bytes: what was read, and what was written for it by the status.
-    ensures { ReadsAndWrites (λ read rest text. RunsExploring limit read rest text result)
+    ensures { ReadsAndWrites (λ read rest text. RunsExploring (image_of chip) limit read rest text result)
         (R.remaining reader.old) (R.remaining reader.new) (W.contents writer.old) (W.contents writer.new) }
 {
     let mut input = Input::new();
-    match begin(alloc, &mut input, reader, writer, errors, limit) {
+    match begin(alloc, &mut input, reader, writer, errors, chip, limit) {
         Ok(begun) => {
             let mut session = begun;
             let mut said = Writer::ready(writer);

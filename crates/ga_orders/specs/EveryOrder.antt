@@ -1,7 +1,7 @@
 -- What `ga144 check` may write, and how it may end (docs/REFERENCE.md, "Every order"; this project's own). Orders are those of
 -- Mazurkiewicz, "Trace theory", 1987; each is run once, and no list of them is kept: Flanagan and Godefroid, "Dynamic partial-order
 -- reduction for model checking software", 2005.
-use Rattle.std.specs.Prelude.{◌≡◌, ℕ, nat_lt, ◌⊎◌, Bool, true, false, not, ◌&&◌, ◌||◌, if◌then◌else◌, List, ◌++◌, All, Result, Ok, Err}
+use Rattle.std.specs.Prelude.{◌≡◌, ℕ, nat_lt, ◌⊎◌, Bool, true, false, not, ◌&&◌, ◌||◌, if◌then◌else◌, List, ◌++◌, All, None, Result, Ok, Err}
 use Rattle.std.specs.List.{list_any}
 use Rattle.ga_text.specs.Lines.{Bytes, Text}
 use Rattle.ga_event.specs.declared.event.Event.{Event}
@@ -134,4 +134,4 @@ pub record ChecksText (limit : ℕ) (settles : Bool) (asked : ℕ) (read rest : 
 -- What may have been written, where read was read of the input and rest is left of it, and the verdict.
 pub data ChecksOrders (limit : ℕ) (settles : Bool) (asked : ℕ) (read rest : Bytes) (written : Text) (verdict : Verdict) : Type 0 where
   checked : ChecksText limit settles asked read rest written verdict → ChecksOrders limit settles asked read rest written verdict
-  unbegun : (status : Status) → verdict ≡ Ended status → Unbegun read rest written status → ChecksOrders limit settles asked read rest written verdict
+  unbegun : (status : Status) → verdict ≡ Ended status → Unbegun None read rest written status → ChecksOrders limit settles asked read rest written verdict

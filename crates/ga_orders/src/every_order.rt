@@ -71,7 +71,7 @@ pub fn check_orders<S: Threads + Sync, R: Read, W: Write, E: Write>(
         (R.remaining reader.old) (R.remaining reader.new) (W.contents writer.old) (W.contents writer.new) }
 {
     let mut input = Input::new();
-    match begin(alloc, &mut input, reader, writer, errors, limit) {
+    match begin(alloc, &mut input, reader, writer, errors, None, limit) {
         Ok(begun) => tell_settled(
             rt,
             alloc,

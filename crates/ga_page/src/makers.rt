@@ -1,6 +1,6 @@
 //! Which nodes made the events that a session keeps, as one call.
 
-ghost use Rattle.std.specs.Prelude.{◌≡◌, ◌++◌, ◌⊎◌, ℕ, List, Ok, IfSome, length, take};
+ghost use Rattle.std.specs.Prelude.{◌≡◌, ◌++◌, ◌⊎◌, ℕ, List, None, Ok, IfSome, length, take};
 ghost use Rattle.ga_text.specs.Lines.{Bytes};
 ghost use Rattle.ga_explorer.specs.Opening.{Exploring};
 ghost use Rattle.ga_picture.specs.Following.{FollowsTo};
@@ -18,11 +18,11 @@ use std::alloc::Global;
 #[unsafe(no_mangle)]
 pub extern "C" fn ga_kept(alloc: Global, input: &[u8], output: &mut [u8], limit: u32) -> usize
     ensures { (result ≡ 0) ⊎ ((read rest text : Bytes) × (last : Exploring) × (input.now ≡ read ++ rest)
-        × FollowsTo limit read rest text (Ok last) × (nodes : List ℕ) × (nodes ≡ makers_of last.lab)
+        × FollowsTo None limit read rest text (Ok last) × (nodes : List ℕ) × (nodes ≡ makers_of last.lab)
         × (result ≡ length nodes) × (take result output.new ≡ take (length output.old) nodes)) }
 {
     let (mut reader, mut refusal, mut errors) = streams(alloc, input);
-    match follow_session(alloc, &mut reader, &mut refusal, &mut errors, limit) {
+    match follow_session(alloc, &mut reader, &mut refusal, &mut errors, None, limit) {
         Ok(explorer) => tell(alloc, explorer.lab(), output),
         Err(_) => 0,
     }

@@ -1,8 +1,8 @@
 -- From a session that says nothing to one whose answers are dropped.
-use Rattle.std.proofs.Common.{◌≡◌, ℕ, List, [], ◌∷◌, ◌++◌, false, inl, inr, sym, ap, ◌∙◌, Result, Ok, Err, ◌≢◌, refl, subst, ◌-◌, length, ◌↔◌, Bool, true≢false, IsTrue, Some, arith}
-use Rattle.ga_explorer.specs.Opening.{Exploring, OpensExploring, IsFront}
+use Rattle.std.proofs.Common.{◌≡◌, Option, ℕ, List, [], ◌∷◌, ◌++◌, false, inl, inr, sym, ap, ◌∙◌, Result, Ok, Err, ◌≢◌, refl, subst, ◌-◌, length, ◌↔◌, Bool, true≢false, IsTrue, Some, arith}
+use Rattle.ga_explorer.specs.Opening.{Exploring, OpensFront, IsFront}
 use Rattle.ga_console.specs.Run.{status_of}
-use Rattle.ga_console.specs.Session.{Answers, Script, Serves, Written, Answering}
+use Rattle.ga_console.specs.Session.{Answers, Script, Serves, Written, Answering, Turns}
 use Rattle.ga_console.specs.declared.commands.Ending.{Ending}
 use Rattle.ga_console.specs.declared.commands.Ending.TheVariants.{Ended, Quit, Past, ReadFailed}
 use Rattle.ga_text.specs.declared.output.WriteFailed.{WriteFailed}
@@ -17,7 +17,6 @@ use Rattle.ga_picture.specs.Following.Unreached.{broken, short}
 use Rattle.std.proofs.lemmas.List.{append-nil}
 use Rattle.std.proofs.lemmas.Option.{same_Some}
 use Rattle.ga_text.specs.Output.{IsSaid}
-use Rattle.ga_console.specs.inner.Run.{Turns}
 use Rattle.ga_console.specs.declared.responder.Turn.{Turn}
 use Rattle.ga_console.specs.declared.responder.Turn.TheVariants as turns
 use Rattle.ga_explorer.specs.Answers.{Explores}
@@ -164,10 +163,10 @@ stream_fault (Err failed) h = refl
 
 -- ---- from the parts of a session whose answers are dropped to the whole
 
-followed_in : (A : Answering Exploring) (limit : ℕ) (text commands rest said written : List ℕ) (machine last : Exploring) (ending : Result Ending WriteFailed) → IsFront text (commands ++ rest)
-    → OpensExploring text limit machine → Serves A (input_limit - length text) machine commands rest said last ending → Written ending said written
-    → Followed A limit (text ++ commands) rest written last ending
-followed_in A limit text commands rest said written machine last ending front opens serves out = record {
+followed_in : (A : Answering Exploring) (chip : Option (List ℕ)) (limit : ℕ) (text commands rest said written : List ℕ) (machine last : Exploring) (ending : Result Ending WriteFailed) → IsFront text (commands ++ rest)
+    → OpensFront chip text limit machine → Serves A (input_limit - length text) machine commands rest said last ending → Written ending said written
+    → Followed A chip limit (text ++ commands) rest written last ending
+followed_in A chip limit text commands rest said written machine last ending front opens serves out = record {
   text = text;
   commands = commands;
   machine = machine;
@@ -185,14 +184,14 @@ written_none (Ok done) e = refl
 written_none (Err failed) e = cc
 
 -- behind a text on which a machine was opened
-pub reaches_after : (limit : ℕ) (text commands rest written : List ℕ) (machine : Exploring) (result : Result Exploring Status) → IsFront text (commands ++ rest) → OpensExploring text limit machine
-    → Goes (input_limit - length text) machine commands rest written result → FollowsTo limit (text ++ commands) rest written result
-reaches_after limit text commands rest written machine (Ok last) front opens g =
-    (g.0, g.1, g.2, followed_in Follows limit text commands rest [] [] machine last g.1 front opens g.3 (written_none g.1 g.2))
-reaches_after limit text commands rest written machine (Err status) front opens (last, ending, inl g) =
-    broken last ending g.0 g.1 (followed_in Hears limit text commands rest g.2 written machine last ending front opens g.3 g.4)
-reaches_after limit text commands rest written machine (Err status) front opens (last, ending, inr g) =
-    short last ending g.0 (followed_in Hears limit text commands rest [] [] machine last ending front opens g.1 (written_none ending g.0)) g.2
+pub reaches_after : (chip : Option (List ℕ)) (limit : ℕ) (text commands rest written : List ℕ) (machine : Exploring) (result : Result Exploring Status) → IsFront text (commands ++ rest) → OpensFront chip text limit machine
+    → Goes (input_limit - length text) machine commands rest written result → FollowsTo chip limit (text ++ commands) rest written result
+reaches_after chip limit text commands rest written machine (Ok last) front opens g =
+    (g.0, g.1, g.2, followed_in Follows chip limit text commands rest [] [] machine last g.1 front opens g.3 (written_none g.1 g.2))
+reaches_after chip limit text commands rest written machine (Err status) front opens (last, ending, inl g) =
+    broken last ending g.0 g.1 (followed_in Hears chip limit text commands rest g.2 written machine last ending front opens g.3 g.4)
+reaches_after chip limit text commands rest written machine (Err status) front opens (last, ending, inr g) =
+    short last ending g.0 (followed_in Hears chip limit text commands rest [] [] machine last ending front opens g.1 (written_none ending g.0)) g.2
 
 -- ---- answers that are dropped
 

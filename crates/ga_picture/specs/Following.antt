@@ -1,14 +1,14 @@
 -- A session whose answers are dropped, and one that ends with a picture (docs/REFERENCE.md, "Pictures"; this project's own).
-use Rattle.std.specs.Prelude.{◌≡◌, ℕ, ◌-◌, ◌⊎◌, [], ◌++◌, length, take, codes, Result, Ok, Err, true, false}
+use Rattle.std.specs.Prelude.{◌≡◌, ℕ, ◌-◌, ◌⊎◌, [], ◌++◌, length, take, codes, Option, Result, Ok, Err, true, false}
 use Rattle.ga_text.specs.Lines.{Bytes, Text, Line}
-use Rattle.ga_explorer.specs.Opening.{Exploring, OpensExploring, IsFront, Unbegun}
+use Rattle.ga_explorer.specs.Opening.{Exploring, OpensFront, IsFront, Unbegun}
 use Rattle.ga_lab.specs.declared.fault.LabFault.{LabFault}
 use Rattle.ga_lab.specs.declared.fault.LabFault.TheVariants.{Memory, Waiting, Stopped, Full, Empty, NoStep, Spent}
 use Rattle.ga_text.specs.Input.{input_limit}
 use Rattle.ga_text.specs.Output.{Begins}
 use Rattle.ga_console.specs.Run.{status_of}
 use Rattle.ga_console.specs.Session.{Serves, Written, Answering}
-use Rattle.ga_display.specs.Texts.{refusal_text}
+use Rattle.ga_display.specs.Texts.{refusal_text, advised_text}
 use Rattle.ga_console.specs.declared.commands.Ending.{Ending}
 use Rattle.ga_text.specs.declared.output.WriteFailed.{WriteFailed}
 use Rattle.ga_console.specs.declared.run.Status.{Status}
@@ -22,7 +22,7 @@ use Rattle.ga_picture.specs.declared.view.View.{View}
 
 -- the answer tells that memory was wanting: to a command, or to an event of a run
 abbrev pub IsShort : Text → Type 0
-IsShort answer = (answer ≡ refusal_text Memory) ⊎ (take 7 answer ≡ codes "memory ")
+IsShort answer = (answer ≡ advised_text Memory) ⊎ (take 7 answer ≡ codes "memory ")
 
 -- the line is answered as exploring may answer it, and nothing is said
 abbrev pub Hears : Exploring → Line → Text → Exploring → Type 0
@@ -32,15 +32,15 @@ Hears s line said new = (said ≡ []) × (answer : Text) × Explores s line answ
 abbrev pub Follows : Exploring → Line → Text → Exploring → Type 0
 Follows s line said new = (said ≡ []) × (answer : Text) × Explores s line answer new × (¬ IsShort answer)
 
--- The text, an image or source, was accepted, and the lines behind it were followed to this machine and this ending.
-pub record Followed (A : Answering Exploring) (limit : ℕ) (read rest : Bytes) (written : Text) (last : Exploring) (ending : Result Ending WriteFailed) : Type 0 where
+-- The text, an image or source, was accepted, and so was the image that is given for its chip, if one is; and the lines behind it were followed to this machine and this ending.
+pub record Followed (A : Answering Exploring) (chip : Option Text) (limit : ℕ) (read rest : Bytes) (written : Text) (last : Exploring) (ending : Result Ending WriteFailed) : Type 0 where
   pub text : Text
   pub commands : Bytes
   pub machine : Exploring
   pub said : Text
   pub splits : read ≡ text ++ commands
   pub front : IsFront text (commands ++ rest)
-  pub opens : OpensExploring text limit machine
+  pub opens : OpensFront chip text limit machine
   pub serves : Serves A (input_limit - length text) machine commands rest said last ending
   pub out : Written ending said written
 
@@ -53,18 +53,18 @@ Declines fault text NotFinished = ⊥
 
 -- Why no machine was reached: no session began; in the commands a read failed, or they went past the bound of the input; or
 -- memory was wanting for one of them.
-pub data Unreached (limit : ℕ) (read rest : Bytes) (text : Text) (status : Status) : Type 0 where
-  unbegun : Unbegun read rest text status → Unreached limit read rest text status
+pub data Unreached (chip : Option Text) (limit : ℕ) (read rest : Bytes) (text : Text) (status : Status) : Type 0 where
+  unbegun : Unbegun chip read rest text status → Unreached chip limit read rest text status
   broken : (last : Exploring) → (ending : Result Ending WriteFailed) → status_of ending ≡ StreamFault → status ≡ StreamFault
-      → Followed Hears limit read rest text last ending → Unreached limit read rest text status
-  short : (last : Exploring) → (ending : Result Ending WriteFailed) → status_of ending ≡ Done → Followed Hears limit read rest [] last ending
-      → Declines Memory text status → Unreached limit read rest text status
+      → Followed Hears chip limit read rest text last ending → Unreached chip limit read rest text status
+  short : (last : Exploring) → (ending : Result Ending WriteFailed) → status_of ending ≡ Done → Followed Hears chip limit read rest [] last ending
+      → Declines Memory text status → Unreached chip limit read rest text status
 
 -- Where the input was followed to its end, or to `quit`, nothing is written, and the machine is the one behind all lines.
-abbrev pub FollowsTo : ℕ → Bytes → Bytes → Text → Result Exploring Status → Type 0
-FollowsTo limit read rest text (Ok last) =
-    (text ≡ []) × (ending : Result Ending WriteFailed) × (status_of ending ≡ Done) × Followed Follows limit read rest [] last ending
-FollowsTo limit read rest text (Err status) = Unreached limit read rest text status
+abbrev pub FollowsTo : Option Text → ℕ → Bytes → Bytes → Text → Result Exploring Status → Type 0
+FollowsTo chip limit read rest text (Ok last) =
+    (text ≡ []) × (ending : Result Ending WriteFailed) × (status_of ending ≡ Done) × Followed Follows chip limit read rest [] last ending
+FollowsTo chip limit read rest text (Err status) = Unreached chip limit read rest text status
 
 -- ---- what a session that ends with a picture may write, and its status
 
@@ -91,7 +91,7 @@ Pictures s view text status = ((picture : Text) × IsPictureText s view picture 
     ⊎ ((fault : LabFault) × HasNoPicture s view fault × Declines fault text status)
 
 -- What may have been written, where read was read of the input and rest is left of it.
-pub data Draws (limit : ℕ) (view : View) (read rest : Bytes) (text : Text) (status : Status) : Type 0 where
-  reached : (last : Exploring) → (ending : Result Ending WriteFailed) → status_of ending ≡ Done → Followed Follows limit read rest [] last ending
-      → Pictures last.lab view text status → Draws limit view read rest text status
-  stopped : Unreached limit read rest text status → Draws limit view read rest text status
+pub data Draws (chip : Option Text) (limit : ℕ) (view : View) (read rest : Bytes) (text : Text) (status : Status) : Type 0 where
+  reached : (last : Exploring) → (ending : Result Ending WriteFailed) → status_of ending ≡ Done → Followed Follows chip limit read rest [] last ending
+      → Pictures last.lab view text status → Draws chip limit view read rest text status
+  stopped : Unreached chip limit read rest text status → Draws chip limit view read rest text status

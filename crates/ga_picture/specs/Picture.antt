@@ -19,7 +19,7 @@ use Rattle.ga_grid.specs.Chip.{record_at}
 use Rattle.ga_lab.specs.Machine.{State, chip_of, causes_of, stands}
 use Rattle.ga_search.specs.Idle.{MarksIdle}
 use Rattle.ga_race_detector.specs.Races.{races_asked}
-use Rattle.ga_race_detector.specs.Readings.{IsTold}
+use Rattle.ga_race_detector.specs.Readings.{IsTold, NoneMissed}
 use Rattle.ga_picture.specs.declared.view.View.{View}
 use Rattle.ga_picture.specs.declared.placing.Drawing.{Drawing}
 use Rattle.ga_picture.specs.declared.item.PictureItem.{PictureItem}
@@ -154,10 +154,11 @@ pub record IsPicture (s : State) (view : View) (drawing : Drawing) : Type 0 wher
   pub are_idle : MarksIdle s idle
   pub drawn : IsPictureOf (causes_of s) ready idle view drawing
 
--- where they are asked for, the marks of the passes and looks that `races` tells
+-- where they are asked for, the marks of the passes and looks that `races` tells: of the looks all that a near change leads to
 pub record AreRaceMarks (s : State) (view : View) (rows : List PictureRow) (marks : List RaceMark) : Type 0 where
   pub readings : List Reading
   pub told : All (IsTold s None) readings
+  pub found : view.races ≡ true → NoneMissed s None readings
   pub are : marks ≡ (if view.races then marks_of (causes_of s) (start_in (causes_of s) view) rows (races_asked s None) readings else [])
 
 -- The text of the picture of the machine's kept events.

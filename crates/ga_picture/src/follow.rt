@@ -2,6 +2,7 @@
 ghost use Rattle.ga_text.specs.Output.{WritesText, ReadsAndWrites, ReadsOnAndWrites};
 ghost use Rattle.std.specs.Prelude.{◌-◌};
 ghost use Rattle.ga_text.specs.Input.{IsWithin, input_limit};
+ghost use Rattle.ga_explorer.specs.Opening.{image_of};
 ghost use Rattle.ga_picture.specs.Following.{FollowsTo, Declines};
 ghost use Rattle.ga_picture.specs.inner.{Goes, Ends};
 
@@ -26,13 +27,14 @@ pub fn follow_session<R: Read, W: Write, E: Write>(
     reader: &mut R,
     writer: &mut W,
     errors: &mut E,
+    chip: Option<Vec<u8>>,
     limit: u32,
 ) -> Result<Explorer, Status>
-    ensures { ReadsAndWrites (λ read rest text. FollowsTo limit read rest text result)
+    ensures { ReadsAndWrites (λ read rest text. FollowsTo (image_of chip) limit read rest text result)
         (R.remaining reader.old) (R.remaining reader.new) (W.contents writer.old) (W.contents writer.new) }
 {
     let mut input = Input::new();
-    match begin(alloc, &mut input, reader, writer, errors, limit) {
+    match begin(alloc, &mut input, reader, writer, errors, chip, limit) {
         Ok(begun) => follow(alloc, &mut input, reader, writer, begun),
         Err(status) => Err(status),
     }

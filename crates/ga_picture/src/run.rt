@@ -1,5 +1,6 @@
 //! A whole session that ends with a picture.
 ghost use Rattle.ga_text.specs.Output.{WritesText, ReadsAndWrites};
+ghost use Rattle.ga_explorer.specs.Opening.{image_of};
 ghost use Rattle.ga_picture.specs.Following.{Draws, Pictures, IsOut};
 
 use super::follow::{decline, follow_session};
@@ -20,13 +21,14 @@ pub fn draw_session<R: Read, W: Write, E: Write>(
     writer: &mut W,
     errors: &mut E,
     view: View,
+    chip: Option<Vec<u8>>,
     limit: u32,
 ) -> Status
     // Where the streams tell their bytes: what was read, and what was written for it by the status.
-    ensures { ReadsAndWrites (λ read rest text. Draws limit view read rest text result)
+    ensures { ReadsAndWrites (λ read rest text. Draws (image_of chip) limit view read rest text result)
         (R.remaining reader.old) (R.remaining reader.new) (W.contents writer.old) (W.contents writer.new) }
 {
-    match follow_session(alloc, reader, writer, errors, limit) {
+    match follow_session(alloc, reader, writer, errors, chip, limit) {
         Ok(explorer) => write_picture(writer, &mut explorer.into_lab(), view),
         Err(status) => status,
     }

@@ -3,14 +3,16 @@ ghost use Rattle.std.specs.Prelude.{◌≡◌, ◌↔◌, [], Some, Ok, IsTrue};
 ghost use Rattle.ga_text.specs.Lines.{Bytes};
 ghost use Rattle.ga_text.specs.Output.{IsSaid};
 ghost use Rattle.ga_console.specs.declared.responder.Turn.TheVariants.{Quit};
-ghost use Rattle.ga_console.specs.inner.Run.{Turns, AnswersCommand};
+ghost use Rattle.ga_console.specs.Session.{Turns};
+ghost use Rattle.ga_console.specs.inner.Run.{AnswersCommand};
 ghost use Rattle.ga_picture.specs.Following.{IsShort};
 ghost use Rattle.ga_picture.specs.inner.{Notes};
 ghost use Rattle.ga_explorer.specs.Answers.{Explores};
 
 use ga_console::{Command, Responder, Turn};
+use ga_display::advised_text;
 use ga_explorer::Explorer;
-use ga_lab::Lab;
+use ga_lab::{Lab, LabFault};
 use ga_text::{Spoken, WriteFailed, Writer};
 use std::alloc::Global;
 use std::io::Write;
@@ -79,7 +81,7 @@ fn is_short(answer: &[u8]) -> bool
         return false;
     }
     let (front, _) = answer.split_at(7);
-    front == b"memory ".as_slice() || answer == b"no 4 memory\n".as_slice()
+    front == b"memory ".as_slice() || answer == advised_text(LabFault::Memory)
 }
 
 impl Responder for Silent {

@@ -6,7 +6,7 @@ ghost use Rattle.ga_grid.specs.Chip.{records_of};
 ghost use Rattle.ga_causal.specs.Dependence.{is_marked};
 ghost use Rattle.ga_lab.specs.Machine.{causes_of};
 ghost use Rattle.ga_race_detector.specs.Races.{races_asked};
-ghost use Rattle.ga_race_detector.specs.Readings.{IsTold};
+ghost use Rattle.ga_race_detector.specs.Readings.{IsTold, NoneMissed};
 ghost use Rattle.ga_picture.specs.Picture.{IsPicture, IsPictureText, AreRaceMarks, is_ready, all_stand, stands_for, place_for};
 ghost use Rattle.ga_picture.specs.Items.{items_of};
 ghost use Rattle.ga_picture.specs.inner.{AreItemsOf, AreKnownBetween, AreListed, ArePlainAs, known_in};
@@ -186,6 +186,7 @@ fn race_marks(lab: &mut Lab, rows: &[PictureRow], view: View) -> Result<Vec<Race
 fn found_races(alloc: Global, lab: &mut Lab) -> Result<Races, Memory>
     ensures list { IfOk result (λ races. races.list.items ≡ races_asked lab.old None) }
     ensures readings { IfOk result (λ races. All (IsTold lab.old None) races.readings.items) }
+    ensures none_missed { IfOk result (λ races. NoneMissed lab.old None races.readings.items) }
     ensures same { lab.new ≡ lab.old }
 {
     match find_races(alloc, lab, None) {

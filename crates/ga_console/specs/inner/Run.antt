@@ -8,8 +8,6 @@ use Rattle.ga_console.specs.declared.command.Command.{Command}
 use Rattle.ga_console.specs.declared.ahead.Ahead.{Ahead}
 use Rattle.ga_console.specs.declared.ahead.Ahead.TheVariants.{Spelled, Other, Nothing}
 use Rattle.ga_text.specs.declared.output.WriteFailed.{WriteFailed}
-use Rattle.ga_console.specs.declared.responder.Turn.{Turn}
-use Rattle.ga_console.specs.declared.responder.Turn.TheVariants.{Answered, Quit}
 use Rattle.ga_text.specs.Output.{Begins, ready}
 use Rattle.ga_console.specs.declared.run.Status.{Status}
 use Rattle.ga_console.specs.declared.run.Status.TheVariants.{Done, ImageRefused, StreamFault, NotFinished}
@@ -54,16 +52,6 @@ StandsAhead bytes (Other count) = IsLineAhead bytes count
 StandsAhead bytes Nothing = Unit {0}
 
 -- ---- what private contracts, invariants and bridges cite
-
--- a line, of which the first `longest + 1` bytes are here, is answered and isn't quit
-abbrev pub AnswersLine : {M : Type 0} → Answering M → M → Line → Text → M → Type 0
-AnswersLine A m line answer new = (part : Line) → line ≡ take (longest + 1) part → A m part answer new × (part ≢ quit_line)
-
--- a line is answered, as far as the answer can be written, or ends the session
-abbrev pub Turns : {M : Type 0} → Answering M → M → Line → M → Result Turn WriteFailed → Text → Type 0
-Turns A m line new (Ok Answered) answer = AnswersLine A m line answer new
-Turns A m line new (Ok Quit) answer = (line ≡ quit_line) × (new ≡ m) × (answer ≡ [])
-Turns A m line new (Err failed) answer = AnswersLine A m line answer new
 
 -- a line that spells this command of the debugger is answered
 abbrev pub AnswersCommand : {M : Type 0} → Answering M → M → Command → M → Text → Type 0

@@ -105,6 +105,8 @@ const NOTATION: &str = "Source, words apart by blanks, tabs and line ends:
 
 pub(super) const GREATEST_LIMIT: u32 = 4_000_000;
 
+pub(super) const GREATEST_EXPLORED: u32 = 100_000_000;
+
 pub(super) const MOST_WORKERS: u32 = 16;
 
 pub(super) const MOST_CALLS: u32 = 100_000;
@@ -143,6 +145,11 @@ const FOLD: &str =
 
 const LIMIT: &str = "How many events are kept at most, 1 to 4000000 [default: 1000000]";
 
+const EXPLORED: &str = "How many events are kept at most, 1 to 100000000 [default: 20000000]";
+
+const CHIP: &str =
+    "Begin on the chip of this file, an image as dump writes it, with the lines of the source";
+
 /// The command lines of the program, as clap has them.
 pub(super) fn program<'a>(alloc: Global) -> Result<Command<'a>, AllocError> {
     Command::new(alloc, "ga144")
@@ -173,7 +180,8 @@ fn explore_line<'a>(alloc: Global) -> Result<Command<'a>, AllocError> {
         .about("Debug, and make events up to a condition")
         .after_help(EXPLORING)
         .arg(file_argument(alloc, "An image or source"))?
-        .arg(limit_option(alloc))
+        .arg(chip_option(alloc))?
+        .arg(explored_option(alloc))
 }
 
 fn race_line<'a>(alloc: Global) -> Result<Command<'a>, AllocError> {
@@ -236,6 +244,8 @@ fn draw_line<'a>(alloc: Global) -> Result<Command<'a>, AllocError> {
         .arg(flag(alloc, "only", ONLY))?
         .arg(fold_option(alloc))?
         .arg(flag(alloc, "races", MARKED))?
+        .arg(chip_option(alloc))?
+        .arg(explored_option(alloc))?
         .arg(file_argument(alloc, "An image or source"))
 }
 
@@ -252,6 +262,16 @@ fn flag<'a>(alloc: Global, name: &'a str, help: &'a str) -> Arg<'a> {
 
 fn limit_option<'a>(alloc: Global) -> Arg<'a> {
     number_option(alloc, "limit", LIMIT, GREATEST_LIMIT)
+}
+
+/// How many events a session of exploring keeps at most.
+fn explored_option<'a>(alloc: Global) -> Arg<'a> {
+    number_option(alloc, "limit", EXPLORED, GREATEST_EXPLORED)
+}
+
+/// A file that has the chip.
+fn chip_option<'a>(alloc: Global) -> Arg<'a> {
+    named_option(alloc, "chip", CHIP).value_name("DUMP")
 }
 
 /// A step: its node, and its number.

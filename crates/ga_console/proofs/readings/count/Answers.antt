@@ -4,7 +4,7 @@ use Rattle.ga_console.proofs.ReplyLemmas.{replies}
 use Rattle.ga_console.proofs.readings.count.Goals as goal
 
 pub returns : goal.returns
-returns g c = (
+returns g c = λ wording. (
   search rules,
   λ before said h.
       let by_kept = ap (λ (n : ℕ). counts_text n c.counts.result.made c.counts.result.limit) c.counts.ensures.kept in

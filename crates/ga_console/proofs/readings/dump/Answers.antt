@@ -7,7 +7,7 @@ returns-in-Ok g c = (
   search rules,
   λ before said h. (
     c.as_slice.result.now,
-    dump_done c.args.lab.now _ c.in-Ok.image.items c.as_slice.result.now c.chip.ensures.value c.in-Ok.ensures.text c.as_slice.ensures.value,
+    dump_done c.args.wording c.args.lab.now _ c.in-Ok.image.items c.as_slice.result.now c.chip.ensures.value c.in-Ok.ensures.text c.as_slice.ensures.value,
     c.say_blocks.ensures.1 before said h,
   ),
 )
@@ -16,8 +16,8 @@ pub returns-in-Err : goal.returns-in-Err
 returns-in-Err g c = (
   search rules,
   λ before said h. (
-    c.refusal_text.result.now,
-    dump_refused c.args.lab.now c.refusal_text.result.now c.refusal_text.ensures.text,
+    c.refusal.result.now,
+    dump_refused c.args.wording c.args.lab.now c.refusal.result.now c.refusal.ensures.text,
     c.say.ensures.1 before said h,
   ),
 )

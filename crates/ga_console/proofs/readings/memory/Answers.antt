@@ -4,7 +4,7 @@ use Rattle.ga_console.proofs.ReplyLemmas.{replies}
 use Rattle.ga_console.proofs.readings.memory.Goals as goal
 
 pub returns : goal.returns
-returns g c = (
+returns g c = λ wording. (
   search rules,
   λ before said h. (
     memory_text c.args.node c.args.address c.memory.result,

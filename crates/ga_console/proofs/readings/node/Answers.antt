@@ -5,7 +5,7 @@ use Rattle.ga_console.proofs.ReplyLemmas.{replies}
 use Rattle.ga_console.proofs.readings.node.Goals as goal
 
 pub returns : goal.returns
-returns g c = (
+returns g c = λ wording. (
   search rules,
   λ before said h. (
     node_text c.args.node (record_of c.node.result.now),

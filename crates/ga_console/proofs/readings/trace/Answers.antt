@@ -7,15 +7,15 @@ returns-in-Ok g c = (
   search rules,
   λ before said h.
       let done = c.say_steps.ensures.1 before said h in
-      (done.0, trace_done c.args.lab.now c.args.node c.as_slice.result.now done.0 (c.as_slice.ensures.value ∙ c.in-Ok.ensures.ok) done.1, done.2),
+      (done.0, trace_done c.args.wording c.args.lab.now c.args.node c.as_slice.result.now done.0 (c.as_slice.ensures.value ∙ c.in-Ok.ensures.ok) done.1, done.2),
 )
 
 pub returns-in-Err : goal.returns-in-Err
 returns-in-Err g c = (
   search rules,
   λ before said h. (
-    c.refusal_text.result.now,
-    trace_refused c.args.lab.now c.args.node c.in-Err.fault _ c.in-Err.ensures.err c.refusal_text.ensures.text,
+    c.refusal.result.now,
+    trace_refused c.args.wording c.args.lab.now c.args.node c.in-Err.fault _ c.in-Err.ensures.err c.refusal.ensures.text,
     c.say.ensures.1 before said h,
   ),
 )

@@ -8,7 +8,7 @@ returns-in-Ok-None g c = (
   search rules,
   λ before said h.
       let none = rw c.in-Ok-None.field-0-is at c.in-Ok-None.ensures.ok in
-      (independent, why_independent c.args.lab.now c.args.from.0 c.args.to.0 c.args.from.1 c.args.to.1 none, c.say.ensures.1 before said h),
+      (independent, why_independent c.args.wording c.args.lab.now c.args.from.0 c.args.to.0 c.args.from.1 c.args.to.1 none, c.say.ensures.1 before said h),
 )
 
 pub returns-in-Ok-Some : goal.returns-in-Ok-Some
@@ -18,7 +18,7 @@ returns-in-Ok-Some g c = (
       let told = rw c.in-Ok-Some.field-0-is at c.in-Ok-Some.ensures.ok in
       let done = c.say_chain.ensures.1 before said h in (
         done.0,
-        why_told c.args.lab.now c.args.from.0 c.args.to.0 c.args.from.1 c.args.to.1 told.0 c.in-Ok-Some.chain.items c.as_slice.result.now done.0 told.1 told.2 c.as_slice.ensures.value done.1,
+        why_told c.args.wording c.args.lab.now c.args.from.0 c.args.to.0 c.args.from.1 c.args.to.1 told.0 c.in-Ok-Some.chain.items c.as_slice.result.now done.0 told.1 told.2 (rw c.in-Ok-Some.field-0-is at c.as_slice.ensures.value) done.1,
         done.2,
       ),
 )
@@ -27,8 +27,8 @@ pub returns-in-Err : goal.returns-in-Err
 returns-in-Err g c = (
   search rules,
   λ before said h. (
-    c.refusal_text.result.now,
-    why_refused c.args.lab.now c.args.from.0 c.args.to.0 c.args.from.1 c.args.to.1 c.in-Err.fault c.refusal_text.result.now c.in-Err.ensures.err c.refusal_text.ensures.text,
+    c.refusal.result.now,
+    why_refused c.args.wording c.args.lab.now c.args.from.0 c.args.to.0 c.args.from.1 c.args.to.1 c.in-Err.fault c.refusal.result.now c.in-Err.ensures.err c.refusal.ensures.text,
     c.say-in-Err.ensures.1 before said h,
   ),
 )

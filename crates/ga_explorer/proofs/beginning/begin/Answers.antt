@@ -2,7 +2,7 @@ use Rattle.std.proofs.Common.{◌≡◌, ℕ, List, [], ◌∷◌, ◌++◌, Som
 use Rattle.std.proofs.lemmas.List.{append-nil}
 use Rattle.ga_image.specs.FirstFault.{no_memory}
 use Rattle.ga_text.specs.Input.{Unread}
-use Rattle.ga_explorer.specs.Opening.{begins_as_image}
+use Rattle.ga_explorer.specs.Opening.{image_of, is_read_as_image}
 use Rattle.ga_explorer.specs.Opening.Unbegun.{image_refused, source_refused, unread}
 use Rattle.ga_explorer.proofs.Fronts.{begun_after, begun_full}
 use Rattle.ga_explorer.proofs.beginning.begin.Goals as goal
@@ -37,8 +37,8 @@ returns-in-Ok-Failed-clause-begun g c = λ left before known held.
       (text, from_start c.args.input.now left (text ++ got.0) c.requires.fresh got.2.1, unread got.2.0 refl refl),
     )
 
-pub returns-then-is_image-clause-begun : goal.returns-then-is_image-clause-begun
-returns-then-is_image-clause-begun g c = λ left before known held.
+pub returns-then-is_read_as_image-clause-begun : goal.returns-then-is_read_as_image-clause-begun
+returns-then-is_read_as_image-clause-begun g c = λ left before known held.
     let reads = rw c.in-Ok-Past.field-0-is at c.in-Ok-Past.ensures.reads in
     let got = reads left known in
     let text : List ℕ = c.read_image.new.text.items in
@@ -48,14 +48,14 @@ returns-then-is_image-clause-begun g c = λ left before known held.
       done.0,
       got.1,
       done.1,
-      begun_full c.args.limit b left text c.read_image.new.input got.0 done.0 c.open_or_refuse.result
+      begun_full (image_of c.args.chip) c.args.limit b left text c.read_image.new.input got.0 done.0 c.open_or_refuse.result
           (from_start c.args.input.now left (text ++ b ∷ got.0) c.requires.fresh got.2.1.takes.splits ∙ sym (append_assoc text (b ∷ []) got.0))
           (omega (arith, got.2.1.takes.counts, got.2.1.full, taken_none c.args.input.now c.requires.fresh)) got.2.0
-          (ap begins_as_image (sym c.as_slice.ensures.value) ∙ sym c.is_image.ensures ∙ c.if-is_image.true) done.2,
+          (ap (is_read_as_image (image_of c.args.chip)) (sym c.as_slice.ensures.value) ∙ sym c.is_read_as_image.ensures ∙ c.if-is_read_as_image.true) done.2,
     )
 
-pub returns-else-is_image-clause-begun : goal.returns-else-is_image-clause-begun
-returns-else-is_image-clause-begun g c = λ left before known held.
+pub returns-else-is_read_as_image-clause-begun : goal.returns-else-is_read_as_image-clause-begun
+returns-else-is_read_as_image-clause-begun g c = λ left before known held.
     let reads = rw c.in-Ok-Past.field-0-is at c.in-Ok-Past.ensures.reads in
     let got = reads left known in
     let text : List ℕ = c.read_image.new.text.items in
@@ -72,7 +72,7 @@ returns-else-is_image-clause-begun g c = λ left before known held.
           ahead = ahead;
           splits = refl;
           part = inr (inr (omega (arith, got.2.1.takes.counts, got.2.1.full, taken_none c.args.input.now c.requires.fresh), refl, got.2.0));
-          is_source = ap begins_as_image (sym c.as_slice.ensures.value) ∙ sym c.is_image.ensures ∙ c.if-is_image.false;
+          is_source = ap (is_read_as_image (image_of c.args.chip)) (sym c.as_slice.ensures.value) ∙ sym c.is_read_as_image.ensures ∙ c.if-is_read_as_image.false;
         }) refl refl,
       ),
     )
@@ -91,7 +91,7 @@ returns-in-Ok-Ended-clause-begun g c = λ left before known held.
       done.0,
       got.1,
       done.1,
-      begun_after c.args.limit left text input got.0 done.0 c.open_or_refuse-in-Ok-Ended.result split (split ∙ sym (append_assoc text input.bytes got.0))
+      begun_after (image_of c.args.chip) c.args.limit left text input got.0 done.0 c.open_or_refuse-in-Ok-Ended.result split (split ∙ sym (append_assoc text input.bytes got.0))
           (omega (arith, got.2.1.counts, taken_none c.args.input.now c.requires.fresh)) (inr (empty, got.2.0)) (inr (inl (got.2.2, got.2.3, got.2.0))) done.2,
     )
 
@@ -107,7 +107,7 @@ returns-in-Ok-EndLine-clause-begun g c = λ left before known held.
       done.0,
       got.1,
       done.1,
-      begun_after c.args.limit left text input got.0 done.0 c.open_or_refuse-in-Ok-EndLine.result split (split ∙ sym (append_assoc text input.bytes got.0))
+      begun_after (image_of c.args.chip) c.args.limit left text input got.0 done.0 c.open_or_refuse-in-Ok-EndLine.result split (split ∙ sym (append_assoc text input.bytes got.0))
           (omega (arith, got.2.1.counts, taken_none c.args.input.now c.requires.fresh)) (inl got.2.0)
           (inl (got.2.0, c.in-Ok-EndLine.ensures.behind (ap Ok c.in-Ok-EndLine.field-0-is))) done.2,
     )

@@ -34,4 +34,4 @@ returns-in_ok-say_rows-in-Ok g c = (
 )
 
 pub returns-in-Err : goal.returns-in-Err
-returns-in-Err g c = (search rules, λ before said h. (c.refusal_text.result.now, inl c.refusal_text.ensures.text, c.say.ensures.1 before said h))
+returns-in-Err g c = (search rules, λ before said h. (c.advised_text.result.now, inl c.advised_text.ensures.text, c.say.ensures.1 before said h))

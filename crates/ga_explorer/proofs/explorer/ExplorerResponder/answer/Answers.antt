@@ -1,5 +1,5 @@
 use Rattle.std.proofs.Common.{rules, subst}
-use Rattle.ga_console.specs.inner.Run.{Turns}
+use Rattle.ga_console.specs.Session.{Turns}
 use Rattle.ga_explorer.specs.Answers.{Explores}
 use Rattle.ga_explorer.specs.Opening.{Exploring}
 use Rattle.ga_explorer.specs.inner.{exploring}

@@ -1,5 +1,7 @@
 use Rattle.std.proofs.Common.{rules, ap, subst, inl, inr}
-use Rattle.ga_console.specs.Replies.{LineAnswer}
+use Rattle.ga_display.specs.declared.wording.Wording.TheVariants.{Advised}
+use Rattle.ga_console.specs.Replies.{WordedAnswer}
+use Rattle.ga_console.specs.Replies.WordedAnswer.{command}
 use Rattle.ga_explorer.specs.Opening.{Exploring}
 use Rattle.ga_explorer.specs.Answers.Explores.{debugged}
 use Rattle.ga_explorer.proofs.LineAnswers.{debugger_alone}
@@ -9,10 +11,10 @@ pub returns : goal.returns
 returns g c = (
   search rules,
   λ before said h.
-      let done = c.obey.ensures.1 before said h in (
+      let done = c.obey_worded.ensures.1 before said h in (
         done.0,
         λ line short spelled. debugged (λ fits. debugger_alone c.args.self.now.notes c.args.command line spelled)
-            (inl (inr (short, c.args.command, spelled), subst (λ (s : Exploring). LineAnswer s.lab line done.0 c.obey.new.self) c.self.view_is (done.1 line short spelled)))
+            (inl (inr (short, c.args.command, spelled), subst (λ (s : Exploring). WordedAnswer Advised s.lab line done.0 c.obey_worded.new.lab) c.self.view_is (command c.args.command short spelled done.1)))
             (ap (λ (s : Exploring). s.notes) c.self.view_is),
         done.2,
       ),

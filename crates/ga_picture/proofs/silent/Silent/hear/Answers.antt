@@ -1,6 +1,6 @@
 use Rattle.std.proofs.Common.{◌≡◌, [], Some, Ok, true≢false, ap, sym, subst}
 use Rattle.ga_explorer.specs.Opening.{Exploring}
-use Rattle.ga_console.specs.inner.Run.{Turns}
+use Rattle.ga_console.specs.Session.{Turns}
 use Rattle.ga_console.specs.declared.responder.Turn.TheVariants.{Answered}
 use Rattle.ga_console.proofs.RunLemmas.{said_fresh}
 use Rattle.ga_explorer.specs.Answers.{Explores}

@@ -4,15 +4,16 @@ use Rattle.std.proofs.lemmas.List.{take_all}
 use Rattle.ga_lab.specs.Machine.{State}
 use Rattle.ga_display.specs.Texts.{no_long, no_syntax}
 use Rattle.ga_console.specs.Commands.{SpellsCommand}
-use Rattle.ga_console.specs.Replies.{LineAnswer, Does}
-use Rattle.ga_console.specs.inner.Run.{Turns, AnswersLine}
-use Rattle.ga_console.specs.Replies.LineAnswer.{long, command, syntax}
+use Rattle.ga_display.specs.declared.wording.Wording.{Wording}
+use Rattle.ga_console.specs.Replies.{WordedAnswer, Does}
+use Rattle.ga_console.specs.Session.{Turns, AnswersLine}
+use Rattle.ga_console.specs.Replies.WordedAnswer.{long, command, syntax}
 use Rattle.ga_text.specs.declared.output.WriteFailed.{WriteFailed}
 use Rattle.ga_console.specs.declared.responder.Turn.{Turn}
 use Rattle.ga_console.specs.declared.command.Command.{Command}
 use Rattle.ga_console.specs.declared.command.Command.TheVariants.{Quit}
 use Rattle.ga_text.proofs.SaidLemmas.{cut_here, said_pending}
-use Rattle.ga_console.proofs.responder.answer.Goals as goal
+use Rattle.ga_console.proofs.responder.answer_worded.Goals as goal
 
 too_long : (line part : List ℕ) → line ≡ take 201 part → 200 < length line → 200 < length part
 too_long line part e h = omega (arith, ap length e, length-take 201 part)
@@ -21,24 +22,24 @@ whole : (line part : List ℕ) → line ≡ take 201 part → length line ≤ 20
 whole line part e h = sym (e ∙ take_all 201 part (omega (arith, ap length e, length-take 201 part)))
 
 -- a failed write changes nothing of what the answer is
-turns_err : (s : State) (line answer : List ℕ) (new : State) (result : Result Turn WriteFailed) → IsErr result
-    → AnswersLine LineAnswer s line answer new → Turns LineAnswer s line new result answer
-turns_err s line answer new (Ok turn) is h = absurd (search rules)
-turns_err s line answer new (Err why) is h = h
+turns_err : (w : Wording) (s : State) (line answer : List ℕ) (new : State) (result : Result Turn WriteFailed) → IsErr result
+    → AnswersLine (WordedAnswer w) s line answer new → Turns (WordedAnswer w) s line new result answer
+turns_err w s line answer new (Ok turn) is h = absurd (search rules)
+turns_err w s line answer new (Err why) is h = h
 
-answers_long : (s : State) (line : List ℕ) → 200 < length line → AnswersLine LineAnswer s line no_long s
-answers_long s line past = λ part kept.
+answers_long : (w : Wording) (s : State) (line : List ℕ) → 200 < length line → AnswersLine (WordedAnswer w) s line no_long s
+answers_long w s line past = λ part kept.
     let long_part : 200 < length part = too_long line part kept past in
     (long long_part refl refl, λ e. absurd (omega (arith, ap length e)))
 
-answers_none : (s : State) (line : List ℕ) → length line ≤ 200 → ((d : Command) → ¬ SpellsCommand d line) → AnswersLine LineAnswer s line no_syntax s
-answers_none s line short none = λ part kept.
+answers_none : (w : Wording) (s : State) (line : List ℕ) → length line ≤ 200 → ((d : Command) → ¬ SpellsCommand d line) → AnswersLine (WordedAnswer w) s line no_syntax s
+answers_none w s line short none = λ part kept.
     let same : part ≡ line = whole line part kept short in
     (syntax (omega (arith, ap length same)) (λ d spelled. none d (subst (SpellsCommand d) same spelled)) refl refl, λ q. none Quit (sym same ∙ q))
 
-answers_done : (s : State) (line answer : List ℕ) (new : State) (d : Command) → length line ≤ 200 → SpellsCommand d line
-    → ((other : Command) → SpellsCommand other line → other ≡ d) → d ≢ Quit → Does s d answer new → AnswersLine LineAnswer s line answer new
-answers_done s line answer new d short spelled only not_quit does = λ part kept.
+answers_done : (w : Wording) (s : State) (line answer : List ℕ) (new : State) (d : Command) → length line ≤ 200 → SpellsCommand d line
+    → ((other : Command) → SpellsCommand other line → other ≡ d) → d ≢ Quit → Does w s d answer new → AnswersLine (WordedAnswer w) s line answer new
+answers_done w s line answer new d short spelled only not_quit does = λ part kept.
     let same : part ≡ line = whole line part kept short in
     (command d (omega (arith, ap length same)) (subst (SpellsCommand d) (sym same) spelled) does, λ q. not_quit (sym (only Quit (sym same ∙ q))))
 
@@ -48,7 +49,7 @@ returns-in_err-say g c = (
   λ before said h.
       let past : 200 < length c.args.line.now = omega (arith, c.if-line-gt-LINE_LIMIT.true) in (
         no_long,
-        turns_err _ _ _ _ c.from_residual.result c.from_residual.ensures.0 (answers_long c.args.lab.now c.args.line.now past),
+        turns_err c.args.wording _ _ _ _ c.from_residual.result c.from_residual.ensures.0 (answers_long c.args.wording c.args.lab.now c.args.line.now past),
         cut_here c.from_residual.result _ before (said ++ no_long) _ c.from_residual.ensures.0 (c.in_err-say.ensures.1 before said h),
       ),
 )
@@ -58,7 +59,7 @@ returns-then-line-gt-LINE_LIMIT g c = (
   search rules,
   λ before said h.
       let past : 200 < length c.args.line.now = omega (arith, c.if-line-gt-LINE_LIMIT.true) in
-      (no_long, answers_long c.args.lab.now c.args.line.now past, c.in_ok-say.ensures.1 before said h),
+      (no_long, answers_long c.args.wording c.args.lab.now c.args.line.now past, c.in_ok-say.ensures.1 before said h),
 )
 
 pub returns-in_err-say-in-None : goal.returns-in_err-say-in-None
@@ -67,8 +68,8 @@ returns-in_err-say-in-None g c = (
   λ before said h.
       let short : length c.args.line.now ≤ 200 = omega (arith, c.if-line-gt-LINE_LIMIT.false) in (
         no_syntax,
-        turns_err _ _ _ _ c.from_residual-in_err-say-in-None.result c.from_residual-in_err-say-in-None.ensures.0
-            (answers_none c.args.lab.now c.args.line.now short c.in-None.ensures.none),
+        turns_err c.args.wording _ _ _ _ c.from_residual-in_err-say-in-None.result c.from_residual-in_err-say-in-None.ensures.0
+            (answers_none c.args.wording c.args.lab.now c.args.line.now short c.in-None.ensures.none),
         cut_here c.from_residual-in_err-say-in-None.result _ before (said ++ no_syntax) _ c.from_residual-in_err-say-in-None.ensures.0 (c.in_err-say-in-None.ensures.1 before said h),
       ),
 )
@@ -79,33 +80,33 @@ returns-in_ok-say-in-None g c = (
   λ before said h.
       let short : length c.args.line.now ≤ 200 = omega (arith, c.if-line-gt-LINE_LIMIT.false) in (
         no_syntax,
-        answers_none c.args.lab.now c.args.line.now short c.in-None.ensures.none,
+        answers_none c.args.wording c.args.lab.now c.args.line.now short c.in-None.ensures.none,
         c.in_ok-say-in-None.ensures.1 before said h,
       ),
 )
 
-pub returns-in_err-obey-in_default : goal.returns-in_err-obey-in_default
-returns-in_err-obey-in_default g c = (
+pub returns-in_err-obey_worded-in_default : goal.returns-in_err-obey_worded-in_default
+returns-in_err-obey_worded-in_default g c = (
   search rules,
   λ before said h.
       let short : length c.args.line.now ≤ 200 = omega (arith, c.if-line-gt-LINE_LIMIT.false) in
-      let done = c.in_err-obey-in_default.ensures.1 before said h in (
+      let done = c.in_err-obey_worded-in_default.ensures.1 before said h in (
         done.0,
-        turns_err _ _ _ _ c.from_residual-in_err-obey-in_default.result c.from_residual-in_err-obey-in_default.ensures.0
-            (answers_done c.args.lab.now c.args.line.now done.0 c.obey.new.lab c.in-Some.command short
+        turns_err c.args.wording _ _ _ _ c.from_residual-in_err-obey_worded-in_default.result c.from_residual-in_err-obey_worded-in_default.ensures.0
+            (answers_done c.args.wording c.args.lab.now c.args.line.now done.0 c.obey_worded.new.lab c.in-Some.command short
             c.in-Some.ensures.some c.in-Some.ensures.only c.in_default.not-Quit done.1),
-        cut_here c.from_residual-in_err-obey-in_default.result _ before (said ++ done.0) _ c.from_residual-in_err-obey-in_default.ensures.0 done.2,
+        cut_here c.from_residual-in_err-obey_worded-in_default.result _ before (said ++ done.0) _ c.from_residual-in_err-obey_worded-in_default.ensures.0 done.2,
       ),
 )
 
-pub returns-in_ok-obey-in_default : goal.returns-in_ok-obey-in_default
-returns-in_ok-obey-in_default g c = (
+pub returns-in_ok-obey_worded-in_default : goal.returns-in_ok-obey_worded-in_default
+returns-in_ok-obey_worded-in_default g c = (
   search rules,
   λ before said h.
       let short : length c.args.line.now ≤ 200 = omega (arith, c.if-line-gt-LINE_LIMIT.false) in
-      let done = c.in_ok-obey-in_default.ensures.1 before said h in (
+      let done = c.in_ok-obey_worded-in_default.ensures.1 before said h in (
         done.0,
-        answers_done c.args.lab.now c.args.line.now done.0 c.obey.new.lab c.in-Some.command short
+        answers_done c.args.wording c.args.lab.now c.args.line.now done.0 c.obey_worded.new.lab c.in-Some.command short
             c.in-Some.ensures.some c.in-Some.ensures.only c.in_default.not-Quit done.1,
         done.2,
       ),

@@ -1,0 +1,102 @@
+//! The files that the command line names.
+
+use ga_explorer::{close, is_cut_off};
+use std::fs::File;
+use std::io;
+use std::io::{Chain, ErrorKind, Read, Stdin, Take};
+use std::process::ExitCode;
+
+/// The most bytes of a file: the bound of an input.
+pub const LONGEST_FILE: u64 = 16_777_216;
+
+/// The bytes of a file, as far as one more than the bound.
+pub fn read_file(rt: &HostRuntime, path: &str) -> io::Result<Vec<u8>> {
+    let mut text = Vec::new(rt.alloc());
+    File::open(rt, path)?
+        .take(LONGEST_FILE + 1)
+        .read_to_end(&mut text)?;
+    Ok(text)
+}
+
+/// What stands before standard input, and how many bytes of that may be read behind it.
+#[derive(Drop)]
+pub struct Front {
+    text: Vec<u8>,
+    behind: u64,
+}
+
+impl Front {
+    /// What is read: the text, and then standard input.
+    pub fn reader(&self, rt: &HostRuntime) -> Chain<&[u8], Take<Stdin>> {
+        self.text.as_slice().chain(rt.stdin().take(self.behind))
+    }
+}
+
+/// The text of a file, ended so that commands can stand behind it, or nothing where no file is named. Behind an image without its
+/// line `end` nothing is read.
+///
+/// # Errors
+/// The file can't be had, which was told.
+pub fn front_of(rt: &HostRuntime, file: &Option<String>) -> Result<Front, ExitCode> {
+    let Some(name) = file else {
+        return Ok(Front {
+            text: Vec::new(rt.alloc()),
+            behind: u64::MAX,
+        });
+    };
+    let name = name.as_str();
+    let mut text = text_of(rt, name)?;
+    if is_cut_off(text.as_slice()) {
+        return Ok(Front { text, behind: 0 });
+    }
+    match close(&mut text) {
+        Ok(()) => Ok(Front {
+            text,
+            behind: u64::MAX,
+        }),
+        Err(_) => Err(unread(rt, name, "out of memory", 1)),
+    }
+}
+
+/// The text of a file.
+///
+/// # Errors
+/// The file can't be had, which was told.
+fn text_of(rt: &HostRuntime, name: &str) -> Result<Vec<u8>, ExitCode> {
+    match read_file(rt, name) {
+        Ok(text) => {
+            if text.len() as u64 > LONGEST_FILE {
+                return Err(unread(rt, name, "more than 16777216 bytes", 1));
+            }
+            Ok(text)
+        }
+        Err(why) => Err(unread_for(rt, name, &why)),
+    }
+}
+
+/// The text of the file that gives the chip, where one is named.
+///
+/// # Errors
+/// The file can't be had, which was told.
+pub fn chip_of(rt: &HostRuntime, file: &Option<String>) -> Result<Option<Vec<u8>>, ExitCode> {
+    match file {
+        None => Ok(None),
+        Some(name) => Ok(Some(text_of(rt, name.as_str())?)),
+    }
+}
+
+/// Tells why a file can't be read: 1 for want of memory, else 2.
+fn unread_for(rt: &HostRuntime, name: &str, why: &io::Error) -> ExitCode {
+    let status = if why.kind() == ErrorKind::OutOfMemory {
+        1
+    } else {
+        2
+    };
+    let _ = eprintln!(rt; "ga144: {name}: {why}");
+    ExitCode::from(status)
+}
+
+fn unread(rt: &HostRuntime, name: &str, why: &str, status: u8) -> ExitCode {
+    let _ = eprintln!(rt; "ga144: {name}: {why}");
+    ExitCode::from(status)
+}
