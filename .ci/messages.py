@@ -20,25 +20,26 @@ STANDING = ("continue", "next", "stepIn", "stepOut", "stepBack", "reverseContinu
 # Requests at their bounds, over sources/fault.f18; a number past 2^64 is none.
 PROGRAM, LINES = "sources/fault.f18", {"source": {"path": "sources/fault.f18"}}
 AT_BOUNDS = [
-    ("initialize", {"adapterID": "ga144", "linesStartAt1": False}), ("initialize", {"adapterID": "ga144", "pathFormat": "uri"}), ("initialize", {"adapterID": "ga144"}),
-    ("threads", None), ("launch", {"program": PROGRAM, "limit": 4000001}), ("launch", {"program": PROGRAM, "limit": 4000000}), ("launch", {"program": PROGRAM}),
+    ("initialize", {"adapterID": "ga144", "linesStartAt1": False}), ("initialize", {"adapterID": "ga144", "columnsStartAt1": False}), ("initialize", {"adapterID": "ga144", "pathFormat": "uri"}), ("initialize", {"adapterID": "ga144"}),
+    ("threads", None), ("launch", {"program": PROGRAM, "limit": 4000001}), *(("launch", {"program": PROGRAM, "order": "random", "seed": it}) for it in (2**32, 2**70, -1)), ("launch", {"program": PROGRAM, "limit": 4000000}), ("launch", {"program": PROGRAM}),
     ("setInstructionBreakpoints", {"breakpoints": [{"instructionReference": it, "offset": by} for it, by in (("0x001002", -1), ("0x000000", -1), ("0x001002", 4096), ("0x00000000001", 2**40), ("0x0", 0), ("0x717fff", 0), ("0xg", 0), ("0x701080", -3))]}),
     ("setInstructionBreakpoints", {"breakpoints": []}),
     ("setFunctionBreakpoints", {"breakpoints": [{"name": it} for it in ("main", "001 main", "001:main", "0012main", "099 main", "001", "001 ", "")]}),
     *(("setFunctionBreakpoints", {"breakpoints": [{"name": "main"} | {kind: it} for it in some]}) for kind, some in (
-        ("condition", ("t = 0x150", "d9 >= 262143", "r8 != -131072", "[bF] == -0x20000", "step < 4294967295", "slot = 00", "d1 = 1", "r9 = 1", "d2 = -131073", "io <= 0x100000000", "carry > 4294967296", "t", "t =", "t  = 1", "t = 1 ", "t=1", "state = 0", "[5] = 1", "[0g] = 1", "T = 1", "t = 0x", "t = -", "t => 1", "")),
+        ("condition", ("t = 0x3ffff", "t = 0x40000", "t != 262144", "step < 262144", "[05] < 4294967295", "t == 5", "t = 0x150", "d9 >= 262143", "r8 != -131072", "[bF] == -0x20000", "step < 4294967295", "slot = 00", "d1 = 1", "r9 = 1", "d2 = -131073", "io <= 0x100000000", "carry > 4294967296", "t", "t =", "t  = 1", "t = 1 ", "t=1", "state = 0", "[5] = 1", "[0g] = 1", "T = 1", "t = 0x", "t = -", "t => 1", "")),
         ("hitCondition", ("1", "4294967295", "4294967296", ">= 1", "% 1", "0", "% 0", "01", ">=1", "> 1", "% ", "", "x")),
     )),
     ("setFunctionBreakpoints", {"breakpoints": [{"name": "main", "condition": "t", "hitCondition": "x"}] + [{"name": "main"}] * 63 + [{"name": "main", "hitCondition": "2"}] * 2 + [{"name": "main", "condition": "t = 1"}]}),
     ("setFunctionBreakpoints", {"breakpoints": []}),
     ("setBreakpoints", LINES | {"breakpoints": [{"line": 0}, {"line": 2**32}, {"line": 3, "column": 5}]}), ("setBreakpoints", LINES), ("setBreakpoints", {"source": {"name": "fault.f18"}, "breakpoints": [{"line": 3}]}),
     ("setExceptionBreakpoints", {"filters": ["stop", "stop"]}), ("setExceptionBreakpoints", {"filters": ["stop", "stuck"]}),
+    *((it, {"threadId": 1000}) for it in ("continue", "next", "stepIn", "stepOut", "pause")),
     ("configurationDone", None), ("continue", {"threadId": 2}),
     *(("disassemble", {"memoryReference": it, "instructionCount": count} | more) for it, count, more in (
-        ("0x001002", 3, {"offset": -1}), ("0x001002", 5000, {}), ("0x001002", 2, {"offset": -9000, "instructionOffset": 5}), ("0x0010bf", 3, {}), ("0x001040", 0, {}), ("0X001040", 1, {}), ("001040", 1, {}), ("0x001fff", 1, {}), ("0x018000", 1, {}))),
+        ("0x001002", 3, {"offset": -1}), ("0x001002", 4096, {}), ("0x001002", 4097, {}), ("0x001002", 2**40, {}), ("0x001002", 2, {"offset": -9000, "instructionOffset": 5}), ("0x0010bf", 3, {}), ("0x001040", 0, {}), ("0X001040", 1, {}), ("001040", 1, {}), ("0x001fff", 1, {}), ("0x018000", 1, {}))),
     ("stackTrace", {"threadId": 1000, "startFrame": 5, "levels": 3}), ("stackTrace", {"threadId": 1000, "levels": 2**70}), ("stackTrace", {"threadId": 2**70}),
     ("scopes", {"frameId": 2304}), ("scopes", {"frameId": 2305}), ("scopes", {"frameId": 0}), ("variables", {"variablesReference": 1150}), ("variables", {"variablesReference": 1151}), ("variables", {"variablesReference": 0}),
-    ("variables", {"variablesReference": 5, "start": 60, "count": 10}), ("variables", {"variablesReference": 6, "start": 64}),
+    ("variables", {"variablesReference": 5, "start": 60, "count": 10}), ("variables", {"variablesReference": 6, "start": 64}), *(("variables", {"variablesReference": it, "filter": kind, "start": 2, "count": 2}) for it in range(1, 7) for kind in ("named", "indexed")),
     *(("dataBreakpointInfo", {"variablesReference": it, "name": name}) for it, name in ((13, "[0A]"), (13, "[7f]"), (13, "[8A]"), (14, "[8a]"), (9, "t"), (0, "[00]"))), ("dataBreakpointInfo", {"name": "t"}),
     ("setDataBreakpoints", {"breakpoints": [{"dataId": it, "accessType": "write"} for it in ("0x001043", "0x00107f", "0x001080", "x")]}),
     *(("evaluate", {"expression": it, "context": "repl", "frameId": 17}) for it in ("\tt\n", "", "[0 5]", "[7F]", "[bf]", "[ff]", "dump\nquit", "\u00fcn\u00ef", "x" * 300, " quit", "T")),
@@ -51,7 +52,8 @@ def brief(message):
     """A message in a few words."""
     if message["type"] == "event":
         return f"{message['event']} {message.get('body', {}).get('output', '').strip()}".strip()
-    return f"{message['command']}: {message['message']}" if not message["success"] else message["command"]
+    told = [it["message"] for it in message.get("body", {}).get("breakpoints", []) if "message" in it]
+    return f"{message['command']}: {message['message']}" if not message["success"] else " ".join([message["command"], *told])
 
 
 def request(seq, command, **arguments):
@@ -101,14 +103,17 @@ def wrong_inputs(room):
         **{f"as long as may be, of {name}": (filler % (begin + of * ((LONGEST - len(filler % begin) - len(end_of)) // len(of)) + end_of), "initialize") for name, (begin, of, end_of) in LONG.items()},
     }
     # what is launched
+    order = "the order is rounds, greedy, or random with a seed of 0 to 4294967295"
     launch = {
         "no program": ({"noDebug": True}, "there is no program"),
         "no file": ({"program": "/nonexistent"}, "/nonexistent: no such file"),
         "a folder": ({"program": room}, f"{room}: a folder"),
         "no end": ({"program": "/dev/zero"}, "/dev/zero: more than 16777216 bytes"),
         "a fault of source": ({"program": "bad.f18"}, "bad.f18: line 2: what is foo"),
+        "a fault of an image": ({"program": "bad.image"}, "bad.image: no 13 node line 3"),
         "limit 0": ({"program": "bad.f18", "limit": 0}, "the limit is 1 to 4000000"),
-        "an order that is none": ({"program": "bad.f18", "order": "backwards"}, "the order is rounds, greedy, or random with a seed"),
+        "an order that is none": ({"program": "bad.f18", "order": "backwards"}, order),
+        "a seed that is none": ({"program": "bad.f18", "order": "random", "seed": 2**32}, order),
     }
     # requests that are refused by name, and change nothing
     refused = {
@@ -123,6 +128,9 @@ def wrong_inputs(room):
         "disassemble": ({"memoryReference": "0x018000", "instructionCount": 1}, "disassemble: no such memory"),
         "setExceptionBreakpoints": ({"filters": ["uncaught"]}, "setExceptionBreakpoints: the filters are stop and stuck"),
     }
+    # conditions that are no text; null is none
+    others = [5, True, ["1"], {}, None]
+    kinds = {"condition": ["condition: a register or [HH], then = != < <= > or >=, then a number"] * 4, "hitCondition": ["hitCondition: N, >= N or % N, from 1 on"] * 4}
     runs = stands + request(4, "continue", threadId=1000)
     found = {
         "nothing": (b"", 0, []),
@@ -131,6 +139,7 @@ def wrong_inputs(room):
         "leading zeros": (start.replace(b"Content-Length: ", b"Content-Length: 00") + end, 0, ["initialize", "disconnect"]),
         "seq 0, and the greatest twice": (b"".join(request(it, "initialize", adapterID="x") for it in (0, 2**64 - 1, 2**64 - 1)), 0, ["initialize"] * 3),
         **{f"{it} within a run": (runs + request(5, it, threadId=1000, expression="t") + end, 0, [*begun, "continue", f"{it}: the chip runs", "disconnect"]) for it in STANDING},
+        **{f"a {it} that is no text": (stands + request(4, "setFunctionBreakpoints", breakpoints=[{"name": "main", it: other} for other in others]) + end, 0, [*begun, " ".join(["setFunctionBreakpoints", *told]), "disconnect"]) for it, told in kinds.items()},
         "a run is ended": (runs + request(5, "terminate") + request(6, "stepBack", threadId=1000) + end, 0, [*begun, "continue", "terminate", "terminated", "stepBack", "output rewind 000 1: removed 0 kept 0", "stopped", "disconnect"]),
         "a run is paused": (runs + request(5, "pause", threadId=1001) + end, 0, [*begun, "continue", "pause", "stopped", "disconnect"]),
         "a run has no end": (runs + end, 0, [*begun, "continue", "disconnect"]),

@@ -47,6 +47,8 @@ class Session:
                 raise Refused("no such request")
             if self.shown is None and command not in ("initialize", "launch", "disconnect", "terminate"):
                 raise Refused("nothing is launched")
+            if command in ("continue", "next", "stepIn", "stepOut") and not self.is_configured:
+                raise Refused("configurationDone comes first")
             asked()
         except Refused as why:
             self.out.append({"body": {"error": {"format": str(why), "id": 1}}, "command": command, "message": str(why), "success": False, "type": "response"})
@@ -58,9 +60,9 @@ class Session:
     def tell(self, event, body=None):
         self.out.append({"event": event, "type": "event"} | ({} if body is None else {"body": body}))
 
-    def tell_stopped(self, node, reason, description, hit=None):
+    def tell_stopped(self, node, reason, description, hits=()):
         body = {"allThreadsStopped": True, "description": description, "reason": reason, "text": description, "threadId": thread_of(node)}
-        self.tell("stopped", body | ({} if hit is None else {"hitBreakpointIds": [hit]}))
+        self.tell("stopped", body | ({"hitBreakpointIds": hits} if hits else {}))
 
     def tell_threads(self):
         for node in range(NODES):
@@ -81,8 +83,9 @@ class Session:
     # ---- the beginning and the end
 
     def do_initialize(self):
-        if not self.arguments.get("linesStartAt1", True):
-            raise Refused("initialize: lines are counted from 1 on")
+        for what in ("lines", "columns"):
+            if not self.arguments.get(f"{what}StartAt1", True):
+                raise Refused(f"initialize: {what} are counted from 1 on")
         if self.arguments.get("pathFormat", "path") != "path":
             raise Refused("initialize: files are named by paths")
         filters = {"stop": "A node stops", "stuck": "A node can never go on"}
@@ -95,6 +98,8 @@ class Session:
             raise Refused("launch: a program is launched already")
         if not 1 <= limit <= MOST:
             raise Refused("launch: the limit is 1 to 4000000")
+        if self.arguments.get("order", "rounds") == "random" and not 0 <= self.arguments.get("seed", 0) < 1 << 32:
+            raise Refused("launch: the order is rounds, greedy, or random with a seed of 0 to 4294967295")
         with open(path, encoding="latin-1", newline="") as file:
             text = file.read()
         image = text.startswith("ga144")
@@ -106,7 +111,7 @@ class Session:
         programs = set() if image else {NODE_NAMES[it] for it in programs_of(words_of(text))}
         self.shown = Shown(self.machine, self.notes, programs, path)
         self.order, self.state = self.arguments.get("order", "rounds"), self.arguments.get("seed", 0)
-        self.turn, self.known, self.points, self.ids = 0, set(), [], 0
+        self.turn, self.known, self.reported, self.points, self.ids = 0, set(), set(), [], 0
         self.filters, self.by_lines, self.stops_on_entry = {"stop", "stuck"}, not image, self.arguments.get("stopOnEntry", True)
         if self.order == "random":
             self.draw()
@@ -226,9 +231,9 @@ class Session:
         """Whether that hit is asked for, by how many kept steps hit the breakpoint up to it."""
         return self.meets(point, node, step) and point["count"](lambda: sum(self.meets(point, node, it) for it in range(1, step + 1)))
 
-    def hit(self, touched):
-        """The first breakpoint that the newest event hits as it is asked for."""
-        return next((it for it in self.points if any(self.halts(it, node, self.machine.steps[node]) for node in touched)), None)
+    def hits(self, touched):
+        """The breakpoints that the newest event hits as they are asked for."""
+        return [it for it in self.points if any(self.halts(it, node, self.machine.steps[node]) for node in touched)]
 
     # ---- what is shown
 
@@ -249,7 +254,9 @@ class Session:
         node, scope = divmod(reference, 8)
         if not (0 <= node < NODES and scope < 6):
             raise Refused("variables: no such reference")
-        self.respond(self.shown.variables(node, scope, self.arguments.get("start", 0), self.arguments.get("count", 0)))
+        if self.arguments.get("filter") == ("named" if scope > 3 else "indexed"):
+            return self.respond({"variables": []})
+        return self.respond(self.shown.variables(node, scope, self.arguments.get("start", 0), self.arguments.get("count", 0)))
 
     def do_exceptionInfo(self):
         self.respond(self.shown.exception(self.node()))
@@ -258,8 +265,10 @@ class Session:
         at = address_in(self.arguments["memoryReference"])
         if not at:
             raise Refused("disassemble: no such memory")
-        first = at[1] + self.arguments.get("offset", 0) + self.arguments.get("instructionOffset", 0)
-        self.respond(self.shown.disassembled(at[0], first % ADDRESSES, min(self.arguments["instructionCount"], ADDRESSES)))
+        first, count = at[1] + self.arguments.get("offset", 0) + self.arguments.get("instructionOffset", 0), self.arguments["instructionCount"]
+        if count > ADDRESSES:
+            raise Refused(f"disassemble: {ADDRESSES} instructions at most")
+        self.respond(self.shown.disassembled(at[0], first % ADDRESSES, count))
 
     # ---- moves
 
@@ -279,40 +288,49 @@ class Session:
         return told, machine.events[-1]
 
     def go(self, first, reached):
-        """Makes events up to a breakpoint, a stop, the end of a move, or until there is none, and tells why it ends there."""
-        made, stuck = 0, set(self.machine.stuck())
+        """Makes events up to a breakpoint, a stop, the end of a move, or until there is none, and tells why it ends there. It makes none where
+        a node is stuck of which wasn't told."""
+        made, before = 0, set(self.machine.stuck())
+        if self.tells_stuck(self.reported):
+            return None
+        self.reported = before if "stuck" in self.filters else set()
         while True:
             told, touched = self.event(first)
             if told is None:
                 break
             made += 1
-            hit = self.hit(touched)
+            hits = self.hits(touched)
             stops = re.fullmatch("(...) [0-9]+ stop [0-9]", told)
-            if hit:
-                what = ("data breakpoint", "a watched cell was written") if hit["set"] == "data" else ("breakpoint", "breakpoint")
-                return self.stands(hit["node"], *what, hit["id"])
+            if hits:
+                what = ("data breakpoint", "a watched cell was written") if hits[0]["set"] == "data" else ("breakpoint", "breakpoint")
+                return self.stands(hits[0]["node"], *what, [it["id"] for it in hits])
             if stops and ("stop" in self.filters or NODE_NAMES[stops[1]] == first):
                 node = NODE_NAMES[stops[1]]
                 return self.stands(node, "exception", f"node {name(node)} {self.shown.does(node)}")
             if reached(told, touched):
-                return self.stands(first, "step", "step")
+                return None if self.tells_stuck(before) else self.stands(first, "step", "step")
             if made % SLICE == 0:
-                newly, stuck = self.newly_stuck(stuck), set(self.machine.stuck())
-                if newly is not None:
-                    return self.stands(newly, "exception", f"node {name(newly)} {self.shown.does(newly)}, and can never go on")
-        newly = self.newly_stuck(stuck) if touched == "quiet" else None
-        if newly is not None:
-            return self.stands(newly, "exception", f"node {name(newly)} {self.shown.does(newly)}, and can never go on")
+                if self.tells_stuck(before):
+                    return None
+                before = set(self.machine.stuck())
+                self.reported = before if "stuck" in self.filters else set()
+        if touched == "quiet" and self.tells_stuck(before):
+            return None
         return self.stands(self.first(), "pause", "quiet: no node has an event" if touched == "quiet" else FULL)
 
-    def newly_stuck(self, before):
-        """The first node with something to show that can never go on, where it could before and isn't stopped."""
+    def tells_stuck(self, known):
+        """Tells of the first node with something to show that can never go on, isn't stopped, and is not among those known, if there is one."""
         found = self.machine.stuck() if "stuck" in self.filters else []
-        return next((it for it in found if it not in before and self.shown.has_thread(it) and not self.machine.chip[it].stop), None)
+        node = next((it for it in found if it not in known and self.shown.has_thread(it) and not self.machine.chip[it].stop), None)
+        if node is None:
+            return False
+        self.reported = set(found)
+        self.stands(node, "exception", f"node {name(node)} {self.shown.does(node)}, and can never go on")
+        return True
 
-    def stands(self, node, reason, description, hit=None):
+    def stands(self, node, reason, description, hits=()):
         self.tell_threads()
-        self.tell_stopped(node, reason, description, hit)
+        self.tell_stopped(node, reason, description, hits)
 
     def mover(self):
         """The node that is to make steps."""
@@ -345,7 +363,7 @@ class Session:
                 return False
             if over and any(it > began for it in self.machine.calls(node)):
                 return False
-            return not by_line or self.shown.begins(node, self.machine.steps[node])
+            return not by_line or self.shown.begins(node, self.machine.steps[node], began)
 
         self.go(node, reached)
 

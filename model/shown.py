@@ -286,18 +286,19 @@ class Shown:
 
     # ---- lines
 
-    def place_back(self, node, step):
-        """The step before one; before the call, where that one came back from it."""
-        call = self.machine.kept[node][step - 1][3][0]
-        return call - 1 if op_of(self.machine.kept[node][step][0]) == CODE[";"] and call else step - 1
+    def place_back(self, node, step, began=0):
+        """The step before one; before the call, where that one came back from a call that was made behind so many steps."""
+        call = self.machine.kept[node][step - 1][3][0] or 0
+        return call - 1 if op_of(self.machine.kept[node][step][0]) == CODE[";"] and call > began else step - 1
 
-    def begins(self, node, step):
-        """Whether a line begins behind a step: the node came to it from another, or by a jump to its first slot."""
+    def begins(self, node, step, began=0):
+        """Whether a line begins behind a step: the node came to it from another, over calls that it made behind so many steps, or by a jump
+        to its first slot."""
         spot = self.machine.spot(node, step)
         line = self.notes.word(node, spot)
         if line is None:
             return False
-        before = self.machine.spot(node, self.place_back(node, step))
+        before = self.machine.spot(node, self.place_back(node, step, began))
         return self.notes.word(node, before) != line or op_of(self.machine.kept[node][step][0]) in JUMP_OPS and self.notes.begins_at(node, line, spot)
 
     def line_back(self, node):

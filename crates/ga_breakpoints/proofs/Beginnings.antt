@@ -12,8 +12,8 @@ abbrev Comes : Notes → State → NodeId → ℕ → Option Spot → Option Spo
 Comes notes s node place before spot op begins = begins ≡ comes_on notes node before spot op (line_on_spot notes node spot)
 
 began_so : (notes : Notes) (s : State) (node : NodeId) (place left : ℕ) (there spot : Option Spot) (op : Option Op) (begins : Bool) → 0 < place → 0 < left
-    → there ≡ spot_behind s node (place_back s node (place - 1)) → spot ≡ spot_behind s node place → op ≡ op_at s node (place - 1) → Comes notes s node place there spot op begins
-    → beginning_from notes s node place left ≡ cond begins place (beginning_from notes s node (place_back s node (place - 1)) (left - 1))
+    → there ≡ spot_behind s node (place_back 0 s node (place - 1)) → spot ≡ spot_behind s node place → op ≡ op_at s node (place - 1) → Comes notes s node place there spot op begins
+    → beginning_from notes s node place left ≡ cond begins place (beginning_from notes s node (place_back 0 s node (place - 1)) (left - 1))
 unfolding beginning_from
 began_so notes s node place left there spot op begins some more there_is spot_is op_is comes =
     let k : ℕ = place - 1 in
@@ -21,29 +21,29 @@ began_so notes s node place left there spot op begins some more there_is spot_is
     let at : place ≡ suc k = omega arith in
     let room : left ≡ suc m = omega arith in
     let next : place ≡ k + 1 = omega arith in
-    let begins_is : begins ≡ begins_behind notes s node k =
+    let begins_is : begins ≡ begins_behind 0 notes s node k =
     comes
     ∙ ap (λ (z : Option Spot). comes_on notes node z spot op (line_on_spot notes node spot)) there_is
-    ∙ ap (λ (z : Option Spot). comes_on notes node (spot_behind s node (place_back s node k)) z op (line_on_spot notes node z)) (spot_is ∙ ap (spot_behind s node) next)
-    ∙ ap (λ (z : Option Op). comes_on notes node (spot_behind s node (place_back s node k)) (spot_behind s node (k + 1)) z (line_on_spot notes node (spot_behind s node (k + 1)))) op_is in
+    ∙ ap (λ (z : Option Spot). comes_on notes node (spot_behind s node (place_back 0 s node k)) z op (line_on_spot notes node z)) (spot_is ∙ ap (spot_behind s node) next)
+    ∙ ap (λ (z : Option Op). comes_on notes node (spot_behind s node (place_back 0 s node k)) (spot_behind s node (k + 1)) z (line_on_spot notes node (spot_behind s node (k + 1)))) op_is in
     ap (λ (z : ℕ). beginning_from notes s node z left) at
     ∙ ap (beginning_from notes s node (suc k)) room
-    ∙ ap (λ (b : Bool). cond b (suc k) (beginning_from notes s node (place_back s node k) m)) (sym begins_is)
-    ∙ ap (λ (z : ℕ). cond begins z (beginning_from notes s node (place_back s node k) m)) (sym at)
+    ∙ ap (λ (b : Bool). cond b (suc k) (beginning_from notes s node (place_back 0 s node k) m)) (sym begins_is)
+    ∙ ap (λ (z : ℕ). cond begins z (beginning_from notes s node (place_back 0 s node k) m)) (sym at)
 
 pub began_here : (notes : Notes) (s : State) (node : NodeId) (place left : ℕ) (there spot : Option Spot) (op : Option Op) (begins : Bool) → 0 < place → 0 < left
-    → there ≡ spot_behind s node (place_back s node (place - 1)) → spot ≡ spot_behind s node place → op ≡ op_at s node (place - 1) → Comes notes s node place there spot op begins
+    → there ≡ spot_behind s node (place_back 0 s node (place - 1)) → spot ≡ spot_behind s node place → op ≡ op_at s node (place - 1) → Comes notes s node place there spot op begins
     → begins ≡ true → beginning_from notes s node place left ≡ place
 began_here notes s node place left there spot op begins some more there_is spot_is op_is comes is =
     began_so notes s node place left there spot op begins some more there_is spot_is op_is comes
-    ∙ ap (λ (b : Bool). cond b place (beginning_from notes s node (place_back s node (place - 1)) (left - 1))) is
+    ∙ ap (λ (b : Bool). cond b place (beginning_from notes s node (place_back 0 s node (place - 1)) (left - 1))) is
 
 pub began_before : (notes : Notes) (s : State) (node : NodeId) (place left : ℕ) (there spot : Option Spot) (op : Option Op) (begins : Bool) → 0 < place → 0 < left
-    → there ≡ spot_behind s node (place_back s node (place - 1)) → spot ≡ spot_behind s node place → op ≡ op_at s node (place - 1) → Comes notes s node place there spot op begins
-    → begins ≡ false → beginning_from notes s node place left ≡ beginning_from notes s node (place_back s node (place - 1)) (left - 1)
+    → there ≡ spot_behind s node (place_back 0 s node (place - 1)) → spot ≡ spot_behind s node place → op ≡ op_at s node (place - 1) → Comes notes s node place there spot op begins
+    → begins ≡ false → beginning_from notes s node place left ≡ beginning_from notes s node (place_back 0 s node (place - 1)) (left - 1)
 began_before notes s node place left there spot op begins some more there_is spot_is op_is comes is =
     began_so notes s node place left there spot op begins some more there_is spot_is op_is comes
-    ∙ ap (λ (b : Bool). cond b place (beginning_from notes s node (place_back s node (place - 1)) (left - 1))) is
+    ∙ ap (λ (b : Bool). cond b place (beginning_from notes s node (place_back 0 s node (place - 1)) (left - 1))) is
 
 pub began_at_load : (notes : Notes) (s : State) (node : NodeId) (place left : ℕ) → place ≡ 0 → beginning_from notes s node place left ≡ 0
 unfolding beginning_from

@@ -117,41 +117,41 @@ word_comes s node k place word found told before keeps at told_is before_is is o
 
 -- ---- where a line begins
 
-stood_before : (s : State) (node : NodeId) (k : ℕ) (word : Option ℕ) → word ≡ fetched_cell s node k → spot_before s node k word ≡ spot_behind s node (place_back s node k)
-stood_before s node k word is =
-    let p : ℕ = place_back s node k in
+stood_before : (began : ℕ) (s : State) (node : NodeId) (k : ℕ) (word : Option ℕ) → word ≡ fetched_cell s node k → spot_before began s node k word ≡ spot_behind s node (place_back began s node k)
+stood_before began s node k word is =
+    let p : ℕ = place_back began s node k in
     elim (eqb_tells p k) [
       | inl same ↦ ap (λ (b : Bool). cond b (spot_by (node_after s node.number k) word) (spot_behind s node p)) same.0 ∙ ap (spot_by (node_after s node.number k)) is ∙ ap (spot_behind s node) (sym same.1)
       | inr other ↦ ap (λ (b : Bool). cond b (spot_by (node_after s node.number k) word) (spot_behind s node p)) other.0
     ]
 
-pub begins_alike : (notes : Notes) (s : State) (node : NodeId) (k : ℕ) (before behind : Option ℕ) → before ≡ fetched_cell s node k → behind ≡ fetched_cell s node (k + 1)
-    → begins_by notes s node k before behind ≡ begins_behind notes s node k
-begins_alike notes s node k before behind first then =
-    ap (λ (z : Option Spot). comes_on notes node z (spot_by (node_after s node.number (k + 1)) behind) (op_at s node k) (line_on_spot notes node (spot_by (node_after s node.number (k + 1)) behind))) (stood_before s node k before first)
-    ∙ ap (λ (z : Option ℕ). comes_on notes node (spot_behind s node (place_back s node k)) (spot_by (node_after s node.number (k + 1)) z) (op_at s node k) (line_on_spot notes node (spot_by (node_after s node.number (k + 1)) z))) then
+pub begins_alike : (began : ℕ) (notes : Notes) (s : State) (node : NodeId) (k : ℕ) (before behind : Option ℕ) → before ≡ fetched_cell s node k → behind ≡ fetched_cell s node (k + 1)
+    → begins_by began notes s node k before behind ≡ begins_behind began notes s node k
+begins_alike began notes s node k before behind first then =
+    ap (λ (z : Option Spot). comes_on notes node z (spot_by (node_after s node.number (k + 1)) behind) (op_at s node k) (line_on_spot notes node (spot_by (node_after s node.number (k + 1)) behind))) (stood_before began s node k before first)
+    ∙ ap (λ (z : Option ℕ). comes_on notes node (spot_behind s node (place_back began s node k)) (spot_by (node_after s node.number (k + 1)) z) (op_at s node k) (line_on_spot notes node (spot_by (node_after s node.number (k + 1)) z))) then
 
 -- as it is found
-pub stood_here : (s : State) (node : NodeId) (k before : ℕ) (word : Option ℕ) (stands : NodeRecord) (found : Option Spot) → before ≡ place_back s node k → before ≡ k → stands ≡ node_after s node.number k
-    → found ≡ spot_by stands word → found ≡ spot_before s node k word
-stood_here s node k before word stands found is here at found_is =
+pub stood_here : (began : ℕ) (s : State) (node : NodeId) (k before : ℕ) (word : Option ℕ) (stands : NodeRecord) (found : Option Spot) → before ≡ place_back began s node k → before ≡ k → stands ≡ node_after s node.number k
+    → found ≡ spot_by stands word → found ≡ spot_before began s node k word
+stood_here began s node k before word stands found is here at found_is =
     found_is ∙ ap (λ (z : NodeRecord). spot_by z word) at
-    ∙ sym (ap (λ (b : Bool). cond b (spot_by (node_after s node.number k) word) (spot_behind s node (place_back s node k))) (eq-eqb (place_back s node k) k (sym is ∙ here)))
+    ∙ sym (ap (λ (b : Bool). cond b (spot_by (node_after s node.number k) word) (spot_behind s node (place_back began s node k))) (eq-eqb (place_back began s node k) k (sym is ∙ here)))
 
-pub stood_back : (s : State) (node : NodeId) (k before : ℕ) (word : Option ℕ) (found : Option Spot) → before ≡ place_back s node k → before ≢ k → found ≡ spot_behind s node before
-    → found ≡ spot_before s node k word
-stood_back s node k before word found is other found_is =
+pub stood_back : (began : ℕ) (s : State) (node : NodeId) (k before : ℕ) (word : Option ℕ) (found : Option Spot) → before ≡ place_back began s node k → before ≢ k → found ≡ spot_behind s node before
+    → found ≡ spot_before began s node k word
+stood_back began s node k before word found is other found_is =
     found_is ∙ ap (spot_behind s node) is
-    ∙ sym (ap (λ (b : Bool). cond b (spot_by (node_after s node.number k) word) (spot_behind s node (place_back s node k))) (ne_eqb (place_back s node k) k (λ h. other (is ∙ h))))
+    ∙ sym (ap (λ (b : Bool). cond b (spot_by (node_after s node.number k) word) (spot_behind s node (place_back began s node k))) (ne_eqb (place_back began s node k) k (λ h. other (is ∙ h))))
 
-pub begun_by : (notes : Notes) (s : State) (node : NodeId) (k : ℕ) (before behind : Option ℕ) (there spot : Option Spot) (stands : NodeRecord) (op : Option Op) (begins : Bool) → there ≡ spot_before s node k before
+pub begun_by : (began : ℕ) (notes : Notes) (s : State) (node : NodeId) (k : ℕ) (before behind : Option ℕ) (there spot : Option Spot) (stands : NodeRecord) (op : Option Op) (begins : Bool) → there ≡ spot_before began s node k before
     → spot ≡ spot_by stands behind → stands ≡ node_after s node.number (k + 1) → op ≡ op_at s node k → begins ≡ comes_on notes node there spot op (line_on_spot notes node spot)
-    → begins ≡ begins_by notes s node k before behind
-begun_by notes s node k before behind there spot stands op begins there_is spot_is at op_is comes =
+    → begins ≡ begins_by began notes s node k before behind
+begun_by began notes s node k before behind there spot stands op begins there_is spot_is at op_is comes =
     comes
     ∙ ap (λ (z : Option Spot). comes_on notes node z spot op (line_on_spot notes node spot)) there_is
-    ∙ ap (λ (z : Option Spot). comes_on notes node (spot_before s node k before) z op (line_on_spot notes node z)) (spot_is ∙ ap (λ (z : NodeRecord). spot_by z behind) at)
-    ∙ ap (λ (z : Option Op). comes_on notes node (spot_before s node k before) (spot_by (node_after s node.number (k + 1)) behind) z (line_on_spot notes node (spot_by (node_after s node.number (k + 1)) behind))) op_is
+    ∙ ap (λ (z : Option Spot). comes_on notes node (spot_before began s node k before) z op (line_on_spot notes node z)) (spot_is ∙ ap (λ (z : NodeRecord). spot_by z behind) at)
+    ∙ ap (λ (z : Option Op). comes_on notes node (spot_before began s node k before) (spot_by (node_after s node.number (k + 1)) behind) z (line_on_spot notes node (spot_by (node_after s node.number (k + 1)) behind))) op_is
 
 -- ---- a machine with one event more: what its nodes did before stays
 
@@ -331,14 +331,14 @@ word_more s m told by node word counted is = go (is_step_of node.number told) (s
 
 reach_alike : (notes : Notes) (by : Stepping) (s : State) (m : NodeId) (told : Made) (step : Step s m told) (word : Option ℕ) → IsCounted s by.node.number → (by.grain ≡ Line → IsWord s by.node word)
     → is_step_of by.node.number told ≡ true → (grain : Grain) → by.grain ≡ grain
-    → reaches_by grain notes by.node (stepped s m) (steps_of by.node.number (stepped s m).kept - 1) word (word_seen by.node word told (stepped s m))
-    ≡ reaches_end grain notes by.node (stepped s m) (steps_of by.node.number (stepped s m).kept - 1)
+    → reaches_by grain by.began notes by.node (stepped s m) (steps_of by.node.number (stepped s m).kept - 1) word (word_seen by.node word told (stepped s m))
+    ≡ reaches_end grain by.began notes by.node (stepped s m) (steps_of by.node.number (stepped s m).kept - 1)
 reach_alike notes by s m told step word counted right own Instruction is = refl
 reach_alike notes by s m told step word counted right own Line is =
     let n : ℕ = by.node.number in
     let t : State = stepped s m in
     let all : steps_of n t.kept ≡ steps_of n s.kept + 1 = steps_more s m told step n ∙ ap (λ (b : Bool). steps_of n s.kept + cond b 1 0) own in
-    begins_alike notes t by.node (steps_of n t.kept - 1) word (word_seen by.node word told t)
+    begins_alike by.began notes t by.node (steps_of n t.kept - 1) word (word_seen by.node word told t)
     (before_more s m told step by.node word counted (right is) ∙ ap (fetched_cell t by.node) (let e : steps_of n s.kept ≡ steps_of n t.kept - 1 = omega (arith, all) in e))
     (word_more s m told step by.node word counted (right is) ∙ ap (fetched_cell t by.node) (let e : steps_of n t.kept ≡ steps_of n t.kept - 1 + 1 = omega (arith, all) in e))
 
@@ -348,8 +348,8 @@ moved_step notes by s m told step word counted right = go (is_step_of by.node.nu
   where
     go : (b : Bool) → is_step_of by.node.number told ≡ b
         → (b && (is_none (call_behind (stepped s m) by.node by.over by.call)
-        && reaches_by by.grain notes by.node (stepped s m) (steps_of by.node.number (stepped s m).kept - 1) word (word_seen by.node word told (stepped s m))))
-        ≡ (b && (is_none (call_behind (stepped s m) by.node by.over by.call) && reaches_end by.grain notes by.node (stepped s m) (steps_of by.node.number (stepped s m).kept - 1)))
+        && reaches_by by.grain by.began notes by.node (stepped s m) (steps_of by.node.number (stepped s m).kept - 1) word (word_seen by.node word told (stepped s m))))
+        ≡ (b && (is_none (call_behind (stepped s m) by.node by.over by.call) && reaches_end by.grain by.began notes by.node (stepped s m) (steps_of by.node.number (stepped s m).kept - 1)))
     go false own = refl
     go true own = ap (λ (z : Bool). is_none (call_behind (stepped s m) by.node by.over by.call) && z) (reach_alike notes by s m told step word counted right own by.grain refl)
 

@@ -1,6 +1,6 @@
 -- Conditions and hit conditions of breakpoints (Debug Adapter Protocol, "SourceBreakpoint"): a value that the node holds behind its step, as
 -- "VariablesRequest" shows it, and how it compares with a number; and which hits are asked for.
-use Rattle.std.specs.Prelude.{ℕ, ◌%◌, ◌==◌, nat_lt, nat_le, Bool, true, not, ◌&&◌, if◌then◌else◌, slice_index, Option, Some, None}
+use Rattle.std.specs.Prelude.{ℕ, ◌%◌, ◌==◌, nat_lt, nat_le, Bool, true, false, not, ◌&&◌, if◌then◌else◌, slice_index, Option, Some, None}
 use Rattle.std.specs.Int.{from_bool}
 use Rattle.ga_node.specs.Record.{NodeRecord}
 use Rattle.ga_adapter.specs.declared.variable.Variable.{Variable}
@@ -39,6 +39,11 @@ held_value n step (variable.Cell address) = held_word n address
 held_value n step variable.State = 0
 held_value n step (variable.Neighbour side) = 0
 held_value n step variable.Stuck = 0
+
+-- the value is the number of a step, and no word
+abbrev pub is_step_number : Variable → Bool
+is_step_number variable.Step = true
+is_step_number other = false
 
 -- ---- the condition
 

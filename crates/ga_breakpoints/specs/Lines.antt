@@ -1,5 +1,5 @@
 -- A node gone back by lines of its source (Debug Adapter Protocol, "StepBackRequest", "SteppingGranularity": `line`), over calls.
-use Rattle.std.specs.Prelude.{ℕ, zero, suc, ◌+◌, ◌-◌, ◌%◌, ◌==◌, Bool, true, false, ◌&&◌, ◌||◌, not, if◌then◌else◌, Option, Some, None, option_and_then}
+use Rattle.std.specs.Prelude.{ℕ, zero, suc, ◌+◌, ◌-◌, ◌%◌, ◌==◌, nat_lt, Bool, true, false, ◌&&◌, ◌||◌, not, if◌then◌else◌, Option, Some, None, option_and_then}
 use Rattle.std.specs.List.{slice_get}
 use Rattle.ga_slots.specs.declared.op.Op.{Op}
 use Rattle.ga_slots.specs.declared.op.Op.TheVariants.{Return, Execute, Jump, Call, Next, If, MinusIf}
@@ -43,13 +43,13 @@ is_jump _ = false
 abbrev pub op_at : State → NodeId → ℕ → Option Op
 op_at s node k = op_told (slice_get (history_of s node.number) k)
 
--- Of two places of which the second is a step on, the one before; where that step came back from a call, right before the call: what the call did is
--- gone over.
-abbrev pub over_call : State → NodeId → ℕ → ℕ → ℕ
-over_call s node k call = if is_calling s node call then call - 1 else k
+-- Of two places of which the second is a step on, the one before; where that step came back from a call that the node made behind so many steps, right
+-- before the call: what the call did is gone over.
+abbrev pub over_call : ℕ → State → NodeId → ℕ → ℕ → ℕ
+over_call began s node k call = if nat_lt began call && is_calling s node call then call - 1 else k
 
-abbrev pub place_back : State → NodeId → ℕ → ℕ
-place_back s node k = if is_return_op (op_at s node k) then over_call s node k (put_by s node k 0) else k
+abbrev pub place_back : ℕ → State → NodeId → ℕ → ℕ
+place_back began s node k = if is_return_op (op_at s node k) then over_call began s node k (put_by s node k 0) else k
 
 -- ---- where a line begins
 
@@ -77,22 +77,22 @@ abbrev pub comes_on : Notes → NodeId → Option Spot → Option Spot → Optio
 comes_on notes node before spot op None = false
 comes_on notes node before spot op (Some line) = is_other_line line (line_on_spot notes node before) || is_jump op && begins_on notes node line spot
 
--- a line begins behind the step after so many
-abbrev pub begins_behind : Notes → State → NodeId → ℕ → Bool
-begins_behind notes s node k =
-    comes_on notes node (spot_behind s node (place_back s node k)) (spot_behind s node (k + 1)) (op_at s node k) (line_on_spot notes node (spot_behind s node (k + 1)))
+-- a line begins behind the step after so many; calls that the node made behind so many steps are gone over
+abbrev pub begins_behind : ℕ → Notes → State → NodeId → ℕ → Bool
+begins_behind began notes s node k =
+    comes_on notes node (spot_behind s node (place_back began s node k)) (spot_behind s node (k + 1)) (op_at s node k) (line_on_spot notes node (spot_behind s node (k + 1)))
 
 -- the nearest beginning of a line at a place or before it, looked for at so many places at most; the load is one
 unfoldable pub beginning_from : Notes → State → NodeId → ℕ → ℕ → ℕ
 beginning_from notes s node zero left = 0
 beginning_from notes s node (suc k) zero = 0
 beginning_from notes s node (suc k) (suc left) =
-    if begins_behind notes s node k then suc k else beginning_from notes s node (place_back s node k) left
+    if begins_behind 0 notes s node k then suc k else beginning_from notes s node (place_back 0 s node k) left
 
 -- `stepBack` by a line: the node is gone back to where its line began, or the line before where it stands at the beginning of one
 abbrev pub line_back : Notes → State → NodeId → ℕ → ℕ
 line_back notes s node zero = 0
-line_back notes s node (suc k) = beginning_from notes s node (place_back s node k) (suc k)
+line_back notes s node (suc k) = beginning_from notes s node (place_back 0 s node k) (suc k)
 
 abbrev pub stepped_back_line : Notes → State → NodeId → State
 stepped_back_line notes s node = gone_back s node (line_back notes s node (steps_of node.number s.kept))

@@ -10,7 +10,7 @@ use Rattle.ga_event.specs.declared.made.Made.TheVariants as made
 use Rattle.ga_event.specs.Told.{steps_of}
 use Rattle.ga_lab.specs.Machine.{State, history_of}
 use Rattle.ga_origin.specs.Origins.{node_after}
-use Rattle.ga_search.specs.Conditions.{stores_in}
+use Rattle.ga_search.specs.Conditions.{stores_in, is_step_of}
 use Rattle.ga_breakpoints.specs.declared.back.Watched.{Watched}
 use Rattle.ga_breakpoints.specs.declared.back.Watched.TheVariants.{Comes, Writes}
 use Rattle.ga_breakpoints.specs.Back.{comes_to, gone_back}
@@ -59,6 +59,20 @@ hits_from s place (one ∷ rest) counts = hits_from s (place + 1) rest (with_cou
 
 abbrev pub kept_tally : State → List Breakpoint → HitTally
 kept_tally s breakpoints = record { counts = hits_from s 0 breakpoints (replicate 64 0); hit = None }
+
+-- ---- what the newest event hit
+
+-- the step behind so many of its node hit the breakpoint, which asks for its newest hit
+abbrev pub is_asked_hit : State → Breakpoint → ℕ → Bool
+is_asked_hit s one k = has_hit s one.node one k && is_hit_asked one.hits (counted_kept s one)
+
+-- the newest step of its node did
+abbrev pub is_newest_hit : State → Breakpoint → Bool
+is_newest_hit s one = nat_lt 0 (steps_of one.node.number s.kept) && is_asked_hit s one (steps_of one.node.number s.kept - 1)
+
+-- what was made, the newest event, hit the breakpoint as it is asked for
+abbrev pub has_been_hit : Made → State → Breakpoint → Bool
+has_been_hit told s one = is_step_of one.node.number told && is_newest_hit s one
 
 -- ---- `reverseContinue`
 

@@ -1,5 +1,5 @@
 -- Steps of one node (Debug Adapter Protocol, "NextRequest", "StepInRequest", "StepOutRequest", "SteppingGranularity"). A line begins forward where it
--- does backward: `begins_behind` of Lines.antt.
+-- does backward (`begins_behind` of Lines.antt), but for where the node leaves a call that it was in.
 use Rattle.std.specs.Prelude.{ℕ, zero, suc, ◌-◌, ◌==◌, Bool, true, false, ◌&&◌, if◌then◌else◌, is_none, position, Option, Some, None, option_map}
 use Rattle.std.specs.List.{range_with_len}
 use Rattle.ga_grid.specs.declared.node_id.NodeId.{NodeId}
@@ -31,12 +31,12 @@ call_behind s node over None = if over && is_calling s node (steps_of node.numbe
 -- ---- the moves
 
 -- a move of a node to its next step, or to where a line of its source begins
-abbrev pub step_in : NodeId → Grain → Stepping
-step_in node grain = record { node = node; grain = grain; over = false; call = None }
+abbrev pub step_in : State → NodeId → Grain → Stepping
+step_in s node grain = record { node = node; grain = grain; over = false; call = None; began = steps_of node.number s.kept }
 
 -- a move of a node to its next step, or to where a line of its source begins, over the calls that it makes
-abbrev pub step_over : NodeId → Grain → Stepping
-step_over node grain = record { node = node; grain = grain; over = true; call = None }
+abbrev pub step_over : State → NodeId → Grain → Stepping
+step_over s node grain = record { node = node; grain = grain; over = true; call = None; began = steps_of node.number s.kept }
 
 -- back from the newest call that is open: to where its entry stands no more on the return stack
 abbrev pub is_open_at : State → NodeId → ℕ → Bool
@@ -45,11 +45,11 @@ is_open_at s node place = is_calling s node (put_by s node (steps_of node.number
 abbrev pub open_place : State → NodeId → Option ℕ
 open_place s node = position (is_open_at s node) (range_with_len 0 9)
 
-abbrev pub out_from : NodeId → ℕ → Stepping
-out_from node newest = record { node = node; grain = Instruction; over = false; call = Some newest }
+abbrev pub out_from : State → NodeId → ℕ → Stepping
+out_from s node newest = record { node = node; grain = Instruction; over = false; call = Some newest; began = steps_of node.number s.kept }
 
 abbrev pub step_out : State → NodeId → Option Stepping
-step_out s node = option_map (out_from node) (open_place s node)
+step_out s node = option_map (out_from s node) (open_place s node)
 
 -- ---- one event
 
@@ -57,16 +57,17 @@ step_out s node = option_map (out_from node) (open_place s node)
 abbrev pub step_seen : Stepping → Made → State → Stepping
 step_seen by told s = if is_step_of by.node.number told then record by { call = call_behind s by.node by.over by.call } else by
 
--- the newest step of the node is one by which a move of this grain can end
-abbrev pub reaches_end : Grain → Notes → NodeId → State → ℕ → Bool
-reaches_end Instruction notes node s k = true
-reaches_end Line notes node s k = begins_behind notes s node k
+-- The newest step of the node is one by which a move of this grain can end that began behind so many. By lines a call that the node made since then is gone
+-- over; by coming back from another the node comes to the rest of the line that called.
+abbrev pub reaches_end : Grain → ℕ → Notes → NodeId → State → ℕ → Bool
+reaches_end Instruction began notes node s k = true
+reaches_end Line began notes node s k = begins_behind began notes s node k
 
 -- the move came to its end: the node made a step, and no call is to come back
 abbrev pub is_moved : Notes → Stepping → Made → State → Bool
 is_moved notes by told s =
     is_step_of by.node.number told
-    && (is_none (call_behind s by.node by.over by.call) && reaches_end by.grain notes by.node s (steps_of by.node.number s.kept - 1))
+    && (is_none (call_behind s by.node by.over by.call) && reaches_end by.grain by.began notes by.node s (steps_of by.node.number s.kept - 1))
 
 -- ---- the node's events, and others while it has none
 

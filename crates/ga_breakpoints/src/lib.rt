@@ -23,6 +23,6 @@ pub use halts::Halts;
 pub use hits::{COUNTED, HitTally};
 pub use lines::step_back_line;
 pub use moves::step_on;
-pub use reversing::{kept_hits, reverse_to};
+pub use reversing::{has_been_hit, kept_hits, reverse_to};
 pub use said::{condition_said, hits_said};
 pub use stepping::{Grain, Stepping};

@@ -50,17 +50,17 @@ fn is_jump(op: Option<Op>) -> bool
     }
 }
 
-/// Of the step at a place, the place before it; where it came back from a call, that of the call.
-fn place_back(lab: &Lab, node: NodeId, place: u32) -> u32
+/// Of the step at a place, the place before it; where it came back from a call that the node made behind so many steps, that of the call.
+fn place_back(lab: &Lab, node: NodeId, place: u32, began: u32) -> u32
     requires { place ≤ steps_of node.number lab.now.kept }
-    ensures value { result ≡ place_back lab.now node place }
+    ensures value { result ≡ place_back began lab.now node place }
     ensures within { result ≤ place }
 {
     if !is_return_op(op_told(&lab.told(node, place))) {
         return place;
     }
     let call = put_by(lab, node, place, 0);
-    if is_calling(lab, node, call) {
+    if began < call && is_calling(lab, node, call) {
         call.saturating_sub(1)
     } else {
         place
@@ -106,21 +106,22 @@ fn comes_on(
     }
 }
 
-/// Where a node stood before its step at a place, over the call where it came back from one, by the cell of its word before the step. The node is
-/// walked back there.
+/// Where a node stood before its step at a place, over the call where it came back from one that it made behind so many steps, by the cell of its word
+/// before the step. The node is walked back there.
 fn spot_before(
     lab: &Lab,
     walk: &mut Walk<'_>,
     node: NodeId,
     place: u32,
+    began: u32,
     word: Option<u8>,
 ) -> Option<Spot>
     requires walk { walk.old ≡ standing lab.now node walk.old.step }
     requires order { place ≤ walk.old.step }
     requires within { place ≤ steps_of node.number lab.now.kept }
-    ensures { result ≡ spot_before lab.now node place word }
+    ensures { result ≡ spot_before began lab.now node place word }
 {
-    let before = place_back(lab, node, place);
+    let before = place_back(lab, node, place, began);
     if before == place {
         walk.back_to(place);
         spot_by(walk.node(), word)
@@ -130,25 +131,27 @@ fn spot_before(
 }
 
 /// Whether a line of the source begins for a node behind its step after so many, by the cells from which its words came before the step and behind it: it
-/// came there from another line, over the call where it came back from one, or by a jump to the first slot of the first word that the line begins.
+/// came there from another line, over the call where it came back from one that it made behind as many steps as are said, or by a jump to the first
+/// slot of the first word that the line begins.
 /// Takes time by how long that call was, and else as long whatever is kept.
 pub(crate) fn begins_by(
     lab: &Lab,
     notes: &Notes,
     node: NodeId,
     step: u32,
+    began: u32,
     before: Option<u8>,
     behind: Option<u8>,
 ) -> bool
     requires { step < steps_of node.number lab.now.kept }
-    ensures { result ≡ begins_by notes.now lab.now node step before behind }
+    ensures { result ≡ begins_by began notes.now lab.now node step before behind }
 {
     // It is less than the node's steps, so that one more can be counted.
     let steps = lab.steps(node);
     prove!(step < steps);
     let mut walk = lab.walk(node, step + 1);
     let spot = spot_by(walk.node(), behind);
-    let there = spot_before(lab, &mut walk, node, step, before);
+    let there = spot_before(lab, &mut walk, node, step, began, before);
     let told = lab.told(node, step);
     comes_on(notes, node, there, spot, op_told(&told))
 }
@@ -166,7 +169,7 @@ fn beginning_from(lab: &Lab, notes: &Notes, node: NodeId, from: u32, most: u32) 
         if place == 0 {
             return 0;
         }
-        let before = place_back(lab, node, place - 1);
+        let before = place_back(lab, node, place - 1, 0);
         let there = spot_back(lab, &mut walk, node, before);
         let told = lab.told(node, place - 1);
         let op = op_told(&told);
@@ -189,7 +192,7 @@ pub fn step_back_line(lab: &mut Lab, notes: &Notes, node: NodeId) -> u32
     if steps == 0 {
         return 0;
     }
-    let from = place_back(lab, node, steps - 1);
+    let from = place_back(lab, node, steps - 1, 0);
     let keeps = beginning_from(lab, notes, node, from, steps);
     go_back(lab, node, keeps)
 }

@@ -118,16 +118,17 @@ fn reaches_by(
     notes: &Notes,
     node: NodeId,
     grain: Grain,
+    began: u32,
     step: u32,
     before: Option<u8>,
     behind: Option<u8>,
 ) -> bool
     requires { step < steps_of node.number lab.now.kept }
-    ensures { result ≡ reaches_by grain notes.now node lab.now step before behind }
+    ensures { result ≡ reaches_by grain began notes.now node lab.now step before behind }
 {
     match grain {
         Grain::Instruction => true,
-        Grain::Line => begins_by(lab, notes, node, step, before, behind),
+        Grain::Line => begins_by(lab, notes, node, step, began, before, behind),
     }
 }
 
@@ -153,7 +154,9 @@ fn is_moved_by(
         return false;
     }
     let step = newest_step(lab, made, by.node);
-    reaches_by(lab, notes, by.node, by.grain, step, before, behind)
+    reaches_by(
+        lab, notes, by.node, by.grain, by.began, step, before, behind,
+    )
 }
 
 impl<'a> Watch for Steps<'a> {

@@ -29,6 +29,8 @@ pub struct Stepping {
     pub over: bool,
     /// The place of the return stack, from 0 on, at which the entry of a call stands from which the node is to come back first.
     pub call: Option<usize>,
+    /// How many steps of the node were kept where the move began: a line goes on behind a call that the node made since.
+    pub began: u32,
 }
 
 /// Whether the entry at a place of the return stack of a node is that of a call.
@@ -52,38 +54,41 @@ impl Stepping {
     ghost use Rattle.ga_breakpoints.specs.Stepping.{step_in, step_over, out_from, step_out};
 
     /// `stepIn` (Debug Adapter Protocol, "StepInRequest").
-    pub fn step_in(node: NodeId, grain: Grain) -> Self
-        ensures { result ≡ step_in node grain }
+    pub fn step_in(lab: &Lab, node: NodeId, grain: Grain) -> Self
+        ensures { result ≡ step_in lab.now node grain }
     {
         Stepping {
             node,
             grain,
             over: false,
             call: None,
+            began: lab.steps(node),
         }
     }
 
     /// `next` (Debug Adapter Protocol, "NextRequest"): a move of a node over the calls that it makes.
-    pub fn next(node: NodeId, grain: Grain) -> Self
-        ensures { result ≡ step_over node grain }
+    pub fn next(lab: &Lab, node: NodeId, grain: Grain) -> Self
+        ensures { result ≡ step_over lab.now node grain }
     {
         Stepping {
             node,
             grain,
             over: true,
             call: None,
+            began: lab.steps(node),
         }
     }
 
     /// A move back from a call, by where its entry stands.
-    fn out_from(node: NodeId, newest: usize) -> Self
-        ensures { result ≡ out_from node newest }
+    fn out_from(lab: &Lab, node: NodeId, newest: usize) -> Self
+        ensures { result ≡ out_from lab.now node newest }
     {
         Stepping {
             node,
             grain: Grain::Instruction,
             over: false,
             call: Some(newest),
+            began: lab.steps(node),
         }
     }
 
@@ -93,7 +98,7 @@ impl Stepping {
         ensures { result ≡ step_out lab.now node }
     {
         match open_place(lab, node) {
-            Some(newest) => Some(Stepping::out_from(node, newest)),
+            Some(newest) => Some(Stepping::out_from(lab, node, newest)),
             None => None,
         }
     }

@@ -1,5 +1,5 @@
 -- What a request does in a session (Debug Adapter Protocol, "Requests"): the messages that are sent, in order, and what then stands.
-use Rattle.std.specs.Prelude.{◌≡◌, ◌≢◌, Bool, true, false, ◌&&◌, [], ◌∷◌, codes, string_bytes, Option, Some, None, is_some}
+use Rattle.std.specs.Prelude.{◌≡◌, ◌≢◌, Bool, true, false, not, ◌&&◌, if◌then◌else◌, [], ◌∷◌, codes, string_bytes, Option, Some, None, is_some}
 use Rattle.ga_text.specs.Lines.{Text}
 use Rattle.ga_protocol.specs.declared.request.ClientRequest.{ClientRequest}
 use Rattle.ga_responses.specs.Capabilities.{AnswersInitialize}
@@ -10,6 +10,7 @@ use Rattle.ga_responses.specs.declared.request_name.RequestName.{RequestName}
 use Rattle.ga_responses.specs.declared.request_name.RequestName.TheVariants as the
 use Rattle.ga_requests.specs.Moving.{run_ended}
 use Rattle.ga_requests.specs.Requests.{DoesInPlace}
+use Rattle.ga_requests.specs.declared.execution.Execution.{Execution}
 use Rattle.ga_requests.specs.declared.launched.Launched.{Launched}
 use Rattle.ga_dap.specs.declared.session.Session.{Session}
 use Rattle.ga_dap.specs.Evaluating.{Evaluates}
@@ -39,13 +40,27 @@ DoesStanding the.ReverseContinue l request messages new = OfProgram (Reverses l.
 DoesStanding the.Evaluate l request messages new = OfProgram (Evaluates l.program request) l messages new
 DoesStanding other l request messages new = DoesInPlace other l request messages new
 
--- while the chip runs it is asked for no more than what it shows, and to pause
-abbrev pub DoesUnless : Bool → RequestName → Launched → ClientRequest → Messages → Launched → Type 0
-DoesUnless true command l request messages new = (messages ≡ refused_response request (codes "the chip runs") ∷ []) × (new ≡ l)
-DoesUnless false command l request messages new = DoesStanding command l request messages new
+-- requests that begin a run
+abbrev pub begins_run : RequestName → Bool
+begins_run the.Continue = true
+begins_run the.Next = true
+begins_run the.StepIn = true
+begins_run the.StepOut = true
+begins_run other = false
+
+-- while the chip runs it is asked for no more than what it shows, and to pause; and it begins to run behind `configurationDone`
+abbrev pub hindrance : RequestName → Execution → Option Text
+hindrance command r =
+    if is_some r.goal && is_of_standing command then Some (codes "the chip runs")
+    else if not r.is_configured && begins_run command then Some (codes "configurationDone comes first")
+    else None
+
+abbrev pub DoesUnless : Option Text → RequestName → Launched → ClientRequest → Messages → Launched → Type 0
+DoesUnless (Some why) command l request messages new = (messages ≡ refused_response request why ∷ []) × (new ≡ l)
+DoesUnless None command l request messages new = DoesStanding command l request messages new
 
 abbrev pub DoesOfLaunched : RequestName → Launched → ClientRequest → Messages → Launched → Type 0
-DoesOfLaunched command l request messages new = DoesUnless (is_some l.execution.goal && is_of_standing command) command l request messages new
+DoesOfLaunched command l request messages new = DoesUnless (hindrance command l.execution) command l request messages new
 
 abbrev pub DoesIfLaunched : RequestName → Option Launched → ClientRequest → Messages → Option Launched → Type 0
 DoesIfLaunched command None request messages new = (messages ≡ refused_response request (codes "nothing is launched") ∷ []) × (new ≡ None)

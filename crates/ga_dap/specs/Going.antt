@@ -19,7 +19,7 @@ use Rattle.ga_dap.specs.Telling.{SliceTold, BackTold}
 -- some events of the run are made, and it is told what changed and why the run ended, where it did
 abbrev pub GoesOnBy : Launched → Option StopReason → Messages → Launched → Type 0
 GoesOnBy l stop messages new = MakesSlice l.program l.settings l.execution new.program new.execution stop × (new.settings ≡ l.settings)
-    × (before : ℕ → Bool) × AreShown l.program before × SliceTold before new.program stop messages
+    × (before : ℕ → Bool) × AreShown l.program before × SliceTold before new.program new.settings stop messages
 
 abbrev pub RunGoesOn : Launched → Messages → Launched → Type 0
 RunGoesOn l messages new = (stop : Option StopReason) × GoesOnBy l stop messages new

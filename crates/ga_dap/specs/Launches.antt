@@ -1,6 +1,6 @@
 -- `launch` (Debug Adapter Protocol, "LaunchRequest", "InitializedEvent"): a program is opened, or it is told why none is. A host has files:
 -- what it gives of one is a relation of its own.
-use Rattle.std.specs.Prelude.{◌≡◌, ◌⊎◌, ℕ, true, false, [], ◌∷◌, ◌++◌, codes, string_bytes, Option, Some, None, Result, Ok, Err}
+use Rattle.std.specs.Prelude.{◌≡◌, ◌⊎◌, ℕ, true, false, [], ◌∷◌, ◌++◌, replicate, codes, string_bytes, Option, Some, None, Result, Ok, Err}
 use Rattle.serde_json.specs.Data.{Data}
 use Rattle.serde_json.specs.View.{view}
 use Rattle.ga_text.specs.Lines.{Bytes, Text}
@@ -56,6 +56,7 @@ pub record IsLaunched (text : Bytes) (path : Text) (limit : ℕ) (schedule : Sch
   pub stands : l.execution.goal ≡ None
   pub open_still : l.execution.is_configured ≡ false
   pub entry : l.execution.stops_on_entry ≡ stops_on_entry arguments
+  pub untold : l.execution.reported ≡ replicate 144 false
 
 -- what is told of a launch: the response, what the source is warned of, where it is, and that the client may set breakpoints
 abbrev pub launch_told : ClientRequest → Messages → Messages
@@ -90,7 +91,7 @@ LaunchesAsked G host request None limit schedule messages after new = RefusesLau
 LaunchesAsked G host request (Some path) None schedule messages after new =
     RefusesLaunch host request (codes "launch: the limit is 1 to 4000000") messages after new
 LaunchesAsked G host request (Some path) (Some limit) None messages after new =
-    RefusesLaunch host request (codes "launch: the order is rounds, greedy, or random with a seed") messages after new
+    RefusesLaunch host request (codes "launch: the order is rounds, greedy, or random with a seed of 0 to 4294967295") messages after new
 LaunchesAsked G host request (Some path) (Some limit) (Some schedule) messages after new = ReadsFile G host request path limit schedule messages after new
 
 abbrev pub LaunchesFirst : {S : Type 0} → FileGiving S → S → ClientRequest → Messages → S → Option Launched → Type 0

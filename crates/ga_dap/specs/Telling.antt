@@ -7,6 +7,7 @@ use Rattle.ga_protocol.specs.declared.request.ClientRequest.{ClientRequest}
 use Rattle.ga_responses.specs.declared.debuggee.Debuggee.{Debuggee}
 use Rattle.ga_responses.specs.Events.{changed_below}
 use Rattle.ga_responses.specs.Sending.{Message, Messages, acknowledged}
+use Rattle.ga_requests.specs.declared.configuration.Configuration.{Configuration}
 use Rattle.ga_requests.specs.declared.execution.StopReason.{StopReason}
 use Rattle.ga_requests.specs.Configuring.{AreShown}
 use Rattle.ga_requests.specs.Stopping.{stopped, TellsStop}
@@ -24,12 +25,13 @@ StandsThen before new reason description node messages =
     (changed : Messages) × ThreadsChanged before new changed × (messages ≡ changed ++ (stopped reason description node.number ∷ []))
 
 -- what is told behind a slice of a run: why the run ended, where it did
-abbrev pub StopTold : Debuggee → Option StopReason → Messages → Type 0
-StopTold p None messages = messages ≡ []
-StopTold p (Some why) messages = (message : Message) × TellsStop p why message × (messages ≡ message ∷ [])
+abbrev pub StopTold : Debuggee → Configuration → Option StopReason → Messages → Type 0
+StopTold p set None messages = messages ≡ []
+StopTold p set (Some why) messages = (message : Message) × TellsStop p set why message × (messages ≡ message ∷ [])
 
-abbrev pub SliceTold : (ℕ → Bool) → Debuggee → Option StopReason → Messages → Type 0
-SliceTold before new stop messages = (changed : Messages) × (ended : Messages) × ThreadsChanged before new changed × StopTold new stop ended × (messages ≡ changed ++ ended)
+abbrev pub SliceTold : (ℕ → Bool) → Debuggee → Configuration → Option StopReason → Messages → Type 0
+SliceTold before new set stop messages =
+    (changed : Messages) × (ended : Messages) × ThreadsChanged before new changed × StopTold new set stop ended × (messages ≡ changed ++ ended)
 
 -- what is told behind a move back: the response, what went, and that the chip stands
 abbrev pub BackTold : (ℕ → Bool) → Debuggee → ClientRequest → NodeId → Text → Text → Messages → Type 0

@@ -13,7 +13,7 @@ use crate::evaluating::text_body;
 use crate::unanswered::Unanswered;
 use ga_grid::NodeId;
 use ga_protocol::{ClientRequest, Outbox};
-use ga_requests::{Gone, StopReason, gone_text, tell_stop};
+use ga_requests::{Configuration, Gone, StopReason, gone_text, tell_stop};
 use ga_responses::{Debuggee, shown_nodes, tell_changed, tell_output, tell_stopped};
 use std::alloc::{AllocError, Global};
 
@@ -51,13 +51,14 @@ fn tell_standing(
 fn tell_end(
     alloc: Global,
     program: &Debuggee,
+    settings: &Configuration,
     stop: Option<StopReason>,
     out: &mut Outbox,
 ) -> Result<(), AllocError>
-    ensures { OnOk result ((messages : Messages) × StopTold program.now stop messages × SendsAll out.old messages out.new) }
+    ensures { OnOk result ((messages : Messages) × StopTold program.now settings.now stop messages × SendsAll out.old messages out.new) }
 {
     match stop {
-        Some(why) => tell_stop(alloc, program, why, out),
+        Some(why) => tell_stop(alloc, program, settings, why, out),
         None => Ok(()),
     }
 }
@@ -65,34 +66,36 @@ fn tell_end(
 fn tell_slice(
     alloc: Global,
     program: &Debuggee,
+    settings: &Configuration,
     before: &[bool; 144],
     stop: Option<StopReason>,
     out: &mut Outbox,
 ) -> Result<(), AllocError>
-    ensures { OnOk result ((messages : Messages) × SliceTold (is_marked before.now) program.now stop messages × SendsAll out.old messages out.new) }
+    ensures { OnOk result ((messages : Messages) × SliceTold (is_marked before.now) program.now settings.now stop messages × SendsAll out.old messages out.new) }
 {
     tell_threads(alloc, program, before, out)?;
-    tell_end(alloc, program, stop, out)
+    tell_end(alloc, program, settings, stop, out)
 }
 
 /// Tells of a slice of a run.
 pub(crate) fn tell_slice_twice(
     alloc: Global,
     program: &Debuggee,
+    settings: &Configuration,
     before: &[bool; 144],
-    stop: Option<StopReason>,
+    stop: &Option<StopReason>,
     out: &mut Outbox,
 ) -> Result<(), Unanswered>
     requires { out.old.bytes ≡ [] }
-    ensures { Carries result (λ messages. SliceTold (is_marked before.now) program.now stop messages) ⊥ out.old out.new }
+    ensures { Carries result (λ messages. SliceTold (is_marked before.now) program.now settings.now stop.now messages) ⊥ out.old out.new }
 {
     let seq = out.seq();
-    match tell_slice(alloc, program, before, stop, out) {
+    match tell_slice(alloc, program, settings, before, *stop, out) {
         Ok(()) => return Ok(()),
         Err(_) => {}
     }
     out.take_back(seq);
-    match tell_slice(alloc, program, before, stop, out) {
+    match tell_slice(alloc, program, settings, before, *stop, out) {
         Ok(()) => Ok(()),
         Err(_) => Err(Unanswered::Untold),
     }

@@ -90,6 +90,7 @@ fn launched_text(
                 tally: None,
                 is_configured: false,
                 stops_on_entry: stops_on_entry(&request.arguments),
+                reported: [false; 144],
             };
             let settings = Configuration::new(alloc);
             Ok(Some(Launched {
@@ -135,7 +136,7 @@ fn launched_limit<S: ProgramFiles>(
     match schedule_asked(&request.arguments) {
         None => refuse_launch(
             request,
-            "launch: the order is rounds, greedy, or random with a seed",
+            "launch: the order is rounds, greedy, or random with a seed of 0 to 4294967295",
             out,
         ),
         Some(schedule) => launched_file(alloc, sources, request, path, limit, schedule, out),

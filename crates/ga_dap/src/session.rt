@@ -1,10 +1,10 @@
 //! A session: what was launched, and the requests of the client.
 
-ghost use Rattle.std.specs.Prelude.{◌≡◌, ◌&&◌, [], ◌∷◌, Option, Some, None, codes, string_bytes, is_some, OnOk, OnErr};
+ghost use Rattle.std.specs.Prelude.{◌≡◌, ◌&&◌, [], ◌∷◌, Option, Some, None, codes, string_bytes, is_some, option_map, OnOk, OnErr};
 ghost use Rattle.ga_requests.specs.Requests.{DoesInPlace};
 ghost use Rattle.ga_requests.specs.declared.launched.Launched.{Launched as ALaunched};
 ghost use Rattle.ga_responses.specs.Sending.{SendsAll, Messages, acknowledged};
-ghost use Rattle.ga_dap.specs.Answering.{AnswersRequest, AnswersKnown, DoesOfLaunched, DoesStanding, DoesIfLaunched, OfLaunch, Initializes, Disconnects, Terminates, ended_run, is_of_standing};
+ghost use Rattle.ga_dap.specs.Answering.{AnswersRequest, AnswersKnown, DoesOfLaunched, DoesStanding, DoesIfLaunched, OfLaunch, Initializes, Disconnects, Terminates, ended_run, is_of_standing, begins_run, hindrance};
 ghost use Rattle.ga_dap.specs.Client.{is_running, new_session};
 ghost use Rattle.ga_dap.specs.Going.{RunGoesOn};
 ghost use Rattle.ga_dap.specs.Launches.{Launches, event_alone};
@@ -17,7 +17,7 @@ use crate::launching::launched_first;
 use crate::sources::ProgramFiles;
 use crate::unanswered::Unanswered;
 use ga_protocol::{ClientRequest, Outbox};
-use ga_requests::{Launched, answer_in_place, make_slice};
+use ga_requests::{Execution, Launched, answer_in_place, make_slice};
 use ga_responses::{RequestName, initialize, request_named, shown_nodes};
 use std::alloc::{AllocError, Global};
 
@@ -204,6 +204,32 @@ fn is_of_standing(command: RequestName) -> bool
     }
 }
 
+/// Whether a request begins a run.
+fn begins_run(command: RequestName) -> bool
+    ensures { result ≡ begins_run command }
+{
+    match command {
+        RequestName::Continue => true,
+        RequestName::Next => true,
+        RequestName::StepIn => true,
+        RequestName::StepOut => true,
+        _ => false,
+    }
+}
+
+/// Why a request that needs a program is not carried out now; none where it is.
+fn hindrance(command: RequestName, execution: &Execution) -> Option<&'static str>
+    ensures { option_map (λ why. why.now) result ≡ hindrance command execution.now }
+{
+    if execution.goal.is_some() && is_of_standing(command) {
+        return Some("the chip runs");
+    }
+    if !execution.is_configured && begins_run(command) {
+        return Some("configurationDone comes first");
+    }
+    None
+}
+
 /// Answers a request that needs a program.
 fn answer_by(
     alloc: Global,
@@ -215,10 +241,9 @@ fn answer_by(
     requires { out.old.bytes ≡ [] }
     ensures { Carries result (λ messages. DoesOfLaunched command launched.old request.now messages launched.new) (launched.new ≡ launched.old) out.old out.new }
 {
-    if launched.execution.goal.is_some() && is_of_standing(command) {
-        refuse(request, "the chip runs", out)
-    } else {
-        answer_standing(alloc, launched, command, request, out)
+    match hindrance(command, &launched.execution) {
+        Some(why) => refuse(request, why, out),
+        None => answer_standing(alloc, launched, command, request, out),
     }
 }
 
@@ -279,5 +304,6 @@ pub(crate) fn go_on_launched(
         &launched.settings,
         &mut launched.execution,
     );
-    tell_slice_twice(alloc, &launched.program, &before, stop, out)
+    let (program, settings) = (&launched.program, &launched.settings);
+    tell_slice_twice(alloc, program, settings, &before, &stop, out)
 }

@@ -38,8 +38,8 @@ Continues r request messages new = (messages ≡ answered request continued ∷ 
 
 -- the move of a node that is asked for; none where no call is open from which it could come back
 abbrev pub stepping_of : Debuggee → StepKind → NodeId → Data → Option Stepping
-stepping_of p Over node d = Some (step_over node (grain_asked p d))
-stepping_of p In node d = Some (step_in node (grain_asked p d))
+stepping_of p Over node d = Some (step_over p.lab node (grain_asked p d))
+stepping_of p In node d = Some (step_in p.lab node (grain_asked p d))
 stepping_of p Out node d = step_out p.lab node
 
 abbrev pub BeginsStepping : Execution → ClientRequest → Option Stepping → Message → Execution → Type 0

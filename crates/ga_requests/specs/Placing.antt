@@ -1,6 +1,6 @@
 -- Where the breakpoints stand that are asked for (Debug Adapter Protocol, "SourceBreakpoint", "FunctionBreakpoint", "InstructionBreakpoint", "DataBreakpoint"),
 -- and what is told of each ("Breakpoint").
-use Rattle.std.specs.Prelude.{◌≡◌, ℕ, ◌+◌, ◌%◌, ◌^◌, ◌==◌, nat_lt, Bool, true, false, ◌&&◌, ◌||◌, if◌then◌else◌, List, [], ◌∷◌, ◌++◌, take, drop, length, slice_index, position, codes, bytes_eq, string_bytes, Option, Some, None, option_map, option_and_then, Result, Ok, Err}
+use Rattle.std.specs.Prelude.{◌≡◌, ℕ, ◌+◌, ◌%◌, ◌^◌, ◌==◌, nat_lt, Bool, true, false, not, ◌&&◌, ◌||◌, if◌then◌else◌, is_some, List, [], ◌∷◌, ◌++◌, take, drop, length, slice_index, position, codes, bytes_eq, string_bytes, Option, Some, None, option_map, option_and_then, Result, Ok, Err}
 use Rattle.std.specs.List.{slice_get}
 use Rattle.serde_json.specs.Data.{Data, string, boolean, object, no_members, member}
 use Rattle.ga_text.specs.Lines.{Text}
@@ -14,6 +14,8 @@ use Rattle.ga_breakpoints.specs.declared.back.Watched.TheVariants.{Writes}
 use Rattle.ga_breakpoints.specs.declared.breakpoint.Breakpoint.{Breakpoint}
 use Rattle.ga_breakpoints.specs.declared.breakpoint.LineBreakpoint.{LineBreakpoint}
 use Rattle.ga_breakpoints.specs.declared.condition.ValueTest.{ValueTest}
+use Rattle.ga_breakpoints.specs.Conditions.{is_step_number}
+use Rattle.serde_json.specs.Find.{get, as_str, as_null}
 use Rattle.ga_breakpoints.specs.declared.condition.HitCount.{HitCount}
 use Rattle.ga_breakpoints.specs.Saying.{condition_said, hits_said}
 use Rattle.ga_breakpoints.specs.Breakpoints.{breakpoint_of_line, breakpoint_of_address}
@@ -25,7 +27,7 @@ use Rattle.ga_requests.specs.declared.configuration.Family.TheVariants as family
 use Rattle.ga_requests.specs.declared.configuration.SetBy.{SetBy}
 use Rattle.ga_requests.specs.declared.finding.FoundPlace.{FoundPlace}
 use Rattle.ga_requests.specs.declared.finding.Unplaced.{Unplaced}
-use Rattle.ga_requests.specs.declared.finding.Unplaced.TheVariants.{Nowhere, Condition, Hits, Uncounted}
+use Rattle.ga_requests.specs.declared.finding.Unplaced.TheVariants.{Nowhere, Condition, Range, Hits, Uncounted}
 
 -- ---- on a line of the source
 
@@ -93,15 +95,29 @@ IsPlaceOf p family.Instruction d found =
 IsPlaceOf p family.Data d found =
     (point : Option Breakpoint) × IsReferredBy on_writes (member_text (codes "dataId") d) point × (found ≡ option_map on_no_line point)
 
--- ---- which of its hits end a run: a condition or a hit condition that can't be read is told, and nothing is set
+-- ---- which of its hits end a run: a condition or a hit condition that can't be read is told, and nothing is set; null is none
+
+-- a member is there, and is neither text nor null
+abbrev pub is_other_kind : Option Data → Bool
+is_other_kind None = false
+is_other_kind (Some given) = not (is_some (as_str given)) && not (is_some (as_null given))
+
+abbrev pub is_no_text : Text → Data → Bool
+is_no_text name d = is_other_kind (get name d)
+
+-- a word has 18 bits; the number of a step is any
+abbrev pub can_be : ValueTest → Bool
+can_be test = nat_lt test.number 262144 || is_step_number test.variable
 
 abbrev pub on_condition : FoundPlace → Option ValueTest → Result FoundPlace Unplaced
 on_condition place None = Err Condition
-on_condition place (Some test) = Ok (record place { breakpoint = record place.breakpoint { condition = Some test } })
+on_condition place (Some test) =
+    if can_be test then Ok (record place { breakpoint = record place.breakpoint { condition = Some test } }) else Err Range
 
-abbrev pub with_condition : FoundPlace → Option Text → Result FoundPlace Unplaced
-with_condition place None = Ok place
-with_condition place (Some text) = on_condition place (condition_said text)
+abbrev pub with_condition : FoundPlace → Bool → Option Text → Result FoundPlace Unplaced
+with_condition place true text = Err Condition
+with_condition place false None = Ok place
+with_condition place false (Some text) = on_condition place (condition_said text)
 
 -- hits are counted of the first 64 breakpoints
 abbrev pub on_hits : FoundPlace → ℕ → Option HitCount → Result FoundPlace Unplaced
@@ -109,16 +125,17 @@ on_hits place before None = Err Hits
 on_hits place before (Some hits) =
     if nat_lt before 64 then Ok (record place { breakpoint = record place.breakpoint { hits = Some hits } }) else Err Uncounted
 
-abbrev pub with_hits : FoundPlace → ℕ → Option Text → Result FoundPlace Unplaced
-with_hits place before None = Ok place
-with_hits place before (Some text) = on_hits place before (hits_said text)
+abbrev pub with_hits : FoundPlace → ℕ → Bool → Option Text → Result FoundPlace Unplaced
+with_hits place before true text = Err Hits
+with_hits place before false None = Ok place
+with_hits place before false (Some text) = on_hits place before (hits_said text)
 
 abbrev pub then_hits : ℕ → Data → Result FoundPlace Unplaced → Result FoundPlace Unplaced
 then_hits before d (Err why) = Err why
-then_hits before d (Ok place) = with_hits place before (member_text (codes "hitCondition") d)
+then_hits before d (Ok place) = with_hits place before (is_no_text (codes "hitCondition") d) (member_text (codes "hitCondition") d)
 
 abbrev pub asked_there : FoundPlace → ℕ → Data → Result FoundPlace Unplaced
-asked_there place before d = then_hits before d (with_condition place (member_text (codes "condition") d))
+asked_there place before d = then_hits before d (with_condition place (is_no_text (codes "condition") d) (member_text (codes "condition") d))
 
 -- the breakpoint that is asked for, where so many stand before it; else why it is not set
 abbrev pub asked_at : Option FoundPlace → ℕ → Data → Result FoundPlace Unplaced
@@ -136,6 +153,7 @@ unfound_words family.Data = codes "no such cell of RAM"
 abbrev pub unplaced_words : Family → Unplaced → Text
 unplaced_words kind Nowhere = unfound_words kind
 unplaced_words kind Condition = codes "condition: a register or [HH], then = != < <= > or >=, then a number"
+unplaced_words kind Range = codes "condition: the number is past 0x3ffff, the last word"
 unplaced_words kind Hits = codes "hitCondition: N, >= N or % N, from 1 on"
 unplaced_words kind Uncounted = codes "hitCondition: hits are counted of 64 breakpoints at most"
 

@@ -1,8 +1,9 @@
 -- A slice of the run under way, made while no request has come (Debug Adapter Protocol, "ContinueRequest", "NextRequest", "StoppedEvent"): the events of the
 -- order, at most so many, and why the run ends behind them, where it does. So a run in slices is one run, however it is cut.
-use Rattle.std.specs.Prelude.{◌≡◌, ◌≤◌, ◌<◌, ◌⊎◌, ℕ, Bool, true, false, ◌&&◌, not, ◌==◌, List, Option, Some, None}
+use Rattle.std.specs.Prelude.{◌≡◌, ◌≤◌, ◌<◌, ◌⊎◌, ℕ, Bool, true, false, ◌&&◌, not, ◌==◌, if◌then◌else◌, List, replicate, Option, Some, None}
 use Rattle.std.specs.List.{slice_get}
 use Rattle.ga_races.specs.Acts.{IsSubset, AreStuck}
+use Rattle.ga_causal.specs.Dependence.{is_marked}
 use Rattle.ga_node.specs.Record.{NodeRecord}
 use Rattle.ga_grid.specs.Chip.{record_at}
 use Rattle.ga_grid.specs.declared.node_id.NodeId.{NodeId}
@@ -30,7 +31,6 @@ use Rattle.ga_requests.specs.declared.execution.StopReason.{StopReason}
 use Rattle.ga_requests.specs.declared.execution.StopReason.TheVariants as stop
 use Rattle.ga_responses.specs.declared.debuggee.Debuggee.{Debuggee}
 use Rattle.ga_requests.specs.declared.configuration.Configuration.{Configuration}
-use Rattle.ga_requests.specs.declared.configuration.SetBy.{SetBy}
 use Rattle.ga_responses.specs.Disassembling.{program_notes}
 
 -- at most so many events are made before a request is looked for again
@@ -72,28 +72,24 @@ abbrev pub node_told : Made → NodeId
 node_told (Own node step kind) = node
 node_told (Pass writer i reader j word) = reader
 
--- why a run ends at a breakpoint of this number
-abbrev pub hit_by : NodeId → ℕ → Watched → StopReason
-hit_by node id (watched.Comes spot) = stop.Breakpoint node id
-hit_by node id (watched.Writes address) = stop.Write node id
+-- why a run ends by what was made, which hit a breakpoint
+abbrev pub hit_by : NodeId → Made → Watched → StopReason
+hit_by node told (watched.Comes spot) = stop.Breakpoint node told
+hit_by node told (watched.Writes address) = stop.Write node told
 
-abbrev pub hit_of : Option Breakpoint → ℕ → Made → StopReason
-hit_of None id told = stop.Breakpoint (node_told told) id
-hit_of (Some point) id told = hit_by point.node id point.watched
-
-abbrev pub id_of : Option SetBy → ℕ
-id_of None = 0
-id_of (Some placed) = placed.id
+abbrev pub hit_of : Option Breakpoint → Made → StopReason
+hit_of None told = stop.Step (node_told told)
+hit_of (Some point) told = hit_by point.node told point.watched
 
 abbrev pub hit_at : Configuration → Made → ℕ → StopReason
-hit_at set told place = hit_of (slice_get set.points.points.items place) (id_of (slice_get set.points.placed.items place)) told
+hit_at set told place = hit_of (slice_get set.points.points.items place) told
 
 -- why a run ends where its move came to its end
 abbrev pub end_of_move : Goal → Made → StopReason
 end_of_move Continue told = stop.Step (node_told told)
 end_of_move (Step by) told = stop.Step by.node
 
--- why a run ends: a node came to be stuck that was not before, where the filter says so; else another reason
+-- why a run ends: a node came to be stuck by its events, where the filter says so; else another reason
 abbrev pub ended_stuck : Bool → Option NodeId → Option StopReason → Option StopReason
 ended_stuck true (Some node) other = Some (stop.Stuck node)
 ended_stuck asked stuck other = other
@@ -101,28 +97,43 @@ ended_stuck asked stuck other = other
 abbrev pub stop_by : Configuration → Goal → Option NodeId → Halt → Option StopReason
 stop_by set goal stuck (halt.Hit told which) = Some (hit_at set told which)
 stop_by set goal stuck (halt.Stopped told) = Some (stop.Stopped (node_told told))
-stop_by set goal stuck (halt.Moved told) = Some (end_of_move goal told)
+stop_by set goal stuck (halt.Moved told) = ended_stuck set.stuck stuck (Some (end_of_move goal told))
 stop_by set goal stuck (halt.Refused why) = Some (stop.Refused why)
 stop_by set goal stuck halt.Cut = ended_stuck set.stuck stuck None
 stop_by set goal stuck halt.Quiet = ended_stuck set.stuck stuck (Some stop.Quiet)
 
--- ---- nodes that came to be stuck
+-- ---- nodes that are stuck
 
 -- the greatest set of nodes that can never go on
 abbrev pub MarksStuck : List NodeRecord → (ℕ → Bool) → Type 0
 MarksStuck chip marks = AreStuck chip marks × ((others : ℕ → Bool) → AreStuck chip others → IsSubset others marks)
 
--- a node that has something to show, and isn't stopped, can never go on now and could before
+-- a node that has something to show, and isn't stopped, can never go on, and is not among those that are known
 abbrev pub is_newly_by : Bool → Bool → Debuggee → ℕ → Bool
-is_newly_by before now p n = now && not before && has_thread p.lab p.nodes.items n && (record_at (chip_of p.lab) n).stop == 0
+is_newly_by known now p n = now && not known && has_thread p.lab p.nodes.items n && (record_at (chip_of p.lab) n).stop == 0
 
 abbrev pub is_newly : (ℕ → Bool) → (ℕ → Bool) → Debuggee → ℕ → Bool
-is_newly before now p n = is_newly_by (before n) (now n) p n
+is_newly known now p n = is_newly_by (known n) (now n) p n
 
--- the first node that has something to show, isn't stopped, and came to be stuck, if there is one
+-- the first such node, if there is one
 abbrev pub IsFirstNewly : (ℕ → Bool) → (ℕ → Bool) → Debuggee → Option NodeId → Type 0
-IsFirstNewly before now p None = (n : ℕ) → n < 144 → is_newly before now p n ≡ false
-IsFirstNewly before now p (Some node) = (is_newly before now p node.number ≡ true) × ((n : ℕ) → n < node.number → is_newly before now p n ≡ false)
+IsFirstNewly known now p None = (n : ℕ) → n < 144 → is_newly known now p n ≡ false
+IsFirstNewly known now p (Some node) = (is_newly known now p node.number ≡ true) × ((n : ℕ) → n < node.number → is_newly known now p n ≡ false)
+
+-- the filter says whether the client is told
+abbrev pub asked_stuck : Bool → Option NodeId → Option NodeId
+asked_stuck true stuck = stuck
+asked_stuck false stuck = None
+
+-- a run ended since a node is stuck
+abbrev pub is_stuck_stop : Option StopReason → Bool
+is_stuck_stop (Some (stop.Stuck node)) = true
+is_stuck_stop _ = false
+
+-- The nodes of which the client was told behind a slice, before which those were stuck and behind which these are: with one that is told all are; a
+-- node that came to be stuck and was not told, since the run ended for another reason, is not among them; nor is any, where the filter is off.
+abbrev pub reported_behind : Bool → Option StopReason → List Bool → List Bool → List Bool
+reported_behind asked result before now = if asked then (if is_stuck_stop result then now else before) else replicate 144 false
 
 -- ---- a slice
 
@@ -130,12 +141,25 @@ abbrev pub goal_behind : Execution → Option StopReason → Execution
 goal_behind r None = r
 goal_behind r (Some why) = record r { goal = None }
 
+-- the events of a slice, before which these nodes are stuck
+abbrev pub MakesEvents : Goal → List Bool → Debuggee → Configuration → Execution → Debuggee → Execution → Option StopReason → Type 0
+MakesEvents goal before p set r new next result =
+    (went : Went) × (between : Execution) × (now : List Bool) × (stuck : Option NodeId) × Advances goal p set r new between went
+    × MarksStuck (chip_of new.lab) (is_marked now) × IsFirstNewly (is_marked before) (is_marked now) new stuck
+    × (result ≡ stop_by set goal stuck went.halt)
+    × (next ≡ goal_behind (record between { reported = reported_behind set.stuck result before now }) result)
+
+-- a slice that begins with a stuck node of which the client was not told makes no event: it is told
+abbrev pub MakesUnless : Option NodeId → Goal → List Bool → Debuggee → Configuration → Execution → Debuggee → Execution → Option StopReason → Type 0
+MakesUnless (Some node) goal before p set r new next result =
+    (new ≡ p) × (next ≡ record r { goal = None; reported = before }) × (result ≡ Some (stop.Stuck node))
+MakesUnless None goal before p set r new next result = MakesEvents goal before p set r new next result
+
 abbrev pub MakesSliceOf : Option Goal → Debuggee → Configuration → Execution → Debuggee → Execution → Option StopReason → Type 0
 MakesSliceOf None p set r new next result = (new ≡ p) × (next ≡ r) × (result ≡ None)
 MakesSliceOf (Some goal) p set r new next result =
-    (went : Went) × (between : Execution) × (before now : ℕ → Bool) × (stuck : Option NodeId) × Advances goal p set r new between went
-    × MarksStuck (chip_of p.lab) before × MarksStuck (chip_of new.lab) now × IsFirstNewly before now new stuck
-    × (result ≡ stop_by set goal stuck went.halt) × (next ≡ goal_behind between result)
+    (before : List Bool) × (stuck : Option NodeId) × MarksStuck (chip_of p.lab) (is_marked before)
+    × IsFirstNewly (is_marked r.reported) (is_marked before) p stuck × MakesUnless (asked_stuck set.stuck stuck) goal before p set r new next result
 
 abbrev pub MakesSlice : Debuggee → Configuration → Execution → Debuggee → Execution → Option StopReason → Type 0
 MakesSlice p set r new next result = MakesSliceOf r.goal p set r new next result

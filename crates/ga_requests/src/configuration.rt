@@ -3,8 +3,10 @@
 ghost use Rattle.std.specs.Prelude.{◌≡◌, map, IfOk};
 ghost use Rattle.ga_requests.specs.declared.configuration.SetBy.{SetBy as ASetBy};
 ghost use Rattle.ga_requests.specs.Breakpoints.{family_number, is_of_another};
+ghost use Rattle.ga_requests.specs.Stopping.{is_one_hit};
 
-use ga_breakpoints::{Breakpoint, Halts, HitTally};
+use ga_breakpoints::{Breakpoint, Halts, HitTally, has_been_hit};
+use ga_lab::{Lab, Made};
 use std::alloc::{AllocError, Global};
 
 /// Which request set a breakpoint.
@@ -78,11 +80,30 @@ pub(crate) fn breakpoints_of(alloc: Global, placed: &[SetBy]) -> Result<Vec<Brea
     Ok(list)
 }
 
+/// Whether what was made, the newest event, hit a breakpoint as it is asked for.
+#[tactic(auto, unfolding(crate::specs::Stopping::is_one_hit))]
+fn is_one_hit(lab: &Lab, made: &Made, one: SetBy) -> bool
+    ensures { result ≡ is_one_hit made.now lab.now one }
+{
+    has_been_hit(lab, made, &one.breakpoint)
+}
+
+/// The numbers of some breakpoints.
+fn ids_of(alloc: Global, placed: &[SetBy]) -> Result<Vec<u64>, AllocError>
+    ensures { IfOk result (λ list. list.items ≡ map (λ (one : ASetBy). one.id) placed.now) }
+{
+    let mut list = Vec::new(alloc);
+    'placed: for one in placed {
+        list.push(one.id)?;
+    }
+    Ok(list)
+}
+
 impl Points {
     ghost use Rattle.std.specs.Prelude.{◌≡◌, [], filter, IfOk};
     ghost use Rattle.std.specs.List.{slice_get};
     ghost use Rattle.ga_requests.specs.Breakpoints.{is_of_another};
-    ghost use Rattle.ga_requests.specs.Slices.{id_of};
+    ghost use Rattle.ga_requests.specs.Stopping.{is_one_hit, ids_hit};
 
     /// No breakpoints.
     pub fn none(alloc: Global) -> Self
@@ -110,14 +131,25 @@ impl Points {
         Ok(list)
     }
 
-    /// The number of the breakpoint at a place.
-    pub fn id_at(&self, place: usize) -> u64
-        ensures { result ≡ id_of (slice_get self.now.placed.items place) }
+    /// The breakpoints that what was made, the newest event, hit as they are asked for.
+    fn hits(&self, alloc: Global, lab: &Lab, made: &Made) -> Result<Vec<SetBy>, AllocError>
+        ensures { IfOk result (λ list. list.items ≡ filter (is_one_hit made.now lab.now) self.now.placed.items) }
     {
-        match self.placed.get(place) {
-            Some(placed) => placed.id,
-            None => 0,
+        let mut list = Vec::new(alloc);
+        'placed: for one in &self.placed {
+            if is_one_hit(lab, made, *one) {
+                list.push(*one)?;
+            }
         }
+        Ok(list)
+    }
+
+    /// The numbers of the breakpoints that what was made, the newest event, hit as they are asked for.
+    pub fn ids_hit(&self, alloc: Global, lab: &Lab, made: &Made) -> Result<Vec<u64>, AllocError>
+        ensures { IfOk result (λ ids. ids.items ≡ ids_hit made.now lab.now self.now.placed.items) }
+    {
+        let hits = self.hits(alloc, lab, made)?;
+        ids_of(alloc, hits.as_slice())
     }
 
     /// The breakpoint at a place.

@@ -1,13 +1,14 @@
 //! The run under way.
 
-ghost use Rattle.std.specs.Prelude.{◌≡◌, ◌≤◌, Some};
+ghost use Rattle.std.specs.Prelude.{◌≡◌, ◌≤◌, Option, Some, None};
 ghost use Rattle.ga_search.specs.Running.{running};
 ghost use Rattle.ga_search.specs.Watched.{after_first};
 ghost use Rattle.ga_breakpoints.specs.Going.{HasGone, tally_on, stepping_on};
 ghost use Rattle.ga_breakpoints.specs.Stepping.{stepped_on};
 ghost use Rattle.ga_lab.specs.Machine.{chip_of};
+ghost use Rattle.ga_grid.specs.declared.node_id.NodeId.{NodeId as ANode};
 ghost use Rattle.ga_causal.specs.Dependence.{is_marked};
-ghost use Rattle.ga_requests.specs.Slices.{slice_limit, tally_begun, GoesOn, StepsOn, Advances, MarksStuck, MakesSliceOf, MakesSlice, IsFirstNewly, is_newly_by, is_newly, hit_at, hit_of, end_of_move, node_told, stop_by, ended_stuck, goal_behind};
+ghost use Rattle.ga_requests.specs.Slices.{slice_limit, tally_begun, GoesOn, StepsOn, Advances, MarksStuck, MakesSliceOf, MakesSlice, MakesEvents, IsFirstNewly, is_newly_by, is_newly, asked_stuck, is_stuck_stop, reported_behind, hit_at, hit_of, end_of_move, node_told, stop_by, ended_stuck, goal_behind};
 
 use crate::configuration::Configuration;
 use ga_adapter::has_thread;
@@ -46,6 +47,8 @@ pub struct Execution {
     pub is_configured: bool,
     /// Whether the chip stands at load until the client goes on.
     pub stops_on_entry: bool,
+    /// The nodes that were stuck when the client was last told of such a node, as far as they are stuck still.
+    pub reported: [bool; 144],
 }
 
 /// Why a run ended.
@@ -53,10 +56,10 @@ pub struct Execution {
 pub enum StopReason {
     /// The step of this node was made.
     Step(NodeId),
-    /// A node came to the breakpoint of this number.
-    Breakpoint { node: NodeId, id: u64 },
-    /// A node wrote the watched cell of this number.
-    Write { node: NodeId, id: u64 },
+    /// A node came to a breakpoint by what was made.
+    Breakpoint { node: NodeId, made: Made },
+    /// A node wrote a watched cell by what was made.
+    Write { node: NodeId, made: Made },
     /// The node stopped.
     Stopped(NodeId),
     /// The node can never go on.
@@ -77,63 +80,54 @@ fn node_of(made: Made) -> NodeId
     }
 }
 
-/// Why a run stops at a breakpoint of this number.
-fn hit_of(point: Option<Breakpoint>, id: u64, made: Made) -> StopReason
-    ensures { result ≡ hit_of point id made }
+/// Why a run stops by what was made, which hit a breakpoint.
+fn hit_of(point: Option<Breakpoint>, made: Made) -> StopReason
+    ensures { result ≡ hit_of point made }
 {
     match point {
-        None => StopReason::Breakpoint {
-            node: node_of(made),
-            id,
-        },
+        None => StopReason::Step(node_of(made)),
         Some(point) => match point.watched {
             Watched::Comes(_) => StopReason::Breakpoint {
                 node: point.node,
-                id,
+                made,
             },
             Watched::Writes(_) => StopReason::Write {
                 node: point.node,
-                id,
+                made,
             },
         },
     }
 }
 
-/// Why a run stops at the breakpoint at a place.
+/// Why a run stops by what was made, which hit the breakpoint at a place, and none before it.
 fn hit_at(settings: &Configuration, made: Made, place: usize) -> StopReason
     ensures { result ≡ hit_at settings.now made place }
 {
-    let points = &settings.points;
-    hit_of(points.point_at(place), points.id_at(place), made)
+    hit_of(settings.points.point_at(place), made)
 }
 
-/// Whether a node that has something to show, and isn't stopped, can never go on and could before.
-fn is_newly(program: &Debuggee, before: bool, now: bool, node: NodeId) -> bool
-    ensures { result ≡ is_newly_by before now program.now node.number }
+/// Whether a node that has something to show, and isn't stopped, can never go on and is not among those known.
+fn is_newly(program: &Debuggee, known: bool, now: bool, node: NodeId) -> bool
+    ensures { result ≡ is_newly_by known now program.now node.number }
 {
     let lab = &program.lab;
-    now && !before && has_thread(lab, program.nodes.as_slice(), node) && lab.node(node).stop() == 0
+    now && !known && has_thread(lab, program.nodes.as_slice(), node) && lab.node(node).stop() == 0
 }
 
-/// Whether a node that has something to show, and isn't stopped, can never go on and could before, by marks of the nodes.
-fn is_newly_marked(
-    program: &Debuggee,
-    before: &[bool; 144],
-    now: &[bool; 144],
-    node: NodeId,
-) -> bool
-    ensures { result ≡ is_newly (is_marked before.now) (is_marked now.now) program.now node.number }
+/// Whether a node that has something to show, and isn't stopped, can never go on and is not among those known, by marks of the nodes.
+fn is_newly_marked(program: &Debuggee, known: &[bool; 144], now: &[bool; 144], node: NodeId) -> bool
+    ensures { result ≡ is_newly (is_marked known.now) (is_marked now.now) program.now node.number }
 {
-    is_newly(program, before[node.index()], now[node.index()], node)
+    is_newly(program, known[node.index()], now[node.index()], node)
 }
 
-/// The first node that has something to show, isn't stopped, and can never go on but could before.
-fn newly_stuck(program: &Debuggee, before: &[bool; 144], now: &[bool; 144]) -> Option<NodeId>
-    ensures { IsFirstNewly (is_marked before.now) (is_marked now.now) program.now result }
+/// The first node that has something to show, isn't stopped, and can never go on but is not among those known.
+fn newly_stuck(program: &Debuggee, known: &[bool; 144], now: &[bool; 144]) -> Option<NodeId>
+    ensures { IsFirstNewly (is_marked known.now) (is_marked now.now) program.now result }
 {
     'nodes: for number in 0..144u8 {
         let node = NodeId::new(number);
-        if is_newly_marked(program, before, now, node) {
+        if is_newly_marked(program, known, now, node) {
             return Some(node);
         }
     }
@@ -256,7 +250,7 @@ fn stop_by(
     match halt {
         Halt::Hit { made, which } => Some(hit_at(settings, made, which)),
         Halt::Stopped(made) => Some(StopReason::Stopped(node_of(made))),
-        Halt::Moved(made) => Some(end_of_move(goal, made)),
+        Halt::Moved(made) => ended_stuck(settings.stuck, stuck, Some(end_of_move(goal, made))),
         Halt::Refused(why) => Some(StopReason::Refused(why)),
         Halt::Cut => ended_stuck(settings.stuck, stuck, None),
         Halt::Quiet => ended_stuck(settings.stuck, stuck, Some(StopReason::Quiet)),
@@ -297,6 +291,54 @@ fn make_slice_for(
     }
 }
 
+/// The stuck node that the client is to be told of, where it asks for that.
+fn unreported(
+    program: &Debuggee,
+    settings: &Configuration,
+    execution: &Execution,
+    now: &[bool; 144],
+) -> Option<NodeId>
+    ensures { (stuck : Option ANode) × IsFirstNewly (is_marked execution.now.reported) (is_marked now.now) program.now stuck × (result ≡ asked_stuck settings.now.stuck stuck) }
+{
+    let stuck = newly_stuck(program, &execution.reported, now);
+    if settings.stuck { stuck } else { None }
+}
+
+/// Whether a run ended since a node is stuck.
+fn is_stuck_stop(stop: &Option<StopReason>) -> bool
+    ensures { result ≡ is_stuck_stop stop.now }
+{
+    match stop {
+        None => false,
+        Some(StopReason::Stuck(_)) => true,
+        Some(StopReason::Step(_)) => false,
+        Some(StopReason::Breakpoint { .. }) => false,
+        Some(StopReason::Write { .. }) => false,
+        Some(StopReason::Stopped(_)) => false,
+        Some(StopReason::Quiet) => false,
+        Some(StopReason::Refused(_)) => false,
+    }
+}
+
+/// Keeps of which nodes the client was told behind a slice: where it was told of one, all that are stuck then; none where it doesn't ask for that.
+fn keep_reported(
+    execution: &mut Execution,
+    asked: bool,
+    stop: &Option<StopReason>,
+    before: &[bool; 144],
+    now: &[bool; 144],
+)
+    ensures { execution.new ≡ record execution.old { reported = reported_behind asked stop.now before.now now.now } }
+{
+    if !asked {
+        execution.reported = [false; 144];
+    } else if is_stuck_stop(stop) {
+        execution.reported = *now;
+    } else {
+        execution.reported = *before;
+    }
+}
+
 /// Makes a slice of the events of a run that is under way for this, and says why it ended, where it did.
 fn make_slice_of(
     program: &mut Debuggee,
@@ -307,10 +349,37 @@ fn make_slice_of(
     ensures { MakesSliceOf (Some goal) program.old settings.now execution.old program.new execution.new result }
 {
     let before = stuck_of(program);
+    match unreported(program, settings, execution, &before) {
+        Some(node) => Some(report(execution, node, &before)),
+        None => make_events(program, settings, execution, goal, &before),
+    }
+}
+
+/// Ends a run before it makes an event, since a node is stuck of which the client was not told.
+fn report(execution: &mut Execution, node: NodeId, stuck: &[bool; 144]) -> StopReason
+    ensures reason { result ≡ StopReason.Stuck node }
+    ensures next { execution.new ≡ record execution.old { goal = None; reported = stuck.now } }
+{
+    execution.goal = None;
+    execution.reported = *stuck;
+    StopReason::Stuck(node)
+}
+
+/// Makes the events of a slice, before which these nodes are stuck, and says why the run ended, where it did.
+fn make_events(
+    program: &mut Debuggee,
+    settings: &Configuration,
+    execution: &mut Execution,
+    goal: Goal,
+    before: &[bool; 144],
+) -> Option<StopReason>
+    ensures { MakesEvents goal before.now program.old settings.now execution.old program.new execution.new result }
+{
     let went = advance(program, settings, execution, goal);
     let now = stuck_of(program);
-    let stuck = newly_stuck(program, &before, &now);
+    let stuck = newly_stuck(program, before, &now);
     let stop = stop_by(settings, goal, stuck, went.halt);
+    keep_reported(execution, settings.stuck, &stop, before, &now);
     end_for(execution, stop);
     stop
 }

@@ -5,12 +5,13 @@ ghost use Rattle.serde_json.specs.View.{view};
 ghost use Rattle.ga_protocol.specs.Messages.{member_text};
 ghost use Rattle.ga_responses.specs.Disassembling.{offset_given, cells_on};
 ghost use Rattle.ga_breakpoints.specs.Saying.{condition_said, hits_said};
-ghost use Rattle.ga_requests.specs.Placing.{line_asked, found_on_line, is_label, at_any_label, at_label_of, names_node, node_named_before, at_label, at_cell_on, on_writes, on_no_line, on_condition, with_condition, on_hits, with_hits, asked_there, asked_at, unfound_words, unplaced_words, IsReferredBy, IsPlaceOf};
+ghost use Rattle.ga_requests.specs.Placing.{line_asked, found_on_line, is_label, at_any_label, at_label_of, names_node, node_named_before, at_label, at_cell_on, on_writes, on_no_line, is_no_text, can_be, on_condition, with_condition, on_hits, with_hits, asked_there, asked_at, unfound_words, unplaced_words, IsReferredBy, IsPlaceOf};
 
 use crate::configuration::Family;
+use ga_adapter::Variable;
 use ga_breakpoints::{
-    Breakpoint, COUNTED, Watched, breakpoint_of_address, breakpoint_of_line, condition_said,
-    hits_said,
+    Breakpoint, COUNTED, ValueTest, Watched, breakpoint_of_address, breakpoint_of_line,
+    condition_said, hits_said,
 };
 use ga_grid::NodeId;
 use ga_notes::{Name, Notes};
@@ -33,6 +34,8 @@ pub enum Unplaced {
     Nowhere,
     /// The breakpoint's condition can't be read.
     Condition,
+    /// The breakpoint's condition has a number that no word is.
+    Range,
     /// The breakpoint's hit condition can't be read.
     Hits,
     /// Hits are counted of as many breakpoints already as may be.
@@ -71,8 +74,39 @@ pub fn unplaced_reason(family: Family, why: Unplaced) -> &'static str
         Unplaced::Nowhere => unfound(family),
         Unplaced::Condition =>
             "condition: a register or [HH], then = != < <= > or >=, then a number",
+        Unplaced::Range => "condition: the number is past 0x3ffff, the last word",
         Unplaced::Hits => "hitCondition: N, >= N or % N, from 1 on",
         Unplaced::Uncounted => "hitCondition: hits are counted of 64 breakpoints at most",
+    }
+}
+
+/// Whether a member is there, and is neither text nor null.
+fn is_no_text(asked: &Value, name: &str) -> bool
+    ensures { result ≡ is_no_text name.now (view asked.now) }
+{
+    match asked.get(name) {
+        Some(given) => !given.is_string() && !given.is_null(),
+        None => false,
+    }
+}
+
+/// Whether the number of a condition is one that the value can be.
+fn can_be(test: &ValueTest) -> bool
+    ensures { result ≡ can_be test.now }
+{
+    test.number < 0x4_0000 || test.variable == Variable::Step
+}
+
+/// A breakpoint at a place, with this condition.
+fn with_test(place: FoundPlace, test: ValueTest) -> FoundPlace
+    ensures { result ≡ record place { breakpoint = record place.breakpoint { condition = Some test } } }
+{
+    FoundPlace {
+        breakpoint: Breakpoint {
+            condition: Some(test),
+            ..place.breakpoint
+        },
+        ..place
     }
 }
 
@@ -81,21 +115,24 @@ fn on_condition(place: FoundPlace, text: &[u8]) -> Result<FoundPlace, Unplaced>
     ensures { result ≡ on_condition place (condition_said text.now) }
 {
     match condition_said(text) {
-        Some(condition) => Ok(FoundPlace {
-            breakpoint: Breakpoint {
-                condition: Some(condition),
-                ..place.breakpoint
-            },
-            ..place
-        }),
+        Some(test) => {
+            if can_be(&test) {
+                Ok(with_test(place, test))
+            } else {
+                Err(Unplaced::Range)
+            }
+        }
         None => Err(Unplaced::Condition),
     }
 }
 
 /// A breakpoint at a place, with the condition that is asked for, where one is.
 fn with_condition(place: FoundPlace, asked: &Value) -> Result<FoundPlace, Unplaced>
-    ensures { result ≡ with_condition place (member_text (codes "condition") (view asked.now)) }
+    ensures { result ≡ with_condition place (is_no_text (codes "condition") (view asked.now)) (member_text (codes "condition") (view asked.now)) }
 {
+    if is_no_text(asked, "condition") {
+        return Err(Unplaced::Condition);
+    }
     match text_at(asked, "condition") {
         Some(text) => on_condition(place, text.as_bytes()),
         None => Ok(place),
@@ -126,8 +163,11 @@ fn on_hits(place: FoundPlace, before: usize, text: &[u8]) -> Result<FoundPlace, 
 
 /// A breakpoint at a place, with the hits that are asked for, where any are.
 fn with_hits(place: FoundPlace, before: usize, asked: &Value) -> Result<FoundPlace, Unplaced>
-    ensures { result ≡ with_hits place before (member_text (codes "hitCondition") (view asked.now)) }
+    ensures { result ≡ with_hits place before (is_no_text (codes "hitCondition") (view asked.now)) (member_text (codes "hitCondition") (view asked.now)) }
 {
+    if is_no_text(asked, "hitCondition") {
+        return Err(Unplaced::Hits);
+    }
     match text_at(asked, "hitCondition") {
         Some(text) => on_hits(place, before, text.as_bytes()),
         None => Ok(place),

@@ -107,8 +107,12 @@ fn stepping_of(
     ensures { result ≡ stepping_of program.now kind node (view arguments.now) }
 {
     match kind {
-        StepKind::Over => Some(Stepping::next(node, grain_asked(program, arguments))),
-        StepKind::In => Some(Stepping::step_in(node, grain_asked(program, arguments))),
+        StepKind::Over => Some(Stepping::next(&program.lab, node, grain_asked(program, arguments))),
+        StepKind::In => Some(Stepping::step_in(
+            &program.lab,
+            node,
+            grain_asked(program, arguments),
+        )),
         StepKind::Out => Stepping::step_out(&program.lab, node),
     }
 }

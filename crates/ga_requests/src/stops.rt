@@ -5,12 +5,13 @@ ghost use Rattle.serde_json.specs.View.{view};
 ghost use Rattle.ga_text.specs.Lines.{Text};
 ghost use Rattle.ga_protocol.specs.Messages.{member_text};
 ghost use Rattle.ga_responses.specs.Sending.{Sends, Message};
-ghost use Rattle.ga_requests.specs.Stopping.{fault_words, fault_message, stop_message, TellsStop};
+ghost use Rattle.ga_requests.specs.Stopping.{hit, ids_hit, fault_words, fault_message, stop_message, TellsStop};
 
+use crate::configuration::Configuration;
 use crate::configuring::first_of;
 use crate::execution::StopReason;
 use ga_grid::NodeId;
-use ga_lab::LabFault;
+use ga_lab::{LabFault, Made};
 use ga_protocol::{Outbox, text_at};
 use ga_responses::{Debuggee, exception_info, tell_hit, tell_stopped};
 use serde_json::Value;
@@ -58,45 +59,62 @@ fn tell_fault(
     tell_stopped(alloc, "exception", text.as_str(), node, out)
 }
 
+/// Tells of the breakpoints that what was made hit.
+fn tell_hits(
+    alloc: Global,
+    program: &Debuggee,
+    settings: &Configuration,
+    reason: &str,
+    description: &str,
+    node: NodeId,
+    made: &Made,
+    out: &mut Outbox,
+) -> Result<(), AllocError>
+    ensures sent { OnOk result (Sends out.old (hit reason.now description.now node.number (ids_hit made.now program.now.lab settings.now.points.placed.items)) out.new) }
+    ensures err { OnErr result (out.new ≡ out.old) }
+{
+    let ids = settings.points.ids_hit(alloc, &program.lab, made)?;
+    tell_hit(alloc, reason, description, node, ids.as_slice(), out)
+}
+
 /// `stopped` where a run ended for this reason.
 #[tactic(auto, using(ga_responses::proofs::Sent::ok_then))]
 pub fn tell_stop(
     alloc: Global,
     program: &Debuggee,
+    settings: &Configuration,
     stop: StopReason,
     out: &mut Outbox,
 ) -> Result<(), AllocError>
-    ensures sent { OnOk result ((message : Message) × TellsStop program.now stop message × Sends out.old message out.new) }
+    ensures sent { OnOk result ((message : Message) × TellsStop program.now settings.now stop message × Sends out.old message out.new) }
     ensures err { OnErr result (out.new ≡ out.old) }
 {
     let first = first_of(program);
-    tell_stop_at(alloc, program, stop, first, out)
+    tell_stop_at(alloc, program, settings, stop, first, out)
 }
 
 /// `stopped` where a run ended for this reason, and this is the first node that has something to show.
 fn tell_stop_at(
     alloc: Global,
     program: &Debuggee,
+    settings: &Configuration,
     stop: StopReason,
     first: NodeId,
     out: &mut Outbox,
 ) -> Result<(), AllocError>
-    ensures sent { OnOk result (Sends out.old (stop_message program.now first.number stop) out.new) }
+    ensures sent { OnOk result (Sends out.old (stop_message program.now settings.now.points.placed.items first.number stop) out.new) }
     ensures err { OnErr result (out.new ≡ out.old) }
 {
     match stop {
         StopReason::Step(node) => tell_stopped(alloc, "step", "step", node, out),
-        StopReason::Breakpoint { node, id } => {
-            tell_hit(alloc, "breakpoint", "breakpoint", node, id, out)
+        StopReason::Breakpoint { node, made } => {
+            let why = "breakpoint";
+            tell_hits(alloc, program, settings, why, why, node, &made, out)
         }
-        StopReason::Write { node, id } => tell_hit(
-            alloc,
-            "data breakpoint",
-            "a watched cell was written",
-            node,
-            id,
-            out,
-        ),
+        StopReason::Write { node, made } => {
+            let (reason, why) = ("data breakpoint", "a watched cell was written");
+            tell_hits(alloc, program, settings, reason, why, node, &made, out)
+        }
         StopReason::Stopped(node) => tell_fault(alloc, program, node, "", out),
         StopReason::Stuck(node) => tell_fault(alloc, program, node, ", and can never go on", out),
         StopReason::Quiet => tell_stopped(

@@ -4,7 +4,7 @@ use Rattle.ga_text.specs.Lines.{Text}
 use Rattle.ga_grid.specs.declared.node_id.NodeId.{NodeId}
 use Rattle.ga_protocol.specs.declared.request.ClientRequest.{ClientRequest}
 use Rattle.ga_responses.specs.declared.debuggee.Debuggee.{Debuggee}
-use Rattle.ga_responses.specs.Disassembling.{TellsInstructions, TellsReferred}
+use Rattle.ga_responses.specs.Disassembling.{TellsSome, TellsInstructions, TellsReferred}
 use Rattle.ga_responses.specs.Sending.{Message, Sends, SendsAll, answered}
 use Rattle.std.specs.Prelude.{OnOk}
 use Rattle.serde_json.specs.Data.{Data}
@@ -27,6 +27,10 @@ with_reference p request a b message e told = subst (λ (z : Option Text). Tells
 pub with_count : (p : Debuggee) (request : ClientRequest) (at : NodeId × ℕ) (a b : Option ℕ) (message : Message) → a ≡ b → TellsInstructions p request at a message
     → TellsInstructions p request at b message
 with_count p request at a b message e told = subst (λ (z : Option ℕ). TellsInstructions p request at z message) e told
+
+pub with_within : (p : Debuggee) (request : ClientRequest) (at : NodeId × ℕ) (a b : Option ℕ) (message : Message) → a ≡ b → TellsSome p request at a message
+    → TellsSome p request at b message
+with_within p request at a b message e told = subst (λ (z : Option ℕ). TellsSome p request at z message) e told
 
 pub sent_one : (old : SentMessages) (message : Message) (new : SentMessages) → Sends old message new → SendsAll old (message ∷ []) new
 sent_one old message new one = (new, one, refl)

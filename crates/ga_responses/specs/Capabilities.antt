@@ -1,5 +1,5 @@
 -- `initialize` (Debug Adapter Protocol, "InitializeRequest", "Capabilities", "ExceptionBreakpointsFilter").
-use Rattle.std.specs.Prelude.{◌≡◌, Bool, true, if◌then◌else◌, codes, bytes_eq, Option, Some, None, unwrap_or}
+use Rattle.std.specs.Prelude.{◌≡◌, Bool, true, not, if◌then◌else◌, codes, bytes_eq, Option, Some, None, unwrap_or}
 use Rattle.serde_json.specs.Data.{Data, string, boolean, object, array, Members, no_members, member, item, no_items}
 use Rattle.serde_json.specs.View.{view}
 use Rattle.ga_text.specs.Lines.{Text}
@@ -8,9 +8,9 @@ use Rattle.ga_protocol.specs.declared.request.ClientRequest.{ClientRequest}
 use Rattle.ga_responses.specs.Arguments.{member_flag}
 use Rattle.ga_responses.specs.Sending.{Message, answered, refused_response}
 
--- lines are counted from 1 on, where the client doesn't say otherwise
-abbrev pub counts_from_one : Data → Bool
-counts_from_one d = unwrap_or (member_flag (codes "linesStartAt1") d) true
+-- lines and columns are counted from 1 on, where the client doesn't say otherwise
+abbrev pub counts_from_one : Text → Data → Bool
+counts_from_one name d = unwrap_or (member_flag name d) true
 
 -- files are named by their paths
 abbrev pub is_path_format : Option Text → Bool
@@ -40,8 +40,17 @@ capabilities faults =
     (can (codes "supportsFunctionBreakpoints") (can (codes "supportsHitConditionalBreakpoints") (can (codes "supportsInstructionBreakpoints") (can (codes "supportsStepBack")
     (can (codes "supportsSteppingGranularity") (can (codes "supportsTerminateRequest") no_members)))))))))))))
 
+-- what the client does otherwise than this debugger
+abbrev pub unmet : Data → Option Text
+unmet d =
+    if not (counts_from_one (codes "linesStartAt1") d) then Some (codes "initialize: lines are counted from 1 on")
+    else if not (counts_from_one (codes "columnsStartAt1") d) then Some (codes "initialize: columns are counted from 1 on")
+    else if not (names_paths d) then Some (codes "initialize: files are named by paths")
+    else None
+
+abbrev pub initialize_message : ClientRequest → Option Text → Message
+initialize_message request None = answered request (capabilities filters)
+initialize_message request (Some why) = refused_response request why
+
 abbrev pub AnswersInitialize : ClientRequest → Message → Type 0
-AnswersInitialize request message =
-    let d = view request.arguments in
-    message ≡ (if counts_from_one d then (if names_paths d then answered request (capabilities filters) else refused_response request (codes "initialize: files are named by paths"))
-    else refused_response request (codes "initialize: lines are counted from 1 on"))
+AnswersInitialize request message = message ≡ initialize_message request (unmet (view request.arguments))

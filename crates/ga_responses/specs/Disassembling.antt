@@ -1,5 +1,5 @@
 -- `disassemble`, and references to memory (Debug Adapter Protocol, "DisassembleRequest", "DisassembleArguments"). The machine stays.
-use Rattle.std.specs.Prelude.{◌≡◌, string_bytes, Option, Some, None, ◌<◌, ℕ, ◌+◌, ◌%◌, ℤ, pos, unsigned_abs, min, ◌++◌, codes, option_and_then, unwrap_or}
+use Rattle.std.specs.Prelude.{◌≡◌, string_bytes, Option, Some, None, ◌<◌, ℕ, ◌+◌, ◌%◌, ℤ, pos, unsigned_abs, nat_lt, if◌then◌else◌, ◌++◌, codes, option_and_then, unwrap_or}
 use Rattle.ga_notes.specs.declared.notes.Notes.{Notes}
 use Rattle.ga_adapter.specs.declared.frames.SourceFile.{SourceFile}
 use Rattle.ga_responses.specs.declared.debuggee.Debuggee.{Debuggee}
@@ -53,11 +53,18 @@ cells_on offset = unsigned_abs (int_rem_euclid offset (pos 4096))
 abbrev pub first_told : Data → ℕ → ℕ
 first_told d cell = (cell + (cells_on (offset_given (codes "offset") d) + cells_on (offset_given (codes "instructionOffset") d))) % 4096
 
--- so many instructions are told, and 4096 at most
+-- just so many instructions are told as are asked for, and more than 4096 are refused
+abbrev pub count_within : ℕ → Option ℕ
+count_within count = if nat_lt 4096 count then None else Some count
+
+abbrev pub TellsSome : Debuggee → ClientRequest → NodeId × ℕ → Option ℕ → Message → Type 0
+TellsSome p request at None message = message ≡ refused_response request (codes "disassemble: 4096 instructions at most")
+TellsSome p request at (Some count) message = (file : SourceFile) × IsFileOf p file
+    × (message ≡ answered request (disassembled file (program_notes p) p.lab at.0 (first_told (view request.arguments) at.1) count))
+
 abbrev pub TellsInstructions : Debuggee → ClientRequest → NodeId × ℕ → Option ℕ → Message → Type 0
 TellsInstructions p request at None message = message ≡ refused_response request (codes "disassemble: there is no instructionCount")
-TellsInstructions p request at (Some count) message = (file : SourceFile) × IsFileOf p file
-    × (message ≡ answered request (disassembled file (program_notes p) p.lab at.0 (first_told (view request.arguments) at.1) (min count 4096)))
+TellsInstructions p request at (Some count) message = TellsSome p request at (count_within count) message
 
 abbrev pub TellsMemory : Debuggee → ClientRequest → Option (NodeId × ℕ) → Message → Type 0
 TellsMemory p request None message = message ≡ refused_response request (codes "disassemble: no such memory")

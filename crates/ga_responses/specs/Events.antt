@@ -2,7 +2,7 @@
 use Rattle.std.specs.Prelude.{◌≡◌, ◌<◌, ◌⊎◌, ◌++◌, ℕ, zero, suc, Bool, true, false, List, [], ◌∷◌, codes}
 use Rattle.serde_json.specs.Data.{Data, string, boolean, object, array, no_members, member, item, no_items}
 use Rattle.ga_text.specs.Lines.{Text}
-use Rattle.ga_adapter.specs.Json.{whole_number}
+use Rattle.ga_adapter.specs.Json.{whole_number, array_of}
 use Rattle.ga_grid.specs.declared.node_id.NodeId.{NodeId}
 use Rattle.ga_lab.specs.Machine.{State}
 use Rattle.ga_adapter.specs.Numbers.{thread_of}
@@ -46,9 +46,12 @@ stopped_body reason description n =
     object (member (codes "allThreadsStopped") (boolean true) (member (codes "description") (string description) (member (codes "reason") (string reason)
     (member (codes "text") (string description) (member (codes "threadId") (whole_number (thread_of n)) no_members)))))
 
--- the chip stands at a breakpoint of this number: all nodes do
-unfoldable pub hit_body : Text → Text → ℕ → ℕ → Data
-hit_body reason description n id =
+-- the chip stands at breakpoints with these numbers: all nodes do
+unfoldable pub hit_object : Text → Text → ℕ → Data → Data
+hit_object reason description n ids =
     object (member (codes "allThreadsStopped") (boolean true) (member (codes "description") (string description)
-    (member (codes "hitBreakpointIds") (array (item (whole_number id) no_items)) (member (codes "reason") (string reason)
+    (member (codes "hitBreakpointIds") ids (member (codes "reason") (string reason)
     (member (codes "text") (string description) (member (codes "threadId") (whole_number (thread_of n)) no_members))))))
+
+abbrev pub hit_body : Text → Text → ℕ → List ℕ → Data
+hit_body reason description n ids = hit_object reason description n (array_of whole_number ids)

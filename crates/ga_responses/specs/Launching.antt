@@ -3,6 +3,7 @@ use Rattle.std.specs.Prelude.{ℕ, Bool, true, nat_lt, ◌||◌, if◌then◌els
 use Rattle.serde_json.specs.Data.{Data}
 use Rattle.serde_json.specs.Find.{get}
 use Rattle.ga_text.specs.Lines.{Text}
+use Rattle.ga_text.specs.Parsing.{fitting}
 use Rattle.ga_search.specs.declared.schedule.Schedule.{Schedule}
 use Rattle.ga_search.specs.Schedules.{in_rounds, greedily, at_random}
 use Rattle.ga_protocol.specs.Messages.{member_text, member_number}
@@ -20,10 +21,10 @@ limit_by (Some given) number = option_and_then limit_within number
 abbrev pub limit_asked : Data → Option ℕ
 limit_asked d = limit_by (get (codes "limit") d) (member_number (codes "limit") d)
 
--- the seed of a drawn order: 0 where the client doesn't say
+-- the seed of a drawn order, as `run random` takes it: 0 where the client doesn't say
 abbrev pub seed_by : Option Data → Option ℕ → Option ℕ
 seed_by None number = Some 0
-seed_by (Some given) number = number
+seed_by (Some given) number = option_and_then fitting number
 
 abbrev pub seed_asked : Data → Option ℕ
 seed_asked d = seed_by (get (codes "seed") d) (member_number (codes "seed") d)

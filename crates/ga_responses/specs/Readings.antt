@@ -1,7 +1,7 @@
 -- The requests that read (Debug Adapter Protocol, "ThreadsRequest", "StackTraceRequest", "ScopesRequest", "VariablesRequest", "ExceptionInfoRequest"):
 -- what each is answered. The machine stays.
-use Rattle.std.specs.Prelude.{ℕ, ◌==◌, Bool, if◌then◌else◌, ◌++◌, codes, ◌≡◌, List, Option, Some, None}
-use Rattle.serde_json.specs.Data.{Data, string, object, no_members, member}
+use Rattle.std.specs.Prelude.{ℕ, ◌==◌, Bool, true, false, not, if◌then◌else◌, ◌++◌, codes, bytes_eq, ◌≡◌, List, Option, Some, None}
+use Rattle.serde_json.specs.Data.{Data, string, object, array, no_items, no_members, member}
 use Rattle.ga_grid.specs.Chip.{record_at}
 use Rattle.ga_text.specs.Lines.{Text}
 use Rattle.ga_lab.specs.Machine.{State, chip_of}
@@ -14,7 +14,8 @@ use Rattle.ga_adapter.specs.declared.frames.SourceFile.{SourceFile}
 use Rattle.ga_adapter.specs.declared.scope.Scope.{Scope}
 use Rattle.ga_adapter.specs.Threads.{threads_in}
 use Rattle.ga_adapter.specs.Frames.{stack_trace}
-use Rattle.ga_adapter.specs.Variables.{scopes_of, variables_in}
+use Rattle.ga_adapter.specs.Variables.{scopes_of, is_memory_scope, variables_in}
+use Rattle.ga_protocol.specs.Messages.{member_text}
 use Rattle.ga_protocol.specs.declared.request.ClientRequest.{ClientRequest}
 use Rattle.ga_responses.specs.declared.debuggee.Debuggee.{Debuggee}
 use Rattle.ga_responses.specs.Arguments.{AsksOfThread, AsksOfFrame, AsksForVariables, number_given_or}
@@ -60,9 +61,21 @@ TellsScopes request (Some node) message = message ≡ answered request (scopes_o
 abbrev pub AnswersScopes : ClientRequest → Message → Type 0
 AnswersScopes request message = (asked : Option NodeId) × AsksOfFrame (view request.arguments) asked × TellsScopes request asked message
 
--- `variables`
+-- `variables`: those of a memory are indexed, and all others named; a client may ask for one kind
+abbrev pub is_kind_asked : Scope → Option Text → Bool
+is_kind_asked of None = true
+is_kind_asked of (Some filter) = not (bytes_eq filter (if is_memory_scope of then codes "named" else codes "indexed"))
+
+unfoldable pub no_variables : Data
+no_variables = object (member (codes "variables") (array no_items) no_members)
+
+abbrev pub variables_asked : Bool → State → Bool → ℕ → Scope → ℕ → ℕ → Data
+variables_asked true s stuck n of start count = variables_in s stuck n of start count
+variables_asked false s stuck n of start count = no_variables
+
 abbrev pub TellsVariables : Debuggee → ClientRequest → NodeId × Scope → Message → Type 0
-TellsVariables p request at message = (stuck : Bool) × TellsStuck (chip_of p.lab) at.0.number stuck × (message ≡ answered request (variables_in p.lab stuck at.0.number at.1
+TellsVariables p request at message = (stuck : Bool) × TellsStuck (chip_of p.lab) at.0.number stuck
+    × (message ≡ answered request (variables_asked (is_kind_asked at.1 (member_text (codes "filter") (view request.arguments))) p.lab stuck at.0.number at.1
     (number_given_or (codes "start") 0 (view request.arguments)) (number_given_or (codes "count") 0 (view request.arguments))))
 
 abbrev pub TellsVariablesOf : Debuggee → ClientRequest → Option (NodeId × Scope) → Message → Type 0

@@ -1,9 +1,9 @@
 //! What this debugger can do.
 
-ghost use Rattle.std.specs.Prelude.{◌≡◌, IfOk, OnOk, OnErr};
+ghost use Rattle.std.specs.Prelude.{◌≡◌, option_map, IfOk, OnOk, OnErr};
 ghost use Rattle.serde_json.specs.View.{view};
-ghost use Rattle.ga_responses.specs.Sending.{Sends, Message};
-ghost use Rattle.ga_responses.specs.Capabilities.{AnswersInitialize, capabilities, filter_object, filters, counts_from_one, names_paths};
+ghost use Rattle.ga_responses.specs.Sending.{Sends, Message, answered};
+ghost use Rattle.ga_responses.specs.Capabilities.{AnswersInitialize, capabilities, filter_object, filters, counts_from_one, names_paths, unmet};
 
 use crate::arguments::flag_at;
 use ga_protocol::{ClientRequest, Outbox, text_at};
@@ -48,11 +48,11 @@ fn capabilities(alloc: Global, filters: Value) -> Result<Value, AllocError>
     })
 }
 
-/// Whether lines are counted from 1 on, as the client would have it.
-fn counts_from_one(arguments: &Value) -> bool
-    ensures { result ≡ counts_from_one (view arguments.now) }
+/// Whether lines or columns are counted from 1 on, as the client would have it.
+fn counts_from_one(arguments: &Value, name: &str) -> bool
+    ensures { result ≡ counts_from_one name.now (view arguments.now) }
 {
-    flag_at(arguments, "linesStartAt1").unwrap_or(true)
+    flag_at(arguments, name).unwrap_or(true)
 }
 
 /// Whether files are named by their paths.
@@ -65,6 +65,36 @@ fn names_paths(arguments: &Value) -> bool
     }
 }
 
+/// What the client does otherwise than this debugger.
+fn unmet(arguments: &Value) -> Option<&'static str>
+    ensures { option_map (λ why. why.now) result ≡ unmet (view arguments.now) }
+{
+    if !counts_from_one(arguments, "linesStartAt1") {
+        return Some("initialize: lines are counted from 1 on");
+    }
+    if !counts_from_one(arguments, "columnsStartAt1") {
+        return Some("initialize: columns are counted from 1 on");
+    }
+    if !names_paths(arguments) {
+        return Some("initialize: files are named by paths");
+    }
+    None
+}
+
+/// Tells what this debugger can do.
+fn tell_capabilities(
+    alloc: Global,
+    request: &ClientRequest,
+    out: &mut Outbox,
+) -> Result<(), AllocError>
+    ensures sent { OnOk result (Sends out.old (answered request.now (capabilities filters)) out.new) }
+    ensures err { OnErr result (out.new ≡ out.old) }
+{
+    let filters = filters(alloc)?;
+    let body = capabilities(alloc, filters)?;
+    out.respond(request, body)
+}
+
 /// `initialize`.
 pub fn initialize(
     alloc: Global,
@@ -74,13 +104,8 @@ pub fn initialize(
     ensures sent { OnOk result ((message : Message) × AnswersInitialize request.now message × Sends out.old message out.new) }
     ensures err { OnErr result (out.new ≡ out.old) }
 {
-    if !counts_from_one(&request.arguments) {
-        return out.refuse(request, "initialize: lines are counted from 1 on");
+    match unmet(&request.arguments) {
+        Some(why) => out.refuse(request, why),
+        None => tell_capabilities(alloc, request, out),
     }
-    if !names_paths(&request.arguments) {
-        return out.refuse(request, "initialize: files are named by paths");
-    }
-    let filters = filters(alloc)?;
-    let body = capabilities(alloc, filters)?;
-    out.respond(request, body)
 }

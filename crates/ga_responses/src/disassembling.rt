@@ -1,9 +1,9 @@
 //! `disassemble`.
 
-ghost use Rattle.std.specs.Prelude.{◌≡◌, ◌≢◌, ◌<◌, ◌≤◌, ◌^◌, ℕ, min, Some, IfSome, IfNone, OnOk, OnErr};
+ghost use Rattle.std.specs.Prelude.{◌≡◌, ◌≢◌, ◌<◌, ◌≤◌, ◌^◌, ℕ, Some, IfSome, IfNone, OnOk, OnErr};
 ghost use Rattle.serde_json.specs.View.{view};
 ghost use Rattle.ga_responses.specs.Sending.{Sends, Message};
-ghost use Rattle.ga_responses.specs.Disassembling.{SpellsHexadecimal, SpellsReference, RefersTo, offset_given, cells_on, first_told, TellsInstructions, TellsMemory, TellsReferred, AnswersInstructions};
+ghost use Rattle.ga_responses.specs.Disassembling.{SpellsHexadecimal, SpellsReference, RefersTo, offset_given, cells_on, first_told, count_within, TellsSome, TellsInstructions, TellsMemory, TellsReferred, AnswersInstructions};
 
 use crate::debuggee::Debuggee;
 use ga_adapter::{cell_of_chip, disassembled};
@@ -118,20 +118,23 @@ fn tell_instructions_at(
 {
     match number_at(&request.arguments, "instructionCount") {
         None => out.refuse(request, "disassemble: there is no instructionCount"),
-        Some(count) => tell_some(alloc, program, request, at, count, out),
+        Some(count) => tell_counted(alloc, program, request, at, count, out),
     }
 }
 
-/// How many instructions are told: as many as are asked for, and 4096 at most.
-fn most_told(count: u64) -> u32
-    ensures value { result ≡ min count 4096 }
-    ensures most { result ≤ 4096 }
+/// How many instructions are told, where they are not too many.
+fn count_within(count: u64) -> Option<u32>
+    ensures value { result ≡ count_within count }
+    ensures most { IfSome result (λ count. count ≤ 4096) }
 {
-    count.min(MOST_INSTRUCTIONS) as u32
+    if count > MOST_INSTRUCTIONS {
+        return None;
+    }
+    Some(count as u32)
 }
 
-/// Tells so many instructions from a cell on.
-fn tell_some(
+/// Tells so many instructions from a cell on, where they are not too many.
+fn tell_counted(
     alloc: Global,
     program: &Debuggee,
     request: &ClientRequest,
@@ -142,9 +145,27 @@ fn tell_some(
     ensures sent { OnOk result ((message : Message) × TellsInstructions program.now request.now at (Some count) message × Sends out.old message out.new) }
     ensures err { OnErr result (out.new ≡ out.old) }
 {
+    match count_within(count) {
+        None => out.refuse(request, "disassemble: 4096 instructions at most"),
+        Some(count) => tell_some(alloc, program, request, at, count, out),
+    }
+}
+
+/// Tells so many instructions from a cell on.
+fn tell_some(
+    alloc: Global,
+    program: &Debuggee,
+    request: &ClientRequest,
+    at: (NodeId, u8),
+    count: u32,
+    out: &mut Outbox,
+) -> Result<(), AllocError>
+    requires { count ≤ 4096 }
+    ensures sent { OnOk result ((message : Message) × TellsSome program.now request.now at (Some count) message × Sends out.old message out.new) }
+    ensures err { OnErr result (out.new ≡ out.old) }
+{
     let first = first_told(&request.arguments, at.1);
-    let most = most_told(count);
     let (lab, notes) = (&program.lab, program.notes());
-    let body = disassembled(alloc, program.file(), lab, notes, at.0, first, most)?;
+    let body = disassembled(alloc, program.file(), lab, notes, at.0, first, count)?;
     out.respond(request, body)
 }

@@ -28,14 +28,14 @@ pub fn limit_asked(arguments: &Value) -> Option<u32>
     Some(limit as u32)
 }
 
-/// The seed that is asked for; 0 where none is.
-fn seed_asked(arguments: &Value) -> Option<u64>
+/// The seed that is asked for, where that can be; 0 where none is.
+fn seed_asked(arguments: &Value) -> Option<u32>
     ensures { result ≡ seed_asked (view arguments.now) }
 {
     if arguments.get("seed").is_none() {
         return Some(0);
     }
-    number_at(arguments, "seed")
+    u32::try_from(number_at(arguments, "seed")?).ok()
 }
 
 /// An order that is drawn, where its seed can be.
@@ -43,7 +43,7 @@ fn drawn_order(arguments: &Value) -> Option<Schedule>
     ensures { result ≡ option_map at_random (seed_asked (view arguments.now)) }
 {
     match seed_asked(arguments) {
-        Some(seed) => Some(Schedule::at_random(seed)),
+        Some(seed) => Some(Schedule::at_random(u64::from(seed))),
         None => None,
     }
 }

@@ -1,9 +1,10 @@
 //! The requests that read.
 
-ghost use Rattle.std.specs.Prelude.{◌≡◌, OnOk, OnErr};
+ghost use Rattle.std.specs.Prelude.{◌≡◌, if◌then◌else◌, codes, option_map, IfOk, OnOk, OnErr};
 ghost use Rattle.serde_json.specs.View.{view};
 ghost use Rattle.ga_responses.specs.Sending.{Sends, Message};
-ghost use Rattle.ga_responses.specs.Readings.{TellsVariables, AnswersThreads, AnswersStack, AnswersScopes, AnswersVariables, AnswersException};
+ghost use Rattle.ga_adapter.specs.Variables.{is_memory_scope};
+ghost use Rattle.ga_responses.specs.Readings.{is_kind_asked, no_variables, variables_asked, TellsVariables, AnswersThreads, AnswersStack, AnswersScopes, AnswersVariables, AnswersException};
 
 use crate::arguments::{framed_node_asked, node_asked, number_given_or, scope_asked};
 use crate::debuggee::Debuggee;
@@ -11,7 +12,9 @@ use crate::exceptions::exception_info;
 use crate::stuck::is_stuck;
 use ga_adapter::{Scope, scopes, stack_trace, threads, variables};
 use ga_grid::NodeId;
-use ga_protocol::{ClientRequest, Outbox};
+use ga_lab::Lab;
+use ga_protocol::{ClientRequest, Outbox, text_at};
+use serde_json::{Value, json};
 use std::alloc::{AllocError, Global};
 
 /// `threads`.
@@ -85,6 +88,56 @@ pub fn tell_variables(
     }
 }
 
+/// Whether those of a memory are asked for, which are indexed, or all others, which are named.
+fn is_kind_asked(of: Scope, filter: Option<&str>) -> bool
+    ensures { result ≡ is_kind_asked of (option_map (λ text. text.now) filter.entry) }
+{
+    match filter {
+        Some(filter) => filter != left_out(of),
+        None => true,
+    }
+}
+
+/// The filter that leaves the variables of a scope out.
+fn left_out(of: Scope) -> &'static str
+    ensures { result.now ≡ (if is_memory_scope of then codes "named" else codes "indexed") }
+{
+    match of {
+        Scope::Ram => "named",
+        Scope::Rom => "named",
+        Scope::Registers => "indexed",
+        Scope::Data => "indexed",
+        Scope::Returns => "indexed",
+        Scope::Links => "indexed",
+    }
+}
+
+#[tactic(auto, unfolding(crate::specs::Readings::no_variables))]
+fn no_variables(alloc: Global) -> Result<Value, AllocError>
+    ensures { IfOk result (λ v. view v ≡ no_variables) }
+{
+    json!(in alloc; {"variables": []})
+}
+
+/// The variables of a scope, where they are asked for.
+fn variables_asked(
+    alloc: Global,
+    lab: &Lab,
+    asked: bool,
+    stuck: bool,
+    at: (NodeId, Scope),
+    start: u64,
+    count: u64,
+) -> Result<Value, AllocError>
+    ensures { IfOk result (λ v. view v ≡ variables_asked asked lab.now stuck at.0.number at.1 start count) }
+{
+    if asked {
+        variables(alloc, lab, stuck, at, start, count)
+    } else {
+        no_variables(alloc)
+    }
+}
+
 /// The variables of a scope.
 fn tell_variables_at(
     alloc: Global,
@@ -99,7 +152,8 @@ fn tell_variables_at(
     let start = number_given_or(&request.arguments, "start", 0);
     let count = number_given_or(&request.arguments, "count", 0);
     let stuck = is_stuck(program.lab.chip(), at.0);
-    let body = variables(alloc, &program.lab, stuck, at, start, count)?;
+    let asked = is_kind_asked(at.1, text_at(&request.arguments, "filter"));
+    let body = variables_asked(alloc, &program.lab, asked, stuck, at, start, count)?;
     out.respond(request, body)
 }
 

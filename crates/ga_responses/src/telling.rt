@@ -1,17 +1,18 @@
 //! The events that a client is told.
 
-ghost use Rattle.std.specs.Prelude.{◌≡◌, ◌<◌, ℕ, codes, length, IfOk, OnOk, OnErr};
+ghost use Rattle.std.specs.Prelude.{◌≡◌, ◌<◌, ℕ, codes, length, map, IfOk, OnOk, OnErr};
 ghost use Rattle.serde_json.specs.View.{view};
 ghost use Rattle.ga_causal.specs.Dependence.{is_marked};
+ghost use Rattle.ga_adapter.specs.Json.{whole_number};
 ghost use Rattle.ga_adapter.specs.Threads.{has_thread};
 ghost use Rattle.ga_responses.specs.Sending.{Sends, SendsAll, event_told};
-ghost use Rattle.ga_responses.specs.Events.{output_body, thread_body, thread_reason, stopped_body, hit_body, changed_messages, changed_below, IsFirstShown};
+ghost use Rattle.ga_responses.specs.Events.{output_body, thread_body, thread_reason, stopped_body, hit_object, hit_body, changed_messages, changed_below, IsFirstShown};
 
 use ga_adapter::{has_thread, thread_of};
 use ga_grid::NodeId;
 use ga_lab::Lab;
 use ga_protocol::Outbox;
-use serde_json::{Value, json};
+use serde_json::{Value, json, push};
 use std::alloc::{AllocError, Global};
 
 #[tactic(auto, unfolding(crate::specs::Events::output_body))]
@@ -164,38 +165,63 @@ pub fn tell_stopped(
     out.tell("stopped", body)
 }
 
-#[tactic(auto, unfolding(crate::specs::Events::hit_body))]
-fn hit_body(
+/// The numbers of some breakpoints.
+#[tactic(auto, using(std::proofs::lemmas::List::map_push))]
+fn numbers_of(alloc: Global, ids: &[u64]) -> Result<Vec<Value>, AllocError>
+    ensures { IfOk result (λ list. map view list.items ≡ map whole_number ids.now) }
+{
+    let mut list = Vec::new(alloc);
+    'ids: for id in ids {
+        push(&mut list, Value::from(*id))?;
+    }
+    Ok(list)
+}
+
+#[tactic(auto, unfolding(crate::specs::Events::hit_object))]
+fn hit_object(
     alloc: Global,
     reason: &str,
     description: &str,
     node: NodeId,
-    id: u64,
+    ids: Value,
 ) -> Result<Value, AllocError>
-    ensures { IfOk result (λ v. view v ≡ hit_body reason.now description.now node.number id) }
+    ensures { IfOk result (λ v. view v ≡ hit_object reason.now description.now node.number (view ids)) }
 {
     json!(in alloc; {
         "allThreadsStopped": true,
         "description": description,
-        "hitBreakpointIds": [id],
+        "hitBreakpointIds": ids,
         "reason": reason,
         "text": description,
         "threadId": thread_of(node)
     })
 }
 
-/// `stopped` at a breakpoint (Debug Adapter Protocol, "StoppedEvent"): the chip stands.
+fn hit_body(
+    alloc: Global,
+    reason: &str,
+    description: &str,
+    node: NodeId,
+    ids: &[u64],
+) -> Result<Value, AllocError>
+    ensures { IfOk result (λ v. view v ≡ hit_body reason.now description.now node.number ids.now) }
+{
+    let numbers = numbers_of(alloc, ids)?;
+    hit_object(alloc, reason, description, node, Value::Array(numbers))
+}
+
+/// `stopped` at breakpoints (Debug Adapter Protocol, "StoppedEvent"): the chip stands.
 pub fn tell_hit(
     alloc: Global,
     reason: &str,
     description: &str,
     node: NodeId,
-    id: u64,
+    ids: &[u64],
     out: &mut Outbox,
 ) -> Result<(), AllocError>
-    ensures sent { OnOk result (Sends out.old (event_told (codes "stopped") (hit_body reason.now description.now node.number id)) out.new) }
+    ensures sent { OnOk result (Sends out.old (event_told (codes "stopped") (hit_body reason.now description.now node.number ids.now)) out.new) }
     ensures err { OnErr result (out.new ≡ out.old) }
 {
-    let body = hit_body(alloc, reason, description, node, id)?;
+    let body = hit_body(alloc, reason, description, node, ids)?;
     out.tell("stopped", body)
 }

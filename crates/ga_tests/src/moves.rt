@@ -66,22 +66,22 @@ fn hit_by(went: Went) -> Option<usize> {
 fn lines_are_stepped_in(rt: HostRuntime) -> Result<(), Fail> {
     let node = NodeId::new(0);
     let (mut lab, notes) = begun(&rt, rt.alloc(), CALLS, 0)?;
-    let line = Stepping::step_in(node, Grain::Line);
     // To line 6 by the call, to 9 by the next, to 10 by `dup`, to 7 by the return, and round to line 3.
-    moves(&rt, &mut lab, &notes, line, 3);
-    moves(&rt, &mut lab, &notes, line, 2);
-    moves(&rt, &mut lab, &notes, line, 3);
-    moves(&rt, &mut lab, &notes, line, 4);
+    for wanted in [3, 2, 3, 4] {
+        let line = Stepping::step_in(&lab, node, Grain::Line);
+        moves(&rt, &mut lab, &notes, line, wanted);
+    }
     // The node is taken back over the call of `quad`.
     same(&rt, &step_back_line(&mut lab, &notes, node), &9);
-    moves(&rt, &mut lab, &notes, Stepping::next(node, Grain::Line), 9);
-    moves(
-        &rt,
-        &mut lab,
-        &notes,
-        Stepping::step_in(node, Grain::Instruction),
-        1,
-    );
+    let over = Stepping::next(&lab, node, Grain::Line);
+    moves(&rt, &mut lab, &notes, over, 9);
+    let step = Stepping::step_in(&lab, node, Grain::Instruction);
+    moves(&rt, &mut lab, &notes, step, 1);
+    // By `;` back to `drop`, the rest of line 3, and to line 4.
+    for wanted in [1, 2] {
+        let out = Stepping::next(&lab, node, Grain::Line);
+        moves(&rt, &mut lab, &notes, out, wanted);
+    }
     Ok(())
 }
 
@@ -90,20 +90,10 @@ fn calls_are_stepped_out_of(rt: HostRuntime) -> Result<(), Fail> {
     let node = NodeId::new(0);
     let (mut lab, notes) = begun(&rt, rt.alloc(), CALLS, 0)?;
     same(&rt, &Stepping::step_out(&lab, node), &None);
-    moves(
-        &rt,
-        &mut lab,
-        &notes,
-        Stepping::step_in(node, Grain::Line),
-        3,
-    );
-    moves(
-        &rt,
-        &mut lab,
-        &notes,
-        Stepping::step_in(node, Grain::Line),
-        2,
-    );
+    for wanted in [3, 2] {
+        let line = Stepping::step_in(&lab, node, Grain::Line);
+        moves(&rt, &mut lab, &notes, line, wanted);
+    }
     match Stepping::step_out(&lab, node) {
         // `quad` comes back by its step 12.
         Some(out) => moves(&rt, &mut lab, &notes, out, 7),

@@ -55,21 +55,21 @@ word_seen node word told s = if is_step_of node.number told then word_after s no
 
 -- ---- where a line begins, by the cells of the words before the step and behind it
 
-abbrev pub spot_before : State → NodeId → ℕ → Option ℕ → Option Spot
-spot_before s node k word =
-    if place_back s node k == k then spot_by (node_after s node.number k) word else spot_behind s node (place_back s node k)
+abbrev pub spot_before : ℕ → State → NodeId → ℕ → Option ℕ → Option Spot
+spot_before began s node k word =
+    if place_back began s node k == k then spot_by (node_after s node.number k) word else spot_behind s node (place_back began s node k)
 
-abbrev pub begins_by : Notes → State → NodeId → ℕ → Option ℕ → Option ℕ → Bool
-begins_by notes s node k before behind =
-    comes_on notes node (spot_before s node k before) (spot_by (node_after s node.number (k + 1)) behind) (op_at s node k)
+abbrev pub begins_by : ℕ → Notes → State → NodeId → ℕ → Option ℕ → Option ℕ → Bool
+begins_by began notes s node k before behind =
+    comes_on notes node (spot_before began s node k before) (spot_by (node_after s node.number (k + 1)) behind) (op_at s node k)
     (line_on_spot notes node (spot_by (node_after s node.number (k + 1)) behind))
 
-abbrev pub reaches_by : Grain → Notes → NodeId → State → ℕ → Option ℕ → Option ℕ → Bool
-reaches_by Instruction notes node s k before behind = true
-reaches_by Line notes node s k before behind = begins_by notes s node k before behind
+abbrev pub reaches_by : Grain → ℕ → Notes → NodeId → State → ℕ → Option ℕ → Option ℕ → Bool
+reaches_by Instruction began notes node s k before behind = true
+reaches_by Line began notes node s k before behind = begins_by began notes s node k before behind
 
 abbrev pub is_moved_by : Notes → Stepping → Option ℕ → Made → State → Bool
 is_moved_by notes by word told s =
     is_step_of by.node.number told
     && (is_none (call_behind s by.node by.over by.call)
-    && reaches_by by.grain notes by.node s (steps_of by.node.number s.kept - 1) word (word_seen by.node word told s))
+    && reaches_by by.grain by.began notes by.node s (steps_of by.node.number s.kept - 1) word (word_seen by.node word told s))

@@ -9,6 +9,6 @@ returns-in-Some c =
     ok_then c.tell_stop.result c.tell_stop.ensures.sent
     (λ told. (
       told.0 ∷ [],
-      subst (λ (stop : Option StopReason). StopTold c.args.program.now stop (told.0 ∷ [])) (sym c.in-Some.is) (told.0, told.1, refl),
+      subst (λ (stop : Option StopReason). StopTold c.args.program.now c.args.settings.now stop (told.0 ∷ [])) (sym c.in-Some.is) (told.0, told.1, refl),
       sent_one c.args.out.now told.0 c.tell_stop.new.out told.2,
     ))

@@ -10,7 +10,7 @@ use Rattle.ga_dap.proofs.launching.launched_limit.Goals as goal
 pub returns-in-None : goal.returns-in-None
 returns-in-None g c =
     let P : Option Schedule → Type 0 = λ z. IfOk c.refuse_launch.result (λ (l : Option Launched). (messages : Messages) × LaunchesAsked g.S.ProgramFiles.gives c.args.sources.now c.args.request.now (Some c.args.path.now) (Some c.args.limit) z messages c.args.sources.now l × SendsAll c.args.out.now messages c.refuse_launch.new.out) in
-    subst P c.in-None.ensures (not_launched c.args.sources.now c.args.request.now (codes "launch: the order is rounds, greedy, or random with a seed") c.args.out.now c.refuse_launch.new.out c.refuse_launch.result c.refuse_launch.ensures)
+    subst P c.in-None.ensures (not_launched c.args.sources.now c.args.request.now (codes "launch: the order is rounds, greedy, or random with a seed of 0 to 4294967295") c.args.out.now c.refuse_launch.new.out c.refuse_launch.result c.refuse_launch.ensures)
 
 pub returns-in-Some : goal.returns-in-Some
 returns-in-Some g c =

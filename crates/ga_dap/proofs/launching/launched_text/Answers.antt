@@ -40,6 +40,7 @@ returns-in_ok-tell_launched-in-Ok c =
           stands = refl;
           open_still = refl;
           entry = c.stops_on_entry.ensures;
+          untold = refl;
         },
         told.0,
         told.1,

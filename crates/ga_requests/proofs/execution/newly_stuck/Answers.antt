@@ -6,5 +6,5 @@ use Rattle.ga_requests.proofs.execution.newly_stuck.Goals as goal
 
 pub nodes-preserved : goal.nodes-preserved
 nodes-preserved c =
-    none_more (is_newly (is_marked c.args.before.now) (is_marked c.args.now.now) c.args.program.now) c.nodes.number c.is_newly_marked.result c.nodes.invariant
-    (c.is_newly_marked.ensures ∙ ap (is_newly (is_marked c.args.before.now) (is_marked c.args.now.now) c.args.program.now) c.new-node.ensures) c.if-is_newly_marked.false
+    none_more (is_newly (is_marked c.args.known.now) (is_marked c.args.now.now) c.args.program.now) c.nodes.number c.is_newly_marked.result c.nodes.invariant
+    (c.is_newly_marked.ensures ∙ ap (is_newly (is_marked c.args.known.now) (is_marked c.args.now.now) c.args.program.now) c.new-node.ensures) c.if-is_newly_marked.false

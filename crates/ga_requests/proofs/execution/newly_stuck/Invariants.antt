@@ -4,4 +4,4 @@ use Rattle.ga_requests.specs.Slices.{is_newly}
 use Rattle.ga_requests.proofs.execution.newly_stuck.Given as goal
 
 abbrev pub invariant-nodes : goal.invariant-nodes
-invariant-nodes l = (n : ℕ) → n < l.number → is_newly (is_marked l.before) (is_marked l.now) l.program n ≡ false
+invariant-nodes l = (n : ℕ) → n < l.number → is_newly (is_marked l.known) (is_marked l.now) l.program n ≡ false

@@ -12,5 +12,5 @@ returns-in-None-clause-sent c = ok_then c.refuse.result c.refuse.ensures.sent
     ))
 
 pub returns-in-Some-clause-sent : goal.returns-in-Some-clause-sent
-returns-in-Some-clause-sent c = ok_then c.tell_some.result c.tell_some.ensures.sent
+returns-in-Some-clause-sent c = ok_then c.tell_counted.result c.tell_counted.ensures.sent
     (λ sent. (sent.0, with_count c.args.program.now c.args.request.now c.args.at _ _ sent.0 c.in-Some.ensures sent.1, sent.2))

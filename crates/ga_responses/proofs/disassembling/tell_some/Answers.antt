@@ -1,4 +1,4 @@
-use Rattle.std.proofs.Common.{◌≡◌, ◌∙◌, ℕ, min, ap}
+use Rattle.std.proofs.Common.{◌≡◌, ◌∙◌, ℕ, ap}
 use Rattle.serde_json.specs.View.{view}
 use Rattle.ga_notes.specs.declared.notes.Notes.{Notes}
 use Rattle.ga_adapter.specs.Disassembly.{disassembled}
@@ -10,11 +10,9 @@ use Rattle.ga_responses.proofs.disassembling.tell_some.Goals as goal
 pub returns-clause-sent : goal.returns-clause-sent
 returns-clause-sent c =
     let e : view c.in_ok-body.body ≡ disassembled c.file.result (program_notes c.args.program.now) c.args.program.now.lab c.args.at.0
-    (first_told (view c.args.request.now.arguments) c.args.at.1) (min c.args.count 4096) =
+    (first_told (view c.args.request.now.arguments) c.args.at.1) c.args.count =
     c.in_ok-body.ensures
-    ∙ ap (λ (z : Notes). disassembled c.file.result z c.args.program.now.lab c.args.at.0 c.first_told-first.result c.most_told-most.result) c.notes-notes.ensures
-    ∙ ap (λ (z : ℕ). disassembled c.file.result (program_notes c.args.program.now) c.args.program.now.lab c.args.at.0 z c.most_told-most.result) c.first_told-first.ensures.value
-    ∙ ap (λ (z : ℕ). disassembled c.file.result (program_notes c.args.program.now) c.args.program.now.lab c.args.at.0
-    (first_told (view c.args.request.now.arguments) c.args.at.1) z) c.most_told-most.ensures.value in
+    ∙ ap (λ (z : Notes). disassembled c.file.result z c.args.program.now.lab c.args.at.0 c.first_told-first.result c.args.count) c.notes-notes.ensures
+    ∙ ap (λ (z : ℕ). disassembled c.file.result (program_notes c.args.program.now) c.args.program.now.lab c.args.at.0 z c.args.count) c.first_told-first.ensures.value in
     ok_then c.respond.result c.respond.ensures.sent
     (λ sent. (answered c.args.request.now (view c.in_ok-body.body), (c.file.result, (c.file.ensures.name, c.file.ensures.path), ap (answered c.args.request.now) e), sent))
