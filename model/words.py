@@ -13,6 +13,7 @@ CONTROLS = {*BEGINNINGS, *ENDINGS, "begin", "for", "else", "then", "while", "-wh
 DIRECTIVES = {":", "org", "/p", "/a", "/b", "..", "+cy", "-cy", "node", ",", "\\", "("}
 MARK = "\xef\xbb\xbf"
 BOUNDS = {"/p": 0x400, "/a": 0x40000, "/b": 0x200}
+RANGES = {"": "-131072 to 262143", "/p": "0 to 0x3ff", "/a": "-131072 to 262143", "/b": "0 to 0x1ff", "org": "0 to 0x3f, 0x80 to 0xbf"}
 
 
 class Fault(Exception):
@@ -82,7 +83,11 @@ def words_of(source, goes_on=False):
                 return
 
 
-def number_of(word, line):
+def demand_range(holds, line, word, place=""):
+    demand(holds, line, f"number out of range: {shown(word)} ({RANGES[place]})")
+
+
+def number_of(word, line, place=""):
     """The number that a word says modulo 2^18, None where it says none."""
     if word in PORTS:
         return PORTS[word]
@@ -92,7 +97,7 @@ def number_of(word, line):
     if not found:
         return None
     size = int(found[2], 16) if found[2] else int(found[3])
-    demand(size <= 131072 if found[1] else size <= 262143, line, "number out of range")
+    demand_range(size <= 131072 if found[1] else size <= 262143, line, word, place)
     return (-size if found[1] else size) % 0x40000
 
 
@@ -180,18 +185,18 @@ class Words:
             self.mark(line, self.label(line, text))
         elif word == "org":
             line, text = self.take(line)
-            address = number_of(text, line)
+            address = number_of(text, line, word)
             demand(address is not None, line, "a name or a value is missing")
-            demand(address < 0x40 or 0x80 <= address < 0xC0, line, "number out of range")
+            demand_range(address < 0x40 or 0x80 <= address < 0xC0, line, text, word)
             self.ask(line, "org", address + self.bit)
         elif word in BOUNDS:
             line, text = self.take(line)
-            value = number_of(text, line)
+            value = number_of(text, line, word)
             if value is None:
                 demand(is_name(text), line, "a name or a value is missing")
                 value = self.label(line, text)
             else:
-                demand(value < BOUNDS[word], line, "number out of range")
+                demand_range(value < BOUNDS[word], line, text, word)
             demand(word not in self.registers, line, "the register is given twice")
             self.registers[word] = (line, value)
         elif word in ("+cy", "-cy"):

@@ -4,6 +4,8 @@ use Rattle.ga_source.specs.declared.program.Program.{Program}
 use Rattle.ga_notes.specs.Source.{last_marked}
 use Rattle.ga_text.specs.Lines.{Text}
 use Rattle.ga_text.specs.Digits.{hex2_of}
+use Rattle.ga_parser.specs.declared.fault.NumberRange.{NumberRange}
+use Rattle.ga_parser.specs.declared.fault.NumberRange.TheVariants.{Word, P, B, Cell}
 
 -- ---- the labels that stand last at the cells of a node, as they are noted
 
@@ -27,3 +29,15 @@ shown word = flat_map shown_byte word
 -- the line that tells of a word that says nothing
 abbrev pub unknown_text : ℕ → Text → Text
 unknown_text line word = codes "ga144: line " ++ decimal line ++ codes ": what is " ++ shown word ++ codes "\n"
+
+-- the numbers of a range
+abbrev pub range_text : NumberRange → Text
+range_text Word = codes "-131072 to 262143"
+range_text P = codes "0 to 0x3ff"
+range_text B = codes "0 to 0x1ff"
+range_text Cell = codes "0 to 0x3f, 0x80 to 0xbf"
+
+-- the line that tells of a number that its place doesn't take
+abbrev pub number_text : ℕ → Text → NumberRange → Text
+number_text line word range =
+    codes "ga144: line " ++ decimal line ++ codes ": number out of range: " ++ shown word ++ codes " (" ++ range_text range ++ codes ")\n"

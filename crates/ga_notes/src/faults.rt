@@ -2,12 +2,12 @@
 ghost use Rattle.std.specs.Prelude.{◌≡◌, ◌+◌, ◌*◌, ◌≤◌, [], ◌++◌, take, length};
 ghost use Rattle.arrayvec.specs.ArrayVec.{array_vec_len};
 ghost use Rattle.ga_node.specs.State.{IsPlace};
-ghost use Rattle.ga_notes.specs.inner.{shown_byte, shown, unknown_text};
+ghost use Rattle.ga_notes.specs.inner.{shown_byte, shown, unknown_text, number_text, range_text};
 
 use arrayvec::ArrayVec;
 use ga_grid::{Chip, NODES, NodeId};
 use ga_node::{Node, Place};
-use ga_source::{Assembled, Fault, SourceCause, Store, stores_over_code};
+use ga_source::{Assembled, Fault, NumberRange, SourceCause, Store, stores_over_code};
 use ga_text::{TextBuffer, push_byte, push_number, push_text, write_all};
 use std::alloc::{AllocError, Global};
 use std::io::Write;
@@ -34,6 +34,7 @@ fn fault_text(fault: Fault<'_>) -> FaultText {
     let mut text = FaultText::new();
     match fault.cause {
         SourceCause::Unknown(word) => put_unknown(&mut text, fault.line, word),
+        SourceCause::Number(word, range) => put_number(&mut text, fault.line, word, range),
         cause => {
             let _ = write!(text, "ga144: line {}: {}\n", fault.line, cause);
         }
@@ -65,6 +66,33 @@ fn put_unknown(out: &mut FaultText, line: u32, word: &[u8])
     push_text(out, b": what is ");
     push_shown(out, front(word));
     push_text(out, b"\n");
+}
+
+/// Puts the line that tells a number out of range.
+fn put_number(out: &mut FaultText, line: u32, word: &[u8], range: NumberRange)
+    ensures { out.new.items ≡ number_text line (take 200 word.now) range }
+{
+    out.clear();
+    push_text(out, b"ga144: line ");
+    push_number(out, u64::from(line));
+    push_text(out, b": number out of range: ");
+    push_shown(out, front(word));
+    push_text(out, b" (");
+    push_text(out, text_of_range(range));
+    push_text(out, b")\n");
+}
+
+/// The numbers of a range, as they are told.
+fn text_of_range(range: NumberRange) -> &'static [u8]
+    ensures text { result.now ≡ range_text range }
+    ensures short { length result.now ≤ 23 }
+{
+    match range {
+        NumberRange::Word => b"-131072 to 262143",
+        NumberRange::P => b"0 to 0x3ff",
+        NumberRange::B => b"0 to 0x1ff",
+        NumberRange::Cell => b"0 to 0x3f, 0x80 to 0xbf",
+    }
 }
 
 /// A word as far as source has words.

@@ -13,7 +13,7 @@ mod scan;
 mod vocabulary;
 
 pub use draft::{carried, read_requests};
-pub use fault::{Fault, SourceCause, fault_at};
+pub use fault::{Fault, NumberRange, SourceCause, fault_at};
 pub use item::{Asked, Given, Item, NodeRequests, Operand, Registers, Request};
 pub use labels::Label;
 pub use scan::{Token, TokenKind, source_words, unmarked, words_up_to_fault};

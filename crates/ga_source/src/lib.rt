@@ -14,7 +14,7 @@ mod reading;
 mod stores;
 
 pub use ga_parser::{
-    Asked, Fault, Given, Item, Label, Operand, Registers, Request, SourceCause, Token, TokenKind,
+    Asked, Fault, Given, Item, Label, NumberRange, Operand, Registers, Request, SourceCause, Token, TokenKind,
     source_words, unmarked,
 };
 pub use group::Group;
