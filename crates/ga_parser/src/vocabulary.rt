@@ -97,7 +97,7 @@ pub(crate) fn is_taken(text: &[u8]) -> bool
 }
 
 /// Whether what a word says is a number, in range or not.
-fn is_number(number: Number) -> bool
+pub(crate) fn is_number(number: Number) -> bool
     ensures { result ≡ is_number_in number }
 {
     match number {

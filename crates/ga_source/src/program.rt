@@ -22,8 +22,8 @@ use super::reading::resolve;
 use ga_grid::{Chip, NODES, NodeId, node_number};
 use ga_node::{Node, Place};
 use ga_parser::{
-    Asked, Fault, Given, Label, NodeRequests, Operand, Register,
-    Registers, Request, SourceCause, Token, fault_at, read_requests, words_up_to_fault,
+    Asked, Fault, Given, Label, NodeRequests, Operand, Register, Registers, Request, SourceCause,
+    Token, fault_at, read_requests, words_up_to_fault,
 };
 use std::alloc::Global;
 
@@ -215,12 +215,7 @@ fn assemble_node<'s>(
     } = read_requests(alloc, line, tokens)?;
     let packed = pack(alloc, asked.as_slice(), names.len())?;
     let registers = registers_of(given, names.as_slice(), has_cells(asked.as_slice()));
-    set_registers(
-        node,
-        packed.labels.as_slice(),
-        names.as_slice(),
-        registers,
-    )?;
+    set_registers(node, packed.labels.as_slice(), names.as_slice(), registers)?;
     load(node, &packed, asked.as_slice())?;
     Ok(Program {
         node: id,
