@@ -2,7 +2,7 @@
 
 from machine import NODES, block_of, name
 from node import Node, advanced
-from words import BOUNDS, CODE, OPCODES, Fault, Words, demand, words_of
+from words import BOUNDS, CODE, OPCODES, Fault, Words, demand, demand_range, words_of
 
 FIELDS = {0: 10, 1: 8, 2: 3}
 NODE_NAMES = {name(it): it for it in range(NODES)}
@@ -198,9 +198,9 @@ def node_of(node, line, body):
         given["/p"] = (0, "main" if "main" in layout.labels else 0)
     for register in ("/p", "/a", "/b"):
         if register in given:
-            at, value = given[register]
-            value = layout.value(value)
-            demand(value < BOUNDS[register], at, "number out of range")
+            at, label = given[register]
+            value = layout.value(label)
+            demand_range(value < BOUNDS[register], at, str(label), register)
             setattr(node, register[1], value)
     layout.load(node, {})
     return node, words, layout

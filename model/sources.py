@@ -20,7 +20,7 @@ RARE = "@p !p inv invert xor nop .. .. +cy -cy right io r--- rdlu --l- 'x 'y x y
 SHAPES = ["begin {} again", "begin {} until", "begin {} -until", "begin {} while {} repeat", "begin {} -while {} repeat", "for {} next", "begin dup unext", "for over . dup unext"]
 SHAPES += ["if {} then", "-if {} else {} then", "ahead {} then", "begin {} begin {} *next {} again", "for {} for {} *next {} next", "@p {} 5", "!p {} x"]
 STRANGE = "again then else repeat next unext *next if begin for , : : org /p /a /b node ( ) \\ jump call 262144 -131073 -131072 0x3ffff ' end".split()
-STRANGE += ["org 0x60", "if\nbegin", "begin unext", "begin 5 unext", "for unext", ".. dup ahead +cy then -cy"]
+STRANGE += "$1f $1g >r swap dup; x: :x 5, DROP A! drpo nexxt (x) \x1b".split() + ["org 0x60", "if\nbegin", "begin unext", "begin 5 unext", "for unext", ".. dup ahead +cy then -cy"]
 STORES = ["b! !b", "a! !", "a! !+ !+", "b! dup !b", "a! 5 !+ !", "a! ; !", "b! ex !b", "a! @+ !"]
 
 

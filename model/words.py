@@ -13,6 +13,16 @@ CONTROLS = {*BEGINNINGS, *ENDINGS, "begin", "for", "else", "then", "while", "-wh
 DIRECTIVES = {":", "org", "/p", "/a", "/b", "..", "+cy", "-cy", "node", ",", "\\", "("}
 MARK = "\xef\xbb\xbf"
 BOUNDS = {"/p": 0x400, "/a": 0x40000, "/b": 0x200}
+RANGES = {"": "-131072 to 262143", "/p": "0 to 0x3ff", "/a": "-131072 to 262143", "/b": "0 to 0x1ff", "org": "0 to 0x3f, 0x80 to 0xbf"}
+OTHERS = {">r": "push", "r>": "pop", "r@": "pop dup push", "2dup": "over over", "2drop": "drop drop", "nip": "push drop pop"}
+OTHERS |= {"swap": "over push push drop pop pop", "tuck": "over push push drop pop pop over", "rot": "push push a! pop pop a, which changes A"}
+OTHERS |= {"1+": "1 . +", "1-": "-1 . +", "negate": "inv 1 . +", "*": "+*, one step", "not": "inv", "~": "inv", "&": "and", "^": "xor"}
+OTHERS |= {"lshift": "2*, one bit", "<<": "2*, one bit", "rshift": "2/, one bit", ">>": "2/, one bit", "|": "dup push inv and pop xor"}
+OTHERS |= {"a@": "a", "@a": "@", "!a": "!", "@a+": "@+", "!a+": "!+", "do": "for", "loop": "next", "if,": "if", "endif": "then"}
+OTHERS |= {"exit": ";", ";s": ";", "call": "NAME", "jump": "NAME ;", "variable": ": NAME 0 ,", "create": ": NAME", ",": "N ,"}
+OTHERS |= {"end": "end on a line of its own", "//": "\\", "#": "\\", "--": "\\"}
+MEANT = "drop dup pop over push and or xor inv invert nop ex a a! b! begin for next unext *next again until -until while -while repeat".split()
+MEANT += "if -if ahead else then org node right down left up io".split()
 
 
 class Fault(Exception):
@@ -52,7 +62,40 @@ def lines_of(source):
 
 def shown(word):
     """A word as standard error is told it."""
-    return "".join(it if "!" <= it <= "~" else f"\\x{ord(it):02x}" for it in word)
+    return "".join(it if " " <= it <= "~" else f"\\x{ord(it):02x}" for it in word)
+
+
+def is_near(word, name):
+    """Whether a word has a letter too few, too many or another one, or two neighbours exchanged."""
+    if len(word) == len(name):
+        apart = [at for at in range(len(name)) if word[at] != name[at]]
+        exchanged = len(apart) == 2 and apart[1] == apart[0] + 1 and word[apart[0]] == name[apart[1]] and word[apart[1]] == name[apart[0]]
+        return len(apart) < 2 or exchanged
+    long, short = (word, name) if len(word) > len(name) else (name, word)
+    return any(long[:at] + long[at + 1 :] == short for at in range(len(long)))
+
+
+def hint(word):
+    """What to write in place of a word that says nothing."""
+    first, last = word[:1], word[-1:]
+    if word in OTHERS:
+        return OTHERS[word]
+    if re.fullmatch("\\$[0-9a-fA-F]+", word):
+        return f"0x{word[1:]}"
+    if len(word) > 1 and last == ";":
+        return f"{word[:-1]} ;"
+    if len(word) > 1 and ":" in (first, last):
+        return f": {word[:-1] if last == ':' else word[1:]}"
+    if last == "," and is_number(word[:-1]):
+        return f"{word[:-1]} ,"
+    same = str.maketrans("ABCDEFGHIJKLMNOPQRSTUVWXYZ", "abcdefghijklmnopqrstuvwxyz")
+    meant = [it for it in MEANT if word.translate(same) == it or len(it) > 3 and is_near(word, it)]
+    return f"{meant[0]}?" if meant else ""
+
+
+def unknown(line, word):
+    told = hint(word)
+    return fault(line, f"what is {shown(word)}" + (f": {shown(told)}" if told else ""))
 
 
 def words_of(source, goes_on=False):
@@ -82,7 +125,11 @@ def words_of(source, goes_on=False):
                 return
 
 
-def number_of(word, line):
+def demand_range(holds, line, word, place=""):
+    demand(holds, line, f"number out of range: {shown(word)} ({RANGES[place]})")
+
+
+def number_of(word, line, place=""):
     """The number that a word says modulo 2^18, None where it says none."""
     if word in PORTS:
         return PORTS[word]
@@ -92,17 +139,20 @@ def number_of(word, line):
     if not found:
         return None
     size = int(found[2], 16) if found[2] else int(found[3])
-    demand(size <= 131072 if found[1] else size <= 262143, line, "number out of range")
+    demand_range(size <= 131072 if found[1] else size <= 262143, line, word, place)
     return (-size if found[1] else size) % 0x40000
+
+
+def is_number(word):
+    try:
+        return number_of(word, 0) is not None
+    except Fault:
+        return True
 
 
 def is_name(word):
     """Whether a label may have this name."""
-    try:
-        is_number = number_of(word, 0) is not None
-    except Fault:
-        is_number = True
-    return not (is_number or word in OPS or word in JUMPS or word in CONTROLS or word in DIRECTIVES or word.startswith("'"))
+    return not (is_number(word) or word in OPS or word in JUMPS or word in CONTROLS or word in DIRECTIVES or word.startswith("'"))
 
 
 class Words:
@@ -116,7 +166,8 @@ class Words:
         if self.open:
             raise fault(self.open[0][2], "this is never closed")
         for label, first in self.lines.items():
-            demand(label in self.marked, first, f"what is {shown(label)}")
+            if label not in self.marked:
+                raise unknown(first, label)
 
     def take(self, line):
         """The word behind a directive."""
@@ -169,7 +220,8 @@ class Words:
         elif (value := self.value(line, word)) is not None:
             self.ask(line, "literal", value)
         else:
-            demand(is_name(word), line, f"what is {shown(word)}")
+            if not is_name(word):
+                raise unknown(line, word)
             self.jump(line, "jump" if self.comes(";") else "call", self.label(line, word))
         return line
 
@@ -180,18 +232,18 @@ class Words:
             self.mark(line, self.label(line, text))
         elif word == "org":
             line, text = self.take(line)
-            address = number_of(text, line)
+            address = number_of(text, line, word)
             demand(address is not None, line, "a name or a value is missing")
-            demand(address < 0x40 or 0x80 <= address < 0xC0, line, "number out of range")
+            demand_range(address < 0x40 or 0x80 <= address < 0xC0, line, text, word)
             self.ask(line, "org", address + self.bit)
         elif word in BOUNDS:
             line, text = self.take(line)
-            value = number_of(text, line)
+            value = number_of(text, line, word)
             if value is None:
                 demand(is_name(text), line, "a name or a value is missing")
                 value = self.label(line, text)
             else:
-                demand(value < BOUNDS[word], line, "number out of range")
+                demand_range(value < BOUNDS[word], line, text, word)
             demand(word not in self.registers, line, "the register is given twice")
             self.registers[word] = (line, value)
         elif word in ("+cy", "-cy"):
@@ -200,7 +252,7 @@ class Words:
         elif word == "..":
             self.ask(line, "fill")
         else:
-            raise fault(line, f"what is {shown(word)}")
+            raise unknown(line, word)
 
     def new(self):
         self.made += 1

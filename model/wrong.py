@@ -218,7 +218,11 @@ WRONG = (
     (WORDS, "raise fault(self.open[0][2]", "raise fault(self.open[-1][2]"),
     (WORDS, "source.removeprefix(MARK)", "source"),
     (WORDS, '[it.removesuffix("\\r") for it in', "[it for it in"),
-    (WORDS, 'it if "!" <= it <= "~" else', 'it if "!" <= it else'),
+    (WORDS, 'it if " " <= it <= "~" else', 'it if " " <= it else'),
+    (WORDS, "if word in OTHERS:", 'if word == "swap":'),
+    (WORDS, "len(it) > 3 and is_near(word, it)", "is_near(word, it)"),
+    (WORDS, "return len(apart) < 2 or exchanged", "return len(apart) < 2"),
+    (WORDS, 'return f"0x{word[1:]}"', "return word[1:]"),
     # the packing rule
     (SOURCE, "FIELDS = {0: 10, 1: 8, 2: 3}", "FIELDS = {0: 10, 1: 8, 2: 4}"),
     (SOURCE, "FIELDS = {0: 10, 1: 8, 2: 3}", "FIELDS = {0: 10, 1: 8}"),

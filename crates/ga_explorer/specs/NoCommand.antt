@@ -1,26 +1,12 @@
 -- What is said of a line that spells no command (docs/REFERENCE.md, "Exploring"; this project's own).
-use Rattle.std.specs.Prelude.{nat_eq, nat_le, Bool, false, ◌==◌, ◌&&◌, ◌||◌, if◌then◌else◌, List, [], ◌∷◌, ◌++◌, length, codes, Option, Some, None}
+use Rattle.std.specs.Prelude.{nat_eq, nat_le, Bool, false, ◌&&◌, ◌||◌, if◌then◌else◌, List, [], ◌∷◌, ◌++◌, codes, Option, Some, None}
 use Rattle.std.specs.Cmp.Lexicographic.{pointwise}
 use Rattle.std.specs.List.{starts_with, ends_with}
 use Rattle.ga_text.specs.Lines.{Text, Line}
 use Rattle.ga_text.specs.Parsing.{cut}
+use Rattle.ga_parser.specs.Nearness.{is_near}
 use Rattle.ga_explorer.specs.Forms.{CommandForm}
 use Rattle.ga_explorer.specs.Commands.{rows}
-
--- the first two letters are exchanged, and the others the same
-unfoldable pub are_exchanged : Line → Text → Bool
-are_exchanged (first ∷ second ∷ rest) (other ∷ letter ∷ more) = (first == letter) && (second == other) && pointwise nat_eq rest more
-are_exchanged _ _ = false
-
--- The word is the name but for one letter, which is missing, too much or another; or but for two that stand together and are
--- exchanged. So their distance is one at most, where it counts insertions, deletions, substitutions and transpositions of
--- neighbours (Damerau 1964).
-unfoldable pub is_near : Line → Text → Bool
-is_near [] name = nat_le (length name) 1
-is_near (first ∷ rest) [] = length rest == 0
-is_near (first ∷ rest) (letter ∷ more) =
-    if first == letter then is_near rest more
-    else pointwise nat_eq rest more || (pointwise nat_eq rest (letter ∷ more) || (pointwise nat_eq (first ∷ rest) more || are_exchanged (first ∷ rest) (letter ∷ more)))
 
 -- the form of the command of this name
 unfoldable pub form_of_command : Line → List CommandForm → Option Text

@@ -4,10 +4,11 @@ ghost use Rattle.std.specs.Prelude.{◌≡◌, ◌++◌, codes, map, option_map,
 ghost use Rattle.ga_text.specs.Output.{Says, SaysExactly};
 ghost use Rattle.ga_explorer.specs.Forms.{form_row_text, form_rows_text, about_text, place_from};
 ghost use Rattle.ga_explorer.specs.Commands.{rows, command_text, place_of_form};
-ghost use Rattle.ga_explorer.specs.NoCommand.{form_of_command, near_form_in, form_for, is_near, are_exchanged, is_mark, is_return, has_blank_end, is_upper, cure, no_command};
+ghost use Rattle.ga_explorer.specs.NoCommand.{form_of_command, near_form_in, form_for, is_mark, is_return, has_blank_end, is_upper, cure, no_command};
 ghost use Rattle.ga_explorer.specs.inner.{entry_of};
 
 use crate::commands::rows;
+use ga_parser::is_near;
 use ga_text::{Spoken, Writer, cut};
 use std::fmt;
 use std::io::Write;
@@ -230,35 +231,4 @@ fn near_form_in(rows: &'static [Row], word: &[u8]) -> Option<&'static [u8]>
         }
     }
     None
-}
-
-/// Whether a word is a name but for one letter: one is missing, too much or another, or two that stand together are exchanged.
-#[tactic(auto, unfolding(crate::specs::NoCommand::is_near))]
-fn is_near(word: &[u8], name: &[u8]) -> bool
-    ensures { result ≡ is_near word.now name.now }
-{
-    let Some((first, rest)) = word.split_first() else {
-        return name.len() <= 1;
-    };
-    let Some((letter, more)) = name.split_first() else {
-        return rest.is_empty();
-    };
-    if first == letter {
-        return is_near(rest, more);
-    }
-    rest == more || rest == name || word == more || are_exchanged(word, name)
-}
-
-/// Whether the first two letters of two words are exchanged, and the others the same.
-#[tactic(auto, unfolding(crate::specs::NoCommand::are_exchanged))]
-fn are_exchanged(word: &[u8], name: &[u8]) -> bool
-    ensures { result ≡ are_exchanged word.now name.now }
-{
-    match word {
-        [first, second, rest @ ..] => match name {
-            [other, letter, more @ ..] => first == letter && second == other && rest == more,
-            _ => false,
-        },
-        _ => false,
-    }
 }

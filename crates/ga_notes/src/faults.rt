@@ -1,13 +1,14 @@
 //! What standard error is told of a source.
-ghost use Rattle.std.specs.Prelude.{◌≡◌, ◌+◌, ◌*◌, ◌≤◌, [], ◌++◌, take, length};
+ghost use Rattle.std.specs.Prelude.{◌≡◌, ◌+◌, ◌*◌, ◌≤◌, [], ◌++◌, take, length, codes};
 ghost use Rattle.arrayvec.specs.ArrayVec.{array_vec_len};
 ghost use Rattle.ga_node.specs.State.{IsPlace};
-ghost use Rattle.ga_notes.specs.inner.{shown_byte, shown, unknown_text};
+ghost use Rattle.ga_parser.specs.Hints.{hint_for};
+ghost use Rattle.ga_notes.specs.inner.{hinted, shown_byte, shown, unknown_text, number_text, range_text};
 
 use arrayvec::ArrayVec;
 use ga_grid::{Chip, NODES, NodeId};
 use ga_node::{Node, Place};
-use ga_source::{Assembled, Fault, SourceCause, Store, stores_over_code};
+use ga_source::{Assembled, Fault, NumberRange, SourceCause, Store, hint_for, stores_over_code};
 use ga_text::{TextBuffer, push_byte, push_number, push_text, write_all};
 use std::alloc::{AllocError, Global};
 use std::io::Write;
@@ -15,8 +16,8 @@ use std::io::Write;
 /// The most bytes of a word of source.
 const WORD_LIMIT: usize = 200;
 
-/// Room for a line with a word, whose bytes take four each at most.
-const FAULT_ROOM: usize = 1024;
+/// Room for a line with a word and what to write in its place, whose bytes take four each at most.
+const FAULT_ROOM: usize = 2304;
 
 /// A line with a word of the source.
 type FaultText = ArrayVec<u8, FAULT_ROOM>;
@@ -34,6 +35,7 @@ fn fault_text(fault: Fault<'_>) -> FaultText {
     let mut text = FaultText::new();
     match fault.cause {
         SourceCause::Unknown(word) => put_unknown(&mut text, fault.line, word),
+        SourceCause::Number(word, range) => put_number(&mut text, fault.line, word, range),
         cause => {
             let _ = write!(text, "ga144: line {}: {}\n", fault.line, cause);
         }
@@ -64,7 +66,72 @@ fn put_unknown(out: &mut FaultText, line: u32, word: &[u8])
     push_number(out, u64::from(line));
     push_text(out, b": what is ");
     push_shown(out, front(word));
+    push_hint(out, front(word));
     push_text(out, b"\n");
+}
+
+/// Adds what to write in place of a word, where something is known.
+fn push_hint(out: &mut FaultText, word: &[u8])
+    requires room { array_vec_len out.old + 1400 ≤ FAULT_ROOM }
+    requires short { length word.now ≤ 200 }
+    ensures text { out.new.items ≡ out.old.items ++ hinted (hint_for word.now) }
+    ensures len { array_vec_len out.new ≤ array_vec_len out.old + 1400 }
+{
+    match hint_for(word) {
+        Some(hint) => push_parts(out, hint.before, hint.word, hint.behind),
+        None => {}
+    }
+}
+
+/// Adds a text in three parts.
+#[tactic(auto, using(crate::proofs::Hinted::parts_shown))]
+fn push_parts(out: &mut FaultText, before: &[u8], word: &[u8], behind: &[u8])
+    requires room { array_vec_len out.old + 1400 ≤ FAULT_ROOM }
+    requires before { length before.now ≤ 64 }
+    requires short { length word.now ≤ 200 }
+    requires behind { length behind.now ≤ 64 }
+    ensures text { out.new.items ≡ out.old.items ++ (codes ": " ++ shown (before.now ++ (word.now ++ behind.now))) }
+    ensures len { array_vec_len out.new ≤ array_vec_len out.old + 1400 }
+{
+    push_text(out, b": ");
+    push_shown(out, before);
+    push_shown(out, word);
+    push_shown(out, behind);
+}
+
+/// Puts the line that tells a number out of range.
+fn put_number(out: &mut FaultText, line: u32, word: &[u8], range: NumberRange)
+    ensures { out.new.items ≡ number_text line (take 200 word.now) range }
+{
+    out.clear();
+    push_text(out, b"ga144: line ");
+    push_number(out, u64::from(line));
+    push_text(out, b": number out of range: ");
+    push_shown(out, front(word));
+    push_range(out, range);
+}
+
+/// Adds the numbers of a range, and ends the line.
+fn push_range(out: &mut FaultText, range: NumberRange)
+    requires { array_vec_len out.old + 40 ≤ FAULT_ROOM }
+    ensures { out.new.items ≡ out.old.items ++ (codes " (" ++ range_text range ++ codes ")\n") }
+{
+    push_text(out, b" (");
+    push_text(out, text_of_range(range));
+    push_text(out, b")\n");
+}
+
+/// The numbers of a range, as they are told.
+fn text_of_range(range: NumberRange) -> &'static [u8]
+    ensures text { result.now ≡ range_text range }
+    ensures short { length result.now ≤ 23 }
+{
+    match range {
+        NumberRange::Word => b"-131072 to 262143",
+        NumberRange::P => b"0 to 0x3ff",
+        NumberRange::B => b"0 to 0x1ff",
+        NumberRange::Cell => b"0 to 0x3f, 0x80 to 0xbf",
+    }
 }
 
 /// A word as far as source has words.
@@ -96,7 +163,7 @@ fn push_shown_byte(out: &mut FaultText, byte: u8)
     ensures text { out.new.items ≡ out.old.items ++ shown_byte byte }
     ensures len { array_vec_len out.new ≤ array_vec_len out.old + 4 }
 {
-    if 32 < byte && byte < 127 {
+    if 32 <= byte && byte < 127 {
         push_text(out, &[byte]);
     } else {
         push_text(out, b"\\x");

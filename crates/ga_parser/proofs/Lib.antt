@@ -3,3 +3,4 @@ pub mod Hearing
 pub mod Numbers
 pub mod PlainAsked
 pub mod Asking
+pub mod Hinting

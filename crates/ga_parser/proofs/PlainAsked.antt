@@ -19,6 +19,8 @@ use Rattle.ga_parser.specs.declared.vocabulary.Directive.{Directive}
 use Rattle.ga_parser.specs.declared.vocabulary.Directive.TheVariants.{Label as Labels, Address as GoesOn, Register as Gives, Fill, Carry}
 use Rattle.ga_parser.specs.declared.vocabulary.Register.{Register as RegisterName}
 use Rattle.ga_parser.specs.declared.vocabulary.Register.TheVariants.{P, A, B}
+use Rattle.ga_parser.specs.declared.fault.NumberRange.{NumberRange}
+use Rattle.ga_parser.specs.declared.fault.NumberRange.TheVariants.{Word as ToWord, Cell as ToCell}
 use Rattle.ga_parser.specs.declared.draft.Expect.{Expect}
 use Rattle.ga_parser.specs.declared.draft.Expect.TheVariants.{Word, Address, Name, Register, Nothing}
 use Rattle.ga_parser.specs.declared.scan.TokenKind.{TokenKind}
@@ -28,7 +30,7 @@ use Rattle.ga_parser.specs.Asking.{Mention, is_waiting, carried, Asking, Refusal
 use Rattle.ga_parser.specs.Asking.Wrong.{LongLine, OpenComment}
 use Rattle.ga_parser.specs.Saying.{Said, said_of, all_said}
 use Rattle.ga_ports.specs.Steps.{◌>>=◌}
-use Rattle.ga_parser.specs.Vocabulary.{by_name, has_prefix, number_by_word, directives, directive_in, bound_of}
+use Rattle.ga_parser.specs.Vocabulary.{by_name, has_prefix, number_by_word, directives, directive_in, bound_of, range_of}
 use Rattle.ga_parser.specs.Plain.{Plain, with_request, by_number, only_if, is_cell, asked_by, value_in, plain_of, no_request}
 use Rattle.ga_parser.specs.inner.Drafting.{Heard, HasHeard, nothing_heard, end_of, with_register, may_give, next_of, hear_word, hear, hear_all, texts_of}
 use Rattle.ga_parser.specs.declared.labels.Label.{Label}
@@ -48,8 +50,8 @@ heard_as outcome later expected after is has e = record { later = later; is = is
 
 -- ---- numbers
 
-in_range : {X : Type 0} (word : List ℕ) (line n : ℕ) (asks : ℕ → Result X Refusal) (other : Result X Refusal) → number_by_word word ≡ Of n → by_range (number_by_word word) line asks other ≡ asks n
-in_range word line n asks other is = ap (λ (found : NumberIn). by_range found line asks other) is
+in_range : {X : Type 0} (word : List ℕ) (line n : ℕ) (range : NumberRange) (asks : ℕ → Result X Refusal) (other : Result X Refusal) → number_by_word word ≡ Of n → by_range (number_by_word word) line word range asks other ≡ asks n
+in_range word line n range asks other is = ap (λ (found : NumberIn). by_range found line word range asks other) is
 
 quoted_first : (word : List ℕ) → has_prefix word (codes "'") ≡ true → slice_index_or word 0 0 ≡ 39
 quoted_first [] e = absurd (true≢false (sym e))
@@ -59,7 +61,7 @@ number_said : (now : Asking) (line n : ℕ) (word : List ℕ) → number_by_word
 unfolding value_said
 number_said now line n word is = elim (cases_Bool (has_prefix word (codes "'"))) [
   | inl quoted ↦ absurd (no_label word n (quoted_first word quoted) is)
-  | inr other ↦ cond-false (has_prefix word (codes "'")) _ _ other ∙ in_range word line n _ _ is
+  | inr other ↦ cond-false (has_prefix word (codes "'")) _ _ other ∙ in_range word line n ToWord _ _ is
 ]
 
 both : (a b : Bool) → (a && b) ≡ true → (a ≡ true) × (b ≡ true)
@@ -132,7 +134,7 @@ module _ (now : Asking) (heard : Heard) (has : HasHeard now heard) where
       let may = allowed (is_cell number.n) _ after number.gives in
       let small : carried now.carries number.n ≡ number.n = not_carried number.n now.carries has.carries (cell_small number.n may.0) in
       heard_as _ (asks (record now { expect = Word }) line (Go number.n)) _ after
-      (in_range word line number.n _ _ number.is ∙ (cond-true (is_cell number.n) _ _ may.0 ∙ ap (λ (n : ℕ). let r : Result Asking Refusal = Ok (asks (record now { expect = Word }) line (Go n)) in r) small))
+      (in_range word line number.n ToCell _ _ number.is ∙ (cond-true (is_cell number.n) _ _ may.0 ∙ ap (λ (n : ℕ). let r : Result Asking Refusal = Ok (asks (record now { expect = Word }) line (Go n)) in r) small))
       (asks_has Word line (Go number.n)) may.1
 
   given_heard : (line n : ℕ) (register : RegisterName) → may_give heard.plain register n ≡ true → (nat_lt n (bound_of register) ≡ true) × (is_none (given_in now.registers register) ≡ true) × HasHeard (record now { expect = Word; registers = with_given now.registers register (record { line = line; value = Number n }) }) (record { expect = Word; plain = with_register heard.plain register n })
@@ -159,7 +161,7 @@ module _ (now : Asking) (heard : Heard) (has : HasHeard now heard) where
       let may = allowed (may_give heard.plain register number.n) _ after number.gives in
       let given = given_heard line number.n register may.0 in
       heard_as _ (record now { expect = Word; registers = with_given now.registers register (record { line = line; value = Number number.n }) }) _ after
-      (in_range word line number.n _ _ number.is ∙ (cond-true (nat_lt number.n (bound_of register)) _ _ given.0 ∙ cond-true (is_none (given_in now.registers register)) _ _ given.1))
+      (in_range word line number.n (range_of register) _ _ number.is ∙ (cond-true (nat_lt number.n (bound_of register)) _ _ given.0 ∙ cond-true (is_none (given_in now.registers register)) _ _ given.1))
       given.2 may.1
 
 -- one word, by what is expected

@@ -21,13 +21,15 @@ use Rattle.ga_parser.specs.declared.vocabulary.Directive.{Directive}
 use Rattle.ga_parser.specs.declared.vocabulary.Directive.TheVariants.{Label as Labels, Address as GoesOn, Register as Gives, Fill as Fills, Carry as Carries}
 use Rattle.ga_parser.specs.declared.vocabulary.Register.{Register as RegisterName}
 use Rattle.ga_parser.specs.declared.vocabulary.Register.TheVariants.{P, A, B}
+use Rattle.ga_parser.specs.declared.fault.NumberRange.{NumberRange}
+use Rattle.ga_parser.specs.declared.fault.NumberRange.TheVariants.{Word as ToWord, Cell as ToCell}
 use Rattle.ga_parser.specs.declared.draft.Expect.{Expect}
 use Rattle.ga_parser.specs.declared.draft.Expect.TheVariants.{Word, Address, Name, Register, Nothing}
 use Rattle.ga_parser.specs.declared.labels.Label.{Label as LabelRecord}
 use Rattle.ga_parser.specs.declared.controls.Open.{Open}
 use Rattle.ga_parser.specs.declared.controls.Open.TheVariants.{Loop, Ahead as JumpAhead}
 use Rattle.ga_parser.specs.Saying.{Said, has_bytes}
-use Rattle.ga_parser.specs.Vocabulary.{has_prefix, number_by_word, opcode_in, control_in, directive_in, bound_of, is_taken}
+use Rattle.ga_parser.specs.Vocabulary.{has_prefix, number_by_word, opcode_in, control_in, directive_in, bound_of, range_of, is_taken}
 use Rattle.ga_parser.specs.Plain.{is_cell}
 
 -- ---- what the words so far ask for
@@ -77,7 +79,8 @@ pub data Wrong : Type 0 where
   RegisterTwice : Wrong
   Unmatched : Wrong
   Unclosed : Wrong
-  NoNumberHere : Wrong
+  -- a word that says no number which its place takes
+  NoNumberHere : List ℕ → NumberRange → Wrong
   -- a fault that words alone don't have
   Later : Wrong
 
@@ -200,18 +203,18 @@ control now line Repeat = end_loop now line ▷ (λ end. end_ahead (jump end.1 l
 
 -- ---- numbers and values
 
--- what a number asks for, where the word is one that is in range
-abbrev pub by_range : {X : Type 0} → NumberIn → ℕ → (ℕ → Result X Refusal) → Result X Refusal → Result X Refusal
-by_range (Of n) line asks other = asks n
-by_range OutOfRange line asks other = refuse_line line NoNumberHere
-by_range NoNumber line asks other = other
+-- what a number asks for, where the word is one that is in range; a place takes numbers of this range
+abbrev pub by_range : {X : Type 0} → NumberIn → ℕ → List ℕ → NumberRange → (ℕ → Result X Refusal) → Result X Refusal → Result X Refusal
+by_range (Of n) line word range asks other = asks n
+by_range OutOfRange line word range asks other = refuse_line line (NoNumberHere word range)
+by_range NoNumber line word range asks other = other
 
 -- the value that a word says, where it says one: a number, a port, or behind an apostrophe the address of a label
 unfoldable pub value_said : Asking → ℕ → List ℕ → Result (Option Operand × Asking) Refusal
 value_said now line word =
     if has_prefix word (codes "'") then
     (if has_bytes (drop 1 word) then Ok (Some (Label (label_number now.labels (drop 1 word))), naming now line (drop 1 word)) else refuse_line line Missing)
-    else by_range (number_by_word word) line (λ n. Ok (Some (Number n), now)) (Ok (None, now))
+    else by_range (number_by_word word) line word ToWord (λ n. Ok (Some (Number n), now)) (Ok (None, now))
 
 -- ---- words
 
@@ -267,7 +270,7 @@ carried is_set address = (if is_set then 512 else 0) + address % 512
 -- `org N`
 unfoldable pub address_asks : Asking → ℕ → List ℕ → Result Asking Refusal
 address_asks now line word =
-    by_range (number_by_word word) line (λ n. if is_cell n then Ok (asking now line (Go (carried now.carries n))) else refuse_line line NoNumberHere) (refuse_line line Missing)
+    by_range (number_by_word word) line word ToCell (λ n. if is_cell n then Ok (asking now line (Go (carried now.carries n))) else refuse_line line (NoNumberHere word ToCell)) (refuse_line line Missing)
 
 -- what a register is given
 abbrev pub given_in : Registers → RegisterName → Option Given
@@ -289,7 +292,7 @@ give now line register value =
 -- `/p X`, `/a X`, `/b X`
 unfoldable pub register_asks : Asking → ℕ → RegisterName → List ℕ → Result Asking Refusal
 register_asks now line register word =
-    by_range (number_by_word word) line (λ n. if nat_lt n (bound_of register) then give now line register (Number n) else refuse_line line NoNumberHere)
+    by_range (number_by_word word) line word (range_of register) (λ n. if nat_lt n (bound_of register) then give now line register (Number n) else refuse_line line (NoNumberHere word (range_of register)))
     (if is_taken word then refuse_line line Missing else give (naming now line word) line register (Label (label_number now.labels word)))
 
 -- a word by what is expected

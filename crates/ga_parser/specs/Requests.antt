@@ -19,7 +19,7 @@ wrong_of StandsTwice = LabelTwice
 wrong_of GivenTwice = RegisterTwice
 wrong_of NothingOpen = Unmatched
 wrong_of NeverClosed = Unclosed
-wrong_of OutOfRange = NoNumberHere
+wrong_of (OutOfRange word range) = NoNumberHere word.now range
 wrong_of _ = Later
 
 abbrev pub word_refusal : Fault → Refusal

@@ -19,6 +19,8 @@ use Rattle.ga_parser.specs.declared.vocabulary.Directive.{Directive}
 use Rattle.ga_parser.specs.declared.vocabulary.Directive.TheVariants.{Label, Address, Register as Given, Fill, Carry}
 use Rattle.ga_parser.specs.declared.vocabulary.Register.{Register}
 use Rattle.ga_parser.specs.declared.vocabulary.Register.TheVariants.{P, A, B}
+use Rattle.ga_parser.specs.declared.fault.NumberRange.{NumberRange}
+use Rattle.ga_parser.specs.declared.fault.NumberRange.TheVariants.{Word as ToWord, P as ToP, B as ToB}
 
 -- ---- numbers
 
@@ -165,6 +167,12 @@ abbrev pub bound_of : Register → ℕ
 bound_of P = 0x400
 bound_of A = 0x40000
 bound_of B = 0x200
+
+-- the numbers that a register takes
+abbrev pub range_of : Register → NumberRange
+range_of P = ToP
+range_of A = ToWord
+range_of B = ToB
 
 -- ---- names
 

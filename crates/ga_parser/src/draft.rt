@@ -5,11 +5,12 @@ ghost use Rattle.ga_slots.specs.declared.op.Op.TheVariants.{Jump, Call};
 ghost use Rattle.ga_parser.specs.declared.fault.SourceCause.TheVariants.{Memory};
 ghost use Rattle.ga_parser.specs.Asking.{asked_by_words, carried as carried_of, is_waiting as is_waiting_for};
 ghost use Rattle.ga_parser.specs.Requests.{AreRequestsOf, word_refusal};
+ghost use Rattle.ga_parser.specs.Asking.Wrong.{NoNumberHere};
 ghost use Rattle.ga_parser.specs.inner.Drafting.{Answers, asking_of, texts_of};
 ghost use Rattle.ga_parser.specs.Saying.{all_said};
 
 use super::controls::Open;
-use super::fault::{Fault, SourceCause, fault_at};
+use super::fault::{Fault, NumberRange, SourceCause, fault_at};
 use super::item::{Asked, Given, Item, NodeRequests, Operand, Registers, Request};
 use super::labels::Labels;
 use super::number::{Number, number_of};
@@ -112,7 +113,7 @@ impl<'s> Draft<'s> {
         }
         match number_of(text) {
             Number::Of(number) => Ok(Some(Operand::Number(number))),
-            Number::OutOfRange => Err(fault_at(line, SourceCause::Number)),
+            Number::OutOfRange => Err(out_of_range(line, text, NumberRange::Word)),
             Number::Nothing => Ok(None),
         }
     }
@@ -136,11 +137,11 @@ impl<'s> Draft<'s> {
         let value = match number_of(text) {
             Number::Of(number) => {
                 if number >= register.bound() {
-                    return Err(fault_at(line, SourceCause::Number));
+                    return Err(out_of_range(line, text, register.range()));
                 }
                 Operand::Number(number)
             }
-            Number::OutOfRange => return Err(fault_at(line, SourceCause::Number)),
+            Number::OutOfRange => return Err(out_of_range(line, text, register.range())),
             Number::Nothing => {
                 if is_taken(text) {
                     return Err(fault_at(line, SourceCause::Missing));
@@ -177,7 +178,7 @@ impl<'s> Draft<'s> {
     }
 
     #[tactic(auto, unfolding(crate::specs::Asking::address_asks))]
-    fn address(&mut self, line: u32, text: &[u8]) -> Result<(), Fault<'s>>
+    fn address(&mut self, line: u32, text: &'s [u8]) -> Result<(), Fault<'s>>
         ensures { Answers result (address_asks (asking_of self.old) line text.now) (λ _. asking_of self.new) }
     {
         match number_of(text) {
@@ -185,10 +186,10 @@ impl<'s> Draft<'s> {
                 if found < 0x40 || 0x80 <= found && found < 0xc0 {
                     self.ask(line, Request::Go(carried(self.carries, found)))
                 } else {
-                    Err(fault_at(line, SourceCause::Number))
+                    Err(out_of_range(line, text, NumberRange::Cell))
                 }
             }
-            Number::OutOfRange => Err(fault_at(line, SourceCause::Number)),
+            Number::OutOfRange => Err(out_of_range(line, text, NumberRange::Cell)),
             Number::Nothing => Err(fault_at(line, SourceCause::Missing)),
         }
     }
@@ -271,6 +272,13 @@ impl<'s> Draft<'s> {
         }
         self.labels.check()
     }
+}
+
+/// A number that its place doesn't take.
+fn out_of_range(line: u32, text: &[u8], range: NumberRange) -> Fault<'_>
+    ensures { word_refusal result ≡ record { line = line; wrong = NoNumberHere text.entry.now range } }
+{
+    fault_at(line, SourceCause::Number(text, range))
 }
 
 /// Whether a word is missing.

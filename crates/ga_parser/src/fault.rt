@@ -5,6 +5,19 @@ ghost use Rattle.std.specs.Prelude.{◌≡◌};
 use std::alloc::{AllocError, AllocFailed};
 use thiserror::Error;
 
+/// The numbers that a place takes.
+#[derive(Clone, Copy, PartialEq, Eq, Debug)]
+pub enum NumberRange {
+    /// A word of 18 bits, with or without a sign.
+    Word,
+    /// An address with its carry bit.
+    P,
+    /// An address.
+    B,
+    /// The address of a cell of RAM or ROM.
+    Cell,
+}
+
 /// What is wrong.
 #[derive(Clone, Copy, PartialEq, Eq, Debug, Error)]
 pub enum SourceCause<'s> {
@@ -35,8 +48,9 @@ pub enum SourceCause<'s> {
     Unmatched,
     #[error("this is never closed")]
     Open,
+    /// A word that says a number, or a label that has an address, which the place doesn't take.
     #[error("number out of range")]
-    Number,
+    Number(&'s [u8], NumberRange),
     /// A cell that a line gave already: 00 to 3f of RAM, 80 to bf of ROM.
     #[error("cell {cell:03x} given before on line {line} (org {cell} is {cell:03x})")]
     CellTwice { cell: u32, line: u32 },

@@ -30,7 +30,7 @@ fn digit(byte: u8, base: u32) -> Option<u32>
 
 /// The number of some digits of a base, where there are only such.
 #[tactic(auto, using(crate::proofs::Numbers::no_digits))]
-fn digits(text: &[u8], base: u32) -> Option<u32>
+pub(crate) fn digits(text: &[u8], base: u32) -> Option<u32>
     requires least { 2 ≤ base }
     requires most { base ≤ 16 }
     ensures { result ≡ option_map (λ number. min number (2 ^ 24)) (digits_in base text.now) }

@@ -1,8 +1,9 @@
 //! The words that stand for themselves.
 
 ghost use Rattle.std.specs.Prelude.{◌≡◌, ◌||◌, is_some, codes, bytes_eq};
-ghost use Rattle.ga_parser.specs.Vocabulary.{by_name, closings, other_names, own_names, without_address, opcode_in, control_in, directive_in, bound_of, is_a_number as is_number_in, is_sign as is_sign_word, is_taken as is_taken_word};
+ghost use Rattle.ga_parser.specs.Vocabulary.{by_name, closings, other_names, own_names, without_address, opcode_in, control_in, directive_in, bound_of, range_of, is_a_number as is_number_in, is_sign as is_sign_word, is_taken as is_taken_word};
 
+use super::fault::NumberRange;
 use super::number::{Number, number_of};
 use ga_slots::Op;
 
@@ -96,7 +97,7 @@ pub(crate) fn is_taken(text: &[u8]) -> bool
 }
 
 /// Whether what a word says is a number, in range or not.
-fn is_number(number: Number) -> bool
+pub(crate) fn is_number(number: Number) -> bool
     ensures { result ≡ is_number_in number }
 {
     match number {
@@ -148,13 +149,24 @@ pub enum Register {
 
 impl Register {
     /// The register's values are below this.
-    pub(crate) fn bound(self) -> u32
+    pub fn bound(self) -> u32
         ensures { result ≡ bound_of self }
     {
         match self {
             Register::P => 0x400,
             Register::A => 0x4_0000,
             Register::B => 0x200,
+        }
+    }
+
+    /// The register's values.
+    pub fn range(self) -> NumberRange
+        ensures { result ≡ range_of self }
+    {
+        match self {
+            Register::P => NumberRange::P,
+            Register::A => NumberRange::Word,
+            Register::B => NumberRange::B,
         }
     }
 }

@@ -9,3 +9,4 @@ pub mod Refusing
 pub mod Making
 pub mod PlainNodes
 pub mod Bodies
+pub mod Storing

@@ -14,8 +14,8 @@ mod reading;
 mod stores;
 
 pub use ga_parser::{
-    Asked, Fault, Given, Item, Label, Operand, Registers, Request, SourceCause, Token, TokenKind,
-    source_words, unmarked,
+    Asked, Fault, Given, Hint, Item, Label, NumberRange, Operand, Registers, Request, SourceCause,
+    Token, TokenKind, hint_for, source_words, unmarked,
 };
 pub use group::Group;
 pub use mending::{MOST_FAULTS, Mended, assemble_behind_faults, assemble_numbered};

@@ -232,7 +232,7 @@ fn write_item(
     match item {
         Item::Literal(value) => match value_in(labels, value) {
             Some(word) => write(node, given, line, spot.p, word),
-            None => Err(fault_at(line, SourceCause::Number)),
+            None => Err(fault_at(line, SourceCause::Missing)),
         },
         Item::Back(_, label) => see_jump(labels, line, spot, label),
         Item::Ahead(_, label) => see_jump(labels, line, spot, label),
@@ -265,7 +265,7 @@ fn write_group(
         return Ok(());
     }
     let Some(word) = word_of(labels, group) else {
-        return Err(fault_at(group.line(), SourceCause::Number));
+        return Err(fault_at(group.line(), SourceCause::Missing));
     };
     write(node, given, group.line(), group.address, word)?;
     let mut spot = begin_at(group.address);

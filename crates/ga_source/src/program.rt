@@ -8,6 +8,7 @@ ghost use Rattle.ga_source.specs.Cells.{IsEmptyElsewhere, HasGroups};
 ghost use Rattle.ga_grid.specs.Grid.{number_where_any};
 ghost use Rattle.ga_parser.specs.Plain.{Plain, is_node as is_node_word, body_in, bodies_in, yxx_in, texts_in, plain_of, value_in, asked_by};
 ghost use Rattle.ga_parser.specs.Saying.{all_said, said_in, Said};
+ghost use Rattle.ga_parser.specs.Vocabulary.{bound_of};
 ghost use Rattle.ga_source.specs.Made.{IsChipOfSource, AreDistinctCells, cells_from, IsSoundSource};
 ghost use Rattle.ga_parser.specs.declared.fault.SourceCause.TheVariants.{Memory};
 ghost use Rattle.ga_parser.specs.declared.scan.TokenKind.TheVariants.{Word};
@@ -21,8 +22,8 @@ use super::reading::resolve;
 use ga_grid::{Chip, NODES, NodeId, node_number};
 use ga_node::{Node, Place};
 use ga_parser::{
-    Asked, Fault, Given, Label, NodeRequests, Operand, Registers, Request, SourceCause, Token,
-    fault_at, read_requests, words_up_to_fault,
+    Asked, Fault, Given, Label, NodeRequests, Operand, Register, Registers, Request, SourceCause,
+    Token, fault_at, read_requests, words_up_to_fault,
 };
 use std::alloc::Global;
 
@@ -112,41 +113,57 @@ fn registers_of(given: Registers, labels: &[Label<'_>], has_cells: bool) -> Regi
     registers
 }
 
+/// The label's name, where the value is a label's address.
+fn name_of<'s>(names: &[Label<'s>], value: Operand) -> &'s [u8] {
+    match value {
+        Operand::Label(label) => match names.get(label) {
+            Some(found) => found.name,
+            None => &[],
+        },
+        Operand::Number(_) => &[],
+    }
+}
+
 /// What a register gets, where it is given: below its bound.
-fn value_given(
+fn value_given<'s>(
     labels: &[Option<u32>],
+    names: &[Label<'s>],
     given: Option<Given>,
-    bound: u32,
-) -> Result<Option<u32>, Fault<'static>>
-    ensures in_range { IfOk result (λ found. IfSome found (λ value. value < bound)) }
+    register: Register,
+) -> Result<Option<u32>, Fault<'s>>
+    ensures in_range { IfOk result (λ found. IfSome found (λ value. value < bound_of register)) }
     ensures value { IfOk result (λ found. found ≡ given_of labels.now given) }
-    ensures refused { OnErr result (IsNumber bound (value_in given) → ⊥) }
+    ensures refused { OnErr result (IsNumber (bound_of register) (value_in given) → ⊥) }
 {
     let Some(given) = given else {
         return Ok(None);
     };
     match resolve(labels, given.value) {
-        Some(found) if found < bound => Ok(Some(found)),
-        _ => Err(fault_at(given.line, SourceCause::Number)),
+        Some(found) if found < register.bound() => Ok(Some(found)),
+        _ => {
+            let cause = SourceCause::Number(name_of(names, given.value), register.range());
+            Err(fault_at(given.line, cause))
+        }
     }
 }
 
 /// Sets the registers at load.
-fn set_registers(
+fn set_registers<'s>(
     node: &mut Node,
     labels: &[Option<u32>],
+    names: &[Label<'s>],
     registers: Registers,
-) -> Result<(), Fault<'static>>
+) -> Result<(), Fault<'s>>
     ensures set { OnOk result (node.new ≡ with_registers node.old labels.now registers) }
     ensures refused { OnErr result (AreNumbers (value_in registers.p) (value_in registers.a) (value_in registers.b) → ⊥) }
 {
-    if let Some(value) = value_given(labels, registers.p, 0x400)? {
+    if let Some(value) = value_given(labels, names, registers.p, Register::P)? {
         node.set(Place::P, value);
     }
-    if let Some(value) = value_given(labels, registers.a, 0x4_0000)? {
+    if let Some(value) = value_given(labels, names, registers.a, Register::A)? {
         node.set(Place::A, value);
     }
-    if let Some(value) = value_given(labels, registers.b, 0x200)? {
+    if let Some(value) = value_given(labels, names, registers.b, Register::B)? {
         node.set(Place::B, value);
     }
     Ok(())
@@ -198,7 +215,7 @@ fn assemble_node<'s>(
     } = read_requests(alloc, line, tokens)?;
     let packed = pack(alloc, asked.as_slice(), names.len())?;
     let registers = registers_of(given, names.as_slice(), has_cells(asked.as_slice()));
-    set_registers(node, packed.labels.as_slice(), registers)?;
+    set_registers(node, packed.labels.as_slice(), names.as_slice(), registers)?;
     load(node, &packed, asked.as_slice())?;
     Ok(Program {
         node: id,

@@ -1,11 +1,14 @@
 //! Stores of a constant address over the code of their own node.
 
-ghost use Rattle.std.specs.Prelude.{◌≡◌, None};
+ghost use Rattle.std.specs.Prelude.{◌≡◌, ◌<◌, [], ◌++◌, length, if◌then◌else◌, IfOk, OnOk};
+ghost use Rattle.ga_source.specs.inner.{is_data};
+ghost use Rattle.ga_source.specs.Reading.{p_behind as p_behind_of};
+ghost use Rattle.ga_source.specs.Stores.{cell_index, with_line, with_literal, with_word, code_lines as code_lines_of, stored_at, known_after, known_past_loop, is_nameless as is_nameless_by, known_behind, store_over, store_of, with_store, stores_in};
 
 use super::group::Group;
 use super::program::Program;
 use super::reading::resolve;
-use ga_parser::{Item, Request};
+use ga_parser::{Asked, Item, Label, Request};
 use ga_ports::advance_p;
 use ga_slots::Op;
 use std::alloc::{AllocError, Global};
@@ -38,7 +41,9 @@ const NOTHING_KNOWN: Known = Known {
 
 impl Known {
     /// The address that an opcode stores at, where it is known.
-    fn stored_at(self, op: Op) -> Option<u32> {
+    fn stored_at(self, op: Op) -> Option<u32>
+        ensures { result ≡ stored_at self op }
+    {
         match op {
             Op::StoreB => self.b,
             Op::Store | Op::StorePlus => self.a,
@@ -47,7 +52,9 @@ impl Known {
     }
 
     /// What is known behind an opcode.
-    fn after(self, op: Op) -> Self {
+    fn after(self, op: Op) -> Self
+        ensures { result ≡ known_after self op }
+    {
         let Known { a, b, literal } = self;
         let (a, b) = match op {
             Op::AStore => (literal, b),
@@ -63,27 +70,172 @@ impl Known {
             literal: None,
         }
     }
+
+    /// What is known behind the end of a loop, which may move A more than once.
+    fn past_loop(self, op: Op) -> Self
+        ensures { result ≡ known_past_loop self op }
+    {
+        Known {
+            a: None,
+            b: self.after(op).b,
+            literal: None,
+        }
+    }
+
+    /// What is known behind what a request asks for. A named label may be reached from elsewhere.
+    fn behind(self, program: &Program<'_>, request: Request) -> Self
+        ensures { result ≡ known_behind program.now self request }
+    {
+        match request {
+            Request::Put(Item::Literal(value)) => Known {
+                a: self.a,
+                b: self.b,
+                literal: resolve(program.labels.as_slice(), value),
+            },
+            Request::Put(Item::Opcode(op)) | Request::Put(Item::Ahead(op, _)) => self.after(op),
+            Request::Put(Item::Back(op, _)) => self.past_loop(op),
+            Request::Unext(_) => self.past_loop(Op::Unext),
+            Request::Mark(label) => {
+                if is_nameless(program.names.as_slice(), label) {
+                    self
+                } else {
+                    NOTHING_KNOWN
+                }
+            }
+            _ => self,
+        }
+    }
+}
+
+/// Whether a control word made the label.
+fn is_nameless(names: &[Label<'_>], label: usize) -> bool
+    ensures { result ≡ is_nameless_by names.now label }
+{
+    match names.get(label) {
+        Some(found) => found.name.is_empty(),
+        None => false,
+    }
 }
 
 /// The place of a cell among those of RAM and ROM, by its address.
-fn index_of(address: u32) -> usize {
+fn index_of(address: u32) -> usize
+    ensures index { result ≡ cell_index address }
+    ensures in_range { result < 192 }
+{
     let low = address % 256;
     (if low < 128 { low % 64 } else { 128 + low % 64 }) as usize
 }
 
-/// Notes the lines of the cells of a group, which holds code.
-fn note_code(code: &mut [u32], group: &Group) {
-    if let Some(line) = code.get_mut(index_of(group.address)) {
-        *line = group.line();
+/// Notes that a cell holds code of a line.
+fn note_line(code: &mut [u32], address: u32, line: u32)
+    requires { length code.old ≡ 192 }
+    ensures noted { code.new ≡ with_line code.old address line }
+    ensures size { length code.new ≡ 192 }
+{
+    code[index_of(address)] = line;
+}
+
+/// Notes the line of an item, where it is a literal: its cell is at P.
+fn note_literal(code: &mut [u32], p: u32, line: u32, item: Item)
+    requires { length code.old ≡ 192 }
+    ensures noted { code.new ≡ with_literal code.old p line item }
+    ensures size { length code.new ≡ 192 }
+{
+    if let Item::Literal(_) = item {
+        note_line(code, p, line);
     }
+}
+
+/// P behind the literal of an item.
+fn p_behind(p: u32, item: Item) -> u32
+    ensures { result ≡ p_behind_of p item }
+{
+    match item {
+        Item::Literal(_) => advance_p(p),
+        _ => p,
+    }
+}
+
+/// Notes the lines of the cells of a group, which holds code.
+#[tactic(auto, using(crate::proofs::Storing::literals_more))]
+fn note_code(code: &mut [u32], group: &Group)
+    requires { length code.old ≡ 192 }
+    ensures noted { code.new ≡ with_word code.old group.now }
+    ensures size { length code.new ≡ 192 }
+{
+    note_line(code, group.address, group.line());
     let mut p = advance_p(group.address);
-    for (i, item) in group.items.iter().enumerate() {
-        if let Item::Literal(_) = item {
-            if let Some(line) = code.get_mut(index_of(p)) {
-                *line = group.line_of(i);
-            }
-            p = advance_p(p);
+    for (i, item) in group.items.as_slice().iter().enumerate() {
+        note_literal(code, p, group.line_of(i), *item);
+        p = p_behind(p, *item);
+    }
+}
+
+/// Notes the lines of the cells of a group, where it holds code.
+fn note_group(code: &mut [u32], group: &Group)
+    requires { length code.old ≡ 192 }
+    ensures noted { code.new ≡ (if is_data group.now.items.items then code.old else with_word code.old group.now) }
+    ensures size { length code.new ≡ 192 }
+{
+    if !group.is_data() {
+        note_code(code, group);
+    }
+}
+
+/// Of each cell the line of its code, 0 where it holds none.
+#[tactic(auto, using(crate::proofs::Storing::groups_more))]
+fn code_lines(program: &Program<'_>) -> [u32; 192]
+    ensures lines { result ≡ code_lines_of program.now }
+    ensures size { length result ≡ 192 }
+{
+    let mut code = [0u32; 192];
+    'groups: for group in &program.groups {
+        note_group(&mut code, group);
+    }
+    code
+}
+
+/// The store at an address, where its cell is one of RAM that holds code. (A store to ROM changes nothing.)
+fn store_over(code: &[u32], line: u32, address: u32) -> Option<Store>
+    requires { length code.now ≡ 192 }
+    ensures { result ≡ store_over code.now line address }
+{
+    let code_line = code[index_of(address)];
+    if code_line != 0 && address % 512 < 128 {
+        Some(Store {
+            line,
+            address: address % 64,
+            code_line,
+        })
+    } else {
+        None
+    }
+}
+
+/// The store that a request asks for, where its address is known and its cell holds code.
+fn store_of(code: &[u32], known: Known, asked: Asked) -> Option<Store>
+    requires { length code.now ≡ 192 }
+    ensures { result ≡ store_of code.now known asked.line asked.request }
+{
+    match asked.request {
+        Request::Put(Item::Opcode(op)) => match known.stored_at(op) {
+            Some(address) => store_over(code, asked.line, address),
+            None => None,
+        },
+        _ => None,
+    }
+}
+
+/// Adds a store, where there is one.
+fn add_store(stores: &mut Vec<Store>, store: Option<Store>) -> Result<(), AllocError>
+    ensures { OnOk result (stores.new.items ≡ stores.old.items ++ with_store store []) }
+{
+    match store {
+        Some(store) => {
+            stores.push(store)?;
+            Ok(())
         }
+        None => Ok(()),
     }
 }
 
@@ -92,60 +244,16 @@ fn note_code(code: &mut [u32], group: &Group) {
 ///
 /// # Errors
 /// Memory was refused.
-pub fn stores_over_code(alloc: Global, program: &Program<'_>) -> Result<Vec<Store>, AllocError> {
-    let mut code = [0u32; 192];
-    for group in &program.groups {
-        if !group.is_data() {
-            note_code(&mut code, group);
-        }
-    }
+#[tactic(auto, using(crate::proofs::Storing::store_step))]
+pub fn stores_over_code(alloc: Global, program: &Program<'_>) -> Result<Vec<Store>, AllocError>
+    ensures { IfOk result (λ stores. stores.items ≡ stores_in program.now) }
+{
+    let code = code_lines(program);
     let mut stores = Vec::new(alloc);
     let mut known = NOTHING_KNOWN;
     for asked in &program.asked {
-        if let Request::Put(Item::Opcode(op)) = asked.request {
-            if let Some(address) = known.stored_at(op) {
-                let code_line = code.get(index_of(address)).copied().unwrap_or(0);
-                // (A store to ROM changes nothing.)
-                if code_line != 0 && address % 512 < 128 {
-                    stores.push(Store {
-                        line: asked.line,
-                        address: address % 64,
-                        code_line,
-                    })?;
-                }
-            }
-        }
-        known = known_behind(program, known, asked.request);
+        add_store(&mut stores, store_of(&code, known, *asked))?;
+        known = known.behind(program, asked.request);
     }
     Ok(stores)
-}
-
-/// What is known behind what a request asks for. A named label may be reached from elsewhere, and a loop may move A more than
-/// once.
-fn known_behind(program: &Program<'_>, known: Known, request: Request) -> Known {
-    match request {
-        Request::Put(Item::Literal(value)) => Known {
-            a: known.a,
-            b: known.b,
-            literal: resolve(program.labels.as_slice(), value),
-        },
-        Request::Put(Item::Opcode(op)) | Request::Put(Item::Ahead(op, _)) => known.after(op),
-        Request::Put(Item::Back(op, _)) => without_a(known.after(op)),
-        Request::Unext(_) => without_a(known.after(Op::Unext)),
-        Request::Mark(label) => match program.names.get(label) {
-            Some(found) if found.name.is_empty() => known,
-            _ => NOTHING_KNOWN,
-        },
-        _ => known,
-    }
-}
-
-fn without_a(known: Known) -> Known
-    ensures { result ≡ record { a = None; b = known.b; literal = None } }
-{
-    Known {
-        a: None,
-        b: known.b,
-        literal: None,
-    }
 }

@@ -1,0 +1,175 @@
+//! What to write in place of a word that says nothing.
+
+ghost use Rattle.std.specs.List.{list_all};
+ghost use Rattle.std.specs.Prelude.{◌≡◌, ◌≤◌, true, [], ◌++◌, ℕ, List, length, map, option_map, IfSome};
+ghost use Rattle.ga_parser.specs.Vocabulary.{by_name};
+ghost use Rattle.ga_parser.specs.Hints.{other_word, known_word, first_meant, is_meant, behind_dollar, behind_colon, in_front_of, number_in_front, spelled, hint_for, hint_text, IsShortFor};
+ghost use Rattle.ga_parser.specs.inner.Hinting.{row_of, name_of, is_short_row, is_short_name};
+
+use super::hint_words::{KnownWord, OtherWord, known_words, other_words};
+use super::nearness::{is_near, is_same};
+use super::number::{digits, number_of};
+use super::vocabulary::is_number;
+
+/// What to write in place of a word: three texts, one behind another.
+#[derive(Clone, Copy, PartialEq, Eq, Debug)]
+pub struct Hint<'s> {
+    pub before: &'static [u8],
+    pub word: &'s [u8],
+    pub behind: &'static [u8],
+}
+
+/// What says a word of another Forth here.
+#[tactic(auto, unfolding(crate::specs::Hints::other_word))]
+fn other_word(word: &[u8]) -> Option<&'static [u8]>
+    ensures text { option_map (λ text. text.now) result ≡ other_word word.now }
+    ensures short { IfSome result (λ text. length text.now ≤ 64) }
+{
+    said_here(other_words(), word)
+}
+
+#[tactic(auto, using(crate::proofs::Hinting::row_here, crate::proofs::Hinting::row_behind, crate::proofs::Hinting::short_row, std::proofs::lemmas::List::drop_all))]
+fn said_here(rows: &'static [OtherWord], word: &[u8]) -> Option<&'static [u8]>
+    requires { list_all is_short_row rows.now ≡ true }
+    ensures text { option_map (λ text. text.now) result ≡ by_name (map row_of rows.now) word.now }
+    ensures short { IfSome result (λ text. length text.now ≤ 64) }
+{
+    'rows: for row in rows {
+        if word == row.word {
+            return Some(row.here);
+        }
+    }
+    None
+}
+
+/// The first word of source that was meant.
+#[tactic(auto, unfolding(crate::specs::Hints::known_word))]
+fn known_word(word: &[u8]) -> Option<&'static [u8]>
+    ensures text { option_map (λ text. text.now) result ≡ known_word word.now }
+    ensures short { IfSome result (λ text. length text.now ≤ 64) }
+{
+    meant_among(known_words(), word)
+}
+
+#[tactic(auto, using(crate::proofs::Hinting::meant_here, crate::proofs::Hinting::meant_behind, crate::proofs::Hinting::short_name, std::proofs::lemmas::List::drop_all), unfolding(crate::specs::Hints::first_meant))]
+fn meant_among(names: &'static [KnownWord], word: &[u8]) -> Option<&'static [u8]>
+    requires { list_all is_short_name names.now ≡ true }
+    ensures text { option_map (λ text. text.now) result ≡ first_meant word.now (map name_of names.now) }
+    ensures short { IfSome result (λ text. length text.now ≤ 64) }
+{
+    'names: for known in names {
+        if is_meant(word, known.name) {
+            return Some(known.name);
+        }
+    }
+    None
+}
+
+/// Whether a name was meant by a word: they differ in upper case alone, or, where the name has four letters or more, in one letter.
+fn is_meant(word: &[u8], name: &[u8]) -> bool
+    ensures { result ≡ is_meant word.now name.now }
+{
+    is_same(word, name) || name.len() > 3 && is_near(word, name)
+}
+
+/// The digits of a hexadecimal number behind a `$`.
+fn behind_dollar(word: &[u8]) -> Option<&[u8]>
+    ensures text { option_map (λ text. text.now) result ≡ behind_dollar word.now }
+    ensures short { IfSome result (λ text. length text.now ≤ length word.now) }
+{
+    let rest = word.strip_prefix(b"$")?;
+    match digits(rest, 16) {
+        Some(_) => Some(rest),
+        None => None,
+    }
+}
+
+/// What stands in front of the byte with which a word ends.
+fn in_front_of(end: u8, word: &[u8]) -> Option<&[u8]>
+    ensures text { option_map (λ text. text.now) result ≡ in_front_of end word.now }
+    ensures short { IfSome result (λ text. length text.now ≤ length word.now) }
+{
+    match word {
+        [rest @ .., last] if *last == end && !rest.is_empty() => Some(rest),
+        _ => None,
+    }
+}
+
+/// What stands behind the colon with which a word begins.
+fn behind_colon(word: &[u8]) -> Option<&[u8]>
+    ensures text { option_map (λ text. text.now) result ≡ behind_colon word.now }
+    ensures short { IfSome result (λ text. length text.now ≤ length word.now) }
+{
+    match word {
+        [b':', rest @ ..] if !rest.is_empty() => Some(rest),
+        _ => None,
+    }
+}
+
+/// The number in front of the comma with which a word ends.
+fn number_in_front(word: &[u8]) -> Option<&[u8]>
+    ensures text { option_map (λ text. text.now) result ≡ number_in_front word.now }
+    ensures short { IfSome result (λ text. length text.now ≤ length word.now) }
+{
+    let rest = in_front_of(b',', word)?;
+    if is_number(number_of(rest)) {
+        Some(rest)
+    } else {
+        None
+    }
+}
+
+/// A word that was spelled as elsewhere, or without a blank, as it is spelled here.
+#[tactic(auto, using(crate::proofs::Hinting::text_alone), unfolding(crate::specs::Hints::spelled))]
+fn spelled(word: &[u8]) -> Option<Hint<'_>>
+    ensures text { option_map hint_text result ≡ spelled word.now }
+    ensures short { IfSome result (IsShortFor word.now) }
+{
+    if let Some(text) = other_word(word) {
+        return Some(hinted(text, b"", b""));
+    }
+    if let Some(digits) = behind_dollar(word) {
+        return Some(hinted(b"0x", digits, b""));
+    }
+    if let Some(name) = in_front_of(b';', word) {
+        return Some(hinted(b"", name, b" ;"));
+    }
+    if let Some(name) = in_front_of(b':', word) {
+        return Some(hinted(b": ", name, b""));
+    }
+    if let Some(name) = behind_colon(word) {
+        return Some(hinted(b": ", name, b""));
+    }
+    if let Some(number) = number_in_front(word) {
+        return Some(hinted(b"", number, b" ,"));
+    }
+    None
+}
+
+fn hinted<'s>(before: &'static [u8], word: &'s [u8], behind: &'static [u8]) -> Hint<'s>
+    requires before { length before.now ≤ 64 }
+    requires behind { length behind.now ≤ 64 }
+    ensures text { hint_text result ≡ before.entry.now ++ (word.entry.now ++ behind.entry.now) }
+    ensures short { (text : List ℕ) → length word.entry.now ≤ length text → IsShortFor text result }
+{
+    Hint {
+        before,
+        word,
+        behind,
+    }
+}
+
+/// What to write in place of a word that says nothing: how it is spelled here, or else the word that was meant, with a `?`.
+#[tactic(auto, unfolding(crate::specs::Hints::hint_for))]
+pub fn hint_for(word: &[u8]) -> Option<Hint<'_>>
+    ensures text { option_map hint_text result ≡ hint_for word.now }
+    ensures short { IfSome result (IsShortFor word.now) }
+{
+    if let Some(hint) = spelled(word) {
+        return Some(hint);
+    }
+    match known_word(word) {
+        Some(name) => Some(hinted(name, b"", b"?")),
+        None => None,
+    }
+}

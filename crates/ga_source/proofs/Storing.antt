@@ -1,0 +1,56 @@
+-- Stores over code, item by item, group by group and request by request.
+use Rattle.std.proofs.Common.{◌≡◌, ◌∙◌, ℕ, ◌+◌, ◌<◌, List, [], ◌∷◌, ◌++◌, length, drop, get_or, Bool, true, false, if◌then◌else◌, sym, ap, Option, Some, None, append_assoc}
+use Rattle.std.specs.Prelude.{slice_index}
+use Rattle.std.proofs.lemmas.List.{drop_more}
+use Rattle.ga_parser.specs.declared.item.Item.{Item}
+use Rattle.ga_parser.specs.declared.item.Asked.{Asked}
+use Rattle.ga_source.specs.Reading.{p_behind}
+use Rattle.ga_source.specs.inner.{is_data}
+use Rattle.ga_source.specs.declared.group.Group.{Group}
+use Rattle.ga_source.specs.declared.program.Program.{Program}
+use Rattle.ga_source.specs.declared.stores.Store.{Store}
+use Rattle.ga_source.specs.declared.stores.Known.{Known}
+use Rattle.ga_source.specs.Stores.{with_literal, with_literals, with_groups, with_word, stores_from, store_of, with_store, known_behind}
+
+pub literals_more : (code lines : List ℕ) (p i : ℕ) (items : List Item) (d : Item) → i < length items
+    → with_literals code lines p i (drop i items) ≡ with_literals (with_literal code p (slice_index lines i) (get_or items i d)) lines (p_behind p (get_or items i d)) (i + 1) (drop (i + 1) items)
+unfolding with_literals
+literals_more code lines p i items d within = ap (with_literals code lines p i) (drop_more items i d within)
+
+pub literals_all : (code lines : List ℕ) (p i : ℕ) (items : List Item) → items ≡ [] → with_literals code lines p i items ≡ code
+unfolding with_literals
+literals_all code lines p i items none = ap (with_literals code lines p i) none
+
+pub groups_more : (code : List ℕ) (groups : List Group) (i : ℕ) (d : Group) → i < length groups
+    → with_groups code (drop i groups) ≡ with_groups (if is_data (get_or groups i d).items.items then code else with_word code (get_or groups i d)) (drop (i + 1) groups)
+unfolding with_groups
+groups_more code groups i d within = ap (with_groups code) (drop_more groups i d within)
+
+pub groups_all : (code : List ℕ) (groups : List Group) → groups ≡ [] → with_groups code groups ≡ code
+unfolding with_groups
+groups_all code groups none = ap (with_groups code) none
+
+pub stores_more : (program : Program) (code : List ℕ) (known : Known) (asked : List Asked) (i : ℕ) (d : Asked) → i < length asked
+    → stores_from program code known (drop i asked)
+    ≡ with_store (store_of code known (get_or asked i d).line (get_or asked i d).request) (stores_from program code (known_behind program known (get_or asked i d).request) (drop (i + 1) asked))
+unfolding stores_from
+stores_more program code known asked i d within = ap (stores_from program code known) (drop_more asked i d within)
+
+pub stores_all : (program : Program) (code : List ℕ) (known : Known) (asked : List Asked) → asked ≡ [] → stores_from program code known asked ≡ []
+unfolding stores_from
+stores_all program code known asked none = ap (stores_from program code known) none
+
+put_in_front : (stores rest : List Store) (store : Option Store) → (stores ++ with_store store []) ++ rest ≡ stores ++ with_store store rest
+put_in_front stores rest None = append_assoc stores [] rest
+put_in_front stores rest (Some store) = append_assoc stores (store ∷ []) rest
+
+pub store_step : (program : Program) (code : List ℕ) (known behind : Known) (asked : List Asked) (i : ℕ) (d : Asked) (stores after whole : List Store) (store : Option Store) → i < length asked
+    → store ≡ store_of code known (get_or asked i d).line (get_or asked i d).request → after ≡ stores ++ with_store store [] → behind ≡ known_behind program known (get_or asked i d).request
+    → stores ++ stores_from program code known (drop i asked) ≡ whole → after ++ stores_from program code behind (drop (i + 1) asked) ≡ whole
+store_step program code known behind asked i d stores after whole store within is added next all =
+    let rest = stores_from program code (known_behind program known (get_or asked i d).request) (drop (i + 1) asked) in
+    ap (λ (list : List Store). list ++ stores_from program code behind (drop (i + 1) asked)) added
+    ∙ (ap (λ (k : Known). (stores ++ with_store store []) ++ stores_from program code k (drop (i + 1) asked)) next
+    ∙ (put_in_front stores rest store
+    ∙ (ap (λ (one : Option Store). stores ++ with_store one rest) is
+    ∙ (ap (λ (list : List Store). stores ++ list) (sym (stores_more program code known asked i d within)) ∙ all))))

@@ -1,0 +1,6 @@
+use Rattle.std.proofs.Common.{◌≡◌, drop, length, ◌++◌}
+use Rattle.ga_source.specs.Stores.{stores_from, stores_in, code_lines}
+use Rattle.ga_source.proofs.stores.stores_over_code.Given as goal
+
+abbrev pub invariant-loop-asked : goal.invariant-loop-asked
+invariant-loop-asked l = l.stores.items ++ stores_from l.program (code_lines l.program) l.known (drop l.asked-index l.program.asked.items) ≡ stores_in l.program

@@ -1,0 +1,121 @@
+-- Stores of a constant address over the code of their own node (docs/REFERENCE.md, "Source"; this project's own).
+use Rattle.std.specs.Prelude.{ℕ, ◌+◌, ◌%◌, ◌==◌, nat_lt, Bool, false, ◌&&◌, not, if◌then◌else◌, List, [], ◌∷◌, ◌++◌, replicate, slice_index, slice_get, slice_set, Option, Some, None, option_map}
+use Rattle.std.specs.Option.{option_map_or}
+use Rattle.ga_slots.specs.declared.op.Op.{Op}
+use Rattle.ga_slots.specs.declared.op.Op.TheVariants.{StoreB, Store as StoreA, StorePlus, FetchPlus, AStore, BStore, MultiplyStep, Return, Execute, Jump, Call, Unext as UnextOp}
+use Rattle.ga_ports.specs.Address.{advanced}
+use Rattle.ga_parser.specs.declared.item.Item.{Item}
+use Rattle.ga_parser.specs.declared.item.Item.TheVariants.{Opcode, Literal, Back, Ahead}
+use Rattle.ga_parser.specs.declared.item.Request.{Request}
+use Rattle.ga_parser.specs.declared.item.Request.TheVariants.{Put, Unext, Mark}
+use Rattle.ga_parser.specs.declared.item.Asked.{Asked}
+use Rattle.ga_parser.specs.declared.labels.Label.{Label}
+use Rattle.ga_parser.specs.Saying.{has_bytes}
+use Rattle.ga_source.specs.Reading.{resolved, p_behind}
+use Rattle.ga_source.specs.inner.{is_data}
+use Rattle.ga_source.specs.declared.group.Group.{Group}
+use Rattle.ga_source.specs.declared.program.Program.{Program}
+use Rattle.ga_source.specs.declared.stores.Store.{Store}
+use Rattle.ga_source.specs.declared.stores.Known.{Known}
+
+-- ---- which cells hold code
+
+-- the place of a cell among those of RAM, and then ROM, by its address
+abbrev pub cell_index : ℕ → ℕ
+cell_index address = if nat_lt (address % 256) 128 then address % 256 % 64 else 128 + address % 256 % 64
+
+-- a cell holds code of this line
+abbrev pub with_line : List ℕ → ℕ → ℕ → List ℕ
+with_line code address line = slice_set code (cell_index address) line
+
+-- so does the cell of a literal, which stands at P
+abbrev pub with_literal : List ℕ → ℕ → ℕ → Item → List ℕ
+with_literal code p line (Literal _) = with_line code p line
+with_literal code p line _ = code
+
+-- the cells of the literals among items from the i-th on, whose lines these are
+unfoldable pub with_literals : List ℕ → List ℕ → ℕ → ℕ → List Item → List ℕ
+with_literals code lines p i [] = code
+with_literals code lines p i (item ∷ items) = with_literals (with_literal code p (slice_index lines i) item) lines (p_behind p item) (i + 1) items
+
+-- an instruction word, and its literals behind it
+abbrev pub with_word : List ℕ → Group → List ℕ
+with_word code group =
+    with_literals (with_line code group.address (slice_index group.lines.items 0)) group.lines.items (advanced group.address) 0 group.items.items
+
+-- of each cell the line of its code, 0 where none is: all groups but cells of data
+unfoldable pub with_groups : List ℕ → List Group → List ℕ
+with_groups code [] = code
+with_groups code (group ∷ groups) = with_groups (if is_data group.items.items then code else with_word code group) groups
+
+abbrev pub code_lines : Program → List ℕ
+code_lines program = with_groups (replicate 192 0) program.groups.items
+
+-- ---- what is known of A and B along the source
+
+abbrev pub nothing_known : Known
+nothing_known = record { a = None; b = None; literal = None }
+
+-- the address at which an opcode stores, where it is known
+abbrev pub stored_at : Known → Op → Option ℕ
+stored_at known StoreB = known.b
+stored_at known StoreA = known.a
+stored_at known StorePlus = known.a
+stored_at known _ = None
+
+-- `a!` and `b!` take the literal right before them, `!+` and `@+` count A up, `+*` changes it, and behind a way out nothing is known
+abbrev pub known_after : Known → Op → Known
+known_after known AStore = record { a = known.literal; b = known.b; literal = None }
+known_after known BStore = record { a = known.a; b = known.literal; literal = None }
+known_after known StorePlus = record { a = option_map advanced known.a; b = known.b; literal = None }
+known_after known FetchPlus = record { a = option_map advanced known.a; b = known.b; literal = None }
+known_after known MultiplyStep = record { a = None; b = known.b; literal = None }
+known_after known Return = nothing_known
+known_after known Execute = nothing_known
+known_after known Jump = nothing_known
+known_after known Call = nothing_known
+known_after known _ = record { a = known.a; b = known.b; literal = None }
+
+-- behind the end of a loop, which may move A more than once
+abbrev pub known_past_loop : Known → Op → Known
+known_past_loop known op = record { a = None; b = (known_after known op).b; literal = None }
+
+-- a control word made the label, so that it isn't reached from elsewhere
+abbrev pub is_nameless : List Label → ℕ → Bool
+is_nameless names label = option_map_or (λ (found : Label). not (has_bytes found.name.now)) (slice_get names label) false
+
+abbrev pub known_behind : Program → Known → Request → Known
+known_behind program known (Put (Literal value)) = record { a = known.a; b = known.b; literal = resolved program.labels.items value }
+known_behind program known (Put (Opcode op)) = known_after known op
+known_behind program known (Put (Ahead op _)) = known_after known op
+known_behind program known (Put (Back op _)) = known_past_loop known op
+known_behind program known (Unext _) = known_past_loop known UnextOp
+known_behind program known (Mark label) = if is_nameless program.names.items label then known else nothing_known
+known_behind program known _ = known
+
+-- ---- stores
+
+-- a store at this address, where its cell is one of RAM that holds code
+abbrev pub store_over : List ℕ → ℕ → ℕ → Option Store
+store_over code line address =
+    if not (slice_index code (cell_index address) == 0) && nat_lt (address % 512) 128
+    then Some (record { line = line; address = address % 64; code_line = slice_index code (cell_index address) })
+    else None
+
+abbrev pub store_of : List ℕ → Known → ℕ → Request → Option Store
+store_of code known line (Put (Opcode op)) = option_map_or (store_over code line) (stored_at known op) None
+store_of code known line _ = None
+
+abbrev pub with_store : Option Store → List Store → List Store
+with_store None stores = stores
+with_store (Some store) stores = store ∷ stores
+
+-- those of the requests, in their order, where this is known before the first
+unfoldable pub stores_from : Program → List ℕ → Known → List Asked → List Store
+stores_from program code known [] = []
+stores_from program code known (asked ∷ rest) =
+    with_store (store_of code known asked.line asked.request) (stores_from program code (known_behind program known asked.request) rest)
+
+-- all of a program
+abbrev pub stores_in : Program → List Store
+stores_in program = stores_from program (code_lines program) nothing_known program.asked.items
