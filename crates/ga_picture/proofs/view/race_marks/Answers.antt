@@ -1,0 +1,24 @@
+use Rattle.std.specs.Prelude.{not}
+use Rattle.std.proofs.Common.{◌≡◌, ◌∙◌, Bool, List, [], true, false, refl, true≢false, sym, rules}
+use Rattle.ga_lab.specs.Machine.{State}
+use Rattle.ga_picture.specs.declared.view.View.{View}
+use Rattle.ga_picture.specs.declared.placing.PictureRow.{PictureRow}
+use Rattle.ga_picture.specs.declared.race_marks.RaceMark.{RaceMark}
+use Rattle.ga_picture.specs.Picture.{AreRaceMarks}
+use Rattle.ga_picture.proofs.view.race_marks.Goals as goal
+
+is_off : (b : Bool) → not b ≡ true → b ≡ false
+is_off true h = absurd (true≢false (sym h))
+is_off false h = refl
+
+-- where no marks are asked for there are none
+none_marked : (s : State) (view : View) (rows : List PictureRow) (marks : List RaceMark) → view.races ≡ false → marks ≡ [] → AreRaceMarks s view rows marks
+none_marked s view rows marks off none = record {
+  readings = [];
+  told = search rules;
+  found = λ on. absurd (true≢false (sym on ∙ off));
+  are = rw off none;
+}
+
+pub returns-then-not-view-clause-ok : goal.returns-then-not-view-clause-ok
+returns-then-not-view-clause-ok c = none_marked c.args.lab.now c.args.view c.args.rows.now c.new.result.items (is_off c.args.view.races c.if-not-view.true) c.new.ensures.items
