@@ -1,5 +1,5 @@
 -- Stores of a constant address over the code of their own node (docs/REFERENCE.md, "Source"; this project's own).
-use Rattle.std.specs.Prelude.{ℕ, ◌+◌, ◌%◌, ◌==◌, nat_lt, Bool, false, ◌&&◌, not, if◌then◌else◌, List, [], ◌∷◌, ◌++◌, replicate, slice_index, slice_get, slice_set, Option, Some, None, option_map}
+use Rattle.std.specs.Prelude.{ℕ, ◌+◌, ◌%◌, ◌==◌, nat_lt, Bool, false, ◌&&◌, not, if◌then◌else◌, List, [], ◌∷◌, replicate, slice_index, slice_get, slice_set, Option, Some, None, option_map}
 use Rattle.std.specs.Option.{option_map_or}
 use Rattle.ga_slots.specs.declared.op.Op.{Op}
 use Rattle.ga_slots.specs.declared.op.Op.TheVariants.{StoreB, Store as StoreA, StorePlus, FetchPlus, AStore, BStore, MultiplyStep, Return, Execute, Jump, Call, Unext as UnextOp}

@@ -1,4 +1,4 @@
-use Rattle.std.proofs.Common.{◌≡◌, ◌∙◌, sym, ap, drop}
+use Rattle.std.proofs.Common.{◌∙◌, sym, ap, drop}
 use Rattle.std.proofs.lemmas.List.{drop_all}
 use Rattle.ga_source.proofs.Storing.{literals_all}
 use Rattle.ga_source.proofs.stores.note_code.Goals as goal

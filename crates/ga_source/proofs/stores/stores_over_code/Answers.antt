@@ -31,6 +31,6 @@ returns c =
     let asked = c.args.program.now.asked.items in
     sym (append-nil stores)
     ∙ (ap (λ (rest : List Store). stores ++ rest)
-      (sym (stores_all c.args.program.now (code_lines c.args.program.now) c.loop-asked.known (drop c.loop-asked.asked-index asked)
-      (ap (drop c.loop-asked.asked-index) (sym c.deref-asked-items.ensures.value) ∙ drop_all c.loop-asked.asked-index c.deref-asked-items.result.now c.loop-asked-test.false)))
+    (sym (stores_all c.args.program.now (code_lines c.args.program.now) c.loop-asked.known (drop c.loop-asked.asked-index asked)
+    (ap (drop c.loop-asked.asked-index) (sym c.deref-asked-items.ensures.value) ∙ drop_all c.loop-asked.asked-index c.deref-asked-items.result.now c.loop-asked-test.false)))
     ∙ c.loop-asked.invariant)

@@ -1,4 +1,4 @@
-use Rattle.std.proofs.Common.{◌≡◌, drop, length, ◌++◌}
+use Rattle.std.proofs.Common.{◌≡◌, drop, ◌++◌}
 use Rattle.ga_source.specs.Stores.{stores_from, stores_in, code_lines}
 use Rattle.ga_source.proofs.stores.stores_over_code.Given as goal
 
