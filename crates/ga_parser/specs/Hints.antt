@@ -56,8 +56,8 @@ other_words =
     ∷ (codes "--", codes "\\")
     ∷ []
 
-unfoldable pub other_word : List ℕ → Option (List ℕ)
-other_word word = by_name other_words word
+unfoldable pub foreign_spelling : List ℕ → Option (List ℕ)
+foreign_spelling word = by_name other_words word
 
 -- ---- words that are spelled as elsewhere, or that lack a blank
 
@@ -82,19 +82,19 @@ abbrev pub number_in_front : List ℕ → Option (List ℕ)
 number_in_front word = in_front_of 44 word >>= (λ rest. text_if (is_a_number (number_by_word rest)) rest)
 
 -- the first text that is there, put into others; else another one
-abbrev pub first_of : {X : Type 0} → Option (List ℕ) → (List ℕ → X) → X → X
-first_of (Some text) put other = put text
-first_of None put other = other
+abbrev pub matched_or : {X : Type 0} → Option (List ℕ) → (List ℕ → X) → X → X
+matched_or (Some text) put other = put text
+matched_or None put other = other
 
 -- what such a word is here: `$1f` is `0x1f`, `x;` is `x ;`, `x:` and `:x` are `: x`, `5,` is `5 ,`
 unfoldable pub spelled : List ℕ → Option (List ℕ)
 spelled word =
-    first_of (other_word word) (λ text. Some text)
-    (first_of (behind_dollar word) (λ text. Some (codes "0x" ++ text))
-    (first_of (in_front_of 59 word) (λ text. Some (text ++ codes " ;"))
-    (first_of (in_front_of 58 word) (λ text. Some (codes ": " ++ text))
-    (first_of (behind_colon word) (λ text. Some (codes ": " ++ text))
-    (first_of (number_in_front word) (λ text. Some (text ++ codes " ,")) None)))))
+    matched_or (foreign_spelling word) (λ text. Some text)
+    (matched_or (behind_dollar word) (λ text. Some (codes "0x" ++ text))
+    (matched_or (in_front_of 59 word) (λ text. Some (text ++ codes " ;"))
+    (matched_or (in_front_of 58 word) (λ text. Some (codes ": " ++ text))
+    (matched_or (behind_colon word) (λ text. Some (codes ": " ++ text))
+    (matched_or (number_in_front word) (λ text. Some (text ++ codes " ,")) None)))))
 
 -- ---- names that were meant
 
@@ -124,7 +124,7 @@ known_word word = first_meant word known_words
 
 -- what is told of the word, where something is known: how it is spelled here, or else the name that was meant, with a `?`
 unfoldable pub hint_for : List ℕ → Option (List ℕ)
-hint_for word = first_of (spelled word) (λ text. Some text) (first_of (known_word word) (λ name. Some (name ++ codes "?")) None)
+hint_for word = matched_or (spelled word) (λ text. Some text) (matched_or (known_word word) (λ name. Some (name ++ codes "?")) None)
 
 abbrev pub hint_text : Hint → List ℕ
 hint_text hint = hint.before.now ++ (hint.word.now ++ hint.behind.now)

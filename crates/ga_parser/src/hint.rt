@@ -3,7 +3,7 @@
 ghost use Rattle.std.specs.List.{list_all};
 ghost use Rattle.std.specs.Prelude.{◌≡◌, ◌≤◌, true, [], ◌++◌, ℕ, List, length, map, option_map, IfSome};
 ghost use Rattle.ga_parser.specs.Vocabulary.{by_name};
-ghost use Rattle.ga_parser.specs.Hints.{other_word, known_word, first_meant, is_meant, behind_dollar, behind_colon, in_front_of, number_in_front, spelled, hint_for, hint_text, IsShortFor};
+ghost use Rattle.ga_parser.specs.Hints.{foreign_spelling, known_word, first_meant, is_meant, behind_dollar, behind_colon, in_front_of, number_in_front, spelled, hint_for, hint_text, IsShortFor};
 ghost use Rattle.ga_parser.specs.inner.Hinting.{row_of, name_of, is_short_row, is_short_name};
 
 use super::hint_words::{KnownWord, OtherWord, known_words, other_words};
@@ -20,9 +20,9 @@ pub struct Hint<'s> {
 }
 
 /// What says a word of another Forth here.
-#[tactic(auto, unfolding(crate::specs::Hints::other_word))]
-fn other_word(word: &[u8]) -> Option<&'static [u8]>
-    ensures text { option_map (λ text. text.now) result ≡ other_word word.now }
+#[tactic(auto, unfolding(crate::specs::Hints::foreign_spelling))]
+fn foreign_spelling(word: &[u8]) -> Option<&'static [u8]>
+    ensures text { option_map (λ text. text.now) result ≡ foreign_spelling word.now }
     ensures short { IfSome result (λ text. length text.now ≤ 64) }
 {
     said_here(other_words(), word)
@@ -125,7 +125,7 @@ fn spelled(word: &[u8]) -> Option<Hint<'_>>
     ensures text { option_map hint_text result ≡ spelled word.now }
     ensures short { IfSome result (IsShortFor word.now) }
 {
-    if let Some(text) = other_word(word) {
+    if let Some(text) = foreign_spelling(word) {
         return Some(hinted(text, b"", b""));
     }
     if let Some(digits) = behind_dollar(word) {

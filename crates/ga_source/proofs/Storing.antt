@@ -4,13 +4,12 @@ use Rattle.std.specs.Prelude.{slice_index}
 use Rattle.std.proofs.lemmas.List.{drop_more}
 use Rattle.ga_parser.specs.declared.item.Item.{Item}
 use Rattle.ga_parser.specs.declared.item.Asked.{Asked}
-use Rattle.ga_source.specs.Reading.{p_behind}
-use Rattle.ga_source.specs.inner.{is_data}
+use Rattle.ga_source.specs.Reading.{p_behind, is_data_cell}
 use Rattle.ga_source.specs.declared.group.Group.{Group}
 use Rattle.ga_source.specs.declared.program.Program.{Program}
 use Rattle.ga_source.specs.declared.stores.Store.{Store}
 use Rattle.ga_source.specs.declared.stores.Known.{Known}
-use Rattle.ga_source.specs.Stores.{with_literal, with_literals, with_groups, with_word, stores_from, store_of, with_store, known_behind}
+use Rattle.ga_source.specs.Stores.{with_literal, with_literals, with_groups, with_code_word, stores_from, store_of, with_store, known_behind}
 
 pub literals_more : (code lines : List ℕ) (p i : ℕ) (items : List Item) (d : Item) → i < length items
     → with_literals code lines p i (drop i items) ≡ with_literals (with_literal code p (slice_index lines i) (get_or items i d)) lines (p_behind p (get_or items i d)) (i + 1) (drop (i + 1) items)
@@ -22,7 +21,7 @@ unfolding with_literals
 literals_all code lines p i items none = ap (with_literals code lines p i) none
 
 pub groups_more : (code : List ℕ) (groups : List Group) (i : ℕ) (d : Group) → i < length groups
-    → with_groups code (drop i groups) ≡ with_groups (if is_data (get_or groups i d).items.items then code else with_word code (get_or groups i d)) (drop (i + 1) groups)
+    → with_groups code (drop i groups) ≡ with_groups (if is_data_cell (get_or groups i d).items.items then code else with_code_word code (get_or groups i d)) (drop (i + 1) groups)
 unfolding with_groups
 groups_more code groups i d within = ap (with_groups code) (drop_more groups i d within)
 

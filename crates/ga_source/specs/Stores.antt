@@ -11,8 +11,7 @@ use Rattle.ga_parser.specs.declared.item.Request.TheVariants.{Put, Unext, Mark}
 use Rattle.ga_parser.specs.declared.item.Asked.{Asked}
 use Rattle.ga_parser.specs.declared.labels.Label.{Label}
 use Rattle.ga_parser.specs.Saying.{has_bytes}
-use Rattle.ga_source.specs.Reading.{resolved, p_behind}
-use Rattle.ga_source.specs.inner.{is_data}
+use Rattle.ga_source.specs.Reading.{resolved, p_behind, is_data_cell}
 use Rattle.ga_source.specs.declared.group.Group.{Group}
 use Rattle.ga_source.specs.declared.program.Program.{Program}
 use Rattle.ga_source.specs.declared.stores.Store.{Store}
@@ -25,12 +24,12 @@ abbrev pub cell_index : ℕ → ℕ
 cell_index address = if nat_lt (address % 256) 128 then address % 256 % 64 else 128 + address % 256 % 64
 
 -- a cell holds code of this line
-abbrev pub with_line : List ℕ → ℕ → ℕ → List ℕ
-with_line code address line = slice_set code (cell_index address) line
+abbrev pub with_code_line : List ℕ → ℕ → ℕ → List ℕ
+with_code_line code address line = slice_set code (cell_index address) line
 
 -- so does the cell of a literal, which stands at P
 abbrev pub with_literal : List ℕ → ℕ → ℕ → Item → List ℕ
-with_literal code p line (Literal _) = with_line code p line
+with_literal code p line (Literal _) = with_code_line code p line
 with_literal code p line _ = code
 
 -- the cells of the literals among items from the i-th on, whose lines these are
@@ -39,14 +38,14 @@ with_literals code lines p i [] = code
 with_literals code lines p i (item ∷ items) = with_literals (with_literal code p (slice_index lines i) item) lines (p_behind p item) (i + 1) items
 
 -- an instruction word, and its literals behind it
-abbrev pub with_word : List ℕ → Group → List ℕ
-with_word code group =
-    with_literals (with_line code group.address (slice_index group.lines.items 0)) group.lines.items (advanced group.address) 0 group.items.items
+abbrev pub with_code_word : List ℕ → Group → List ℕ
+with_code_word code group =
+    with_literals (with_code_line code group.address (slice_index group.lines.items 0)) group.lines.items (advanced group.address) 0 group.items.items
 
 -- of each cell the line of its code, 0 where none is: all groups but cells of data
 unfoldable pub with_groups : List ℕ → List Group → List ℕ
 with_groups code [] = code
-with_groups code (group ∷ groups) = with_groups (if is_data group.items.items then code else with_word code group) groups
+with_groups code (group ∷ groups) = with_groups (if is_data_cell group.items.items then code else with_code_word code group) groups
 
 abbrev pub code_lines : Program → List ℕ
 code_lines program = with_groups (replicate 192 0) program.groups.items
@@ -57,11 +56,11 @@ abbrev pub nothing_known : Known
 nothing_known = record { a = None; b = None; literal = None }
 
 -- the address at which an opcode stores, where it is known
-abbrev pub stored_at : Known → Op → Option ℕ
-stored_at known StoreB = known.b
-stored_at known StoreA = known.a
-stored_at known StorePlus = known.a
-stored_at known _ = None
+abbrev pub store_address : Known → Op → Option ℕ
+store_address known StoreB = known.b
+store_address known StoreA = known.a
+store_address known StorePlus = known.a
+store_address known _ = None
 
 -- `a!` and `b!` take the literal right before them, `!+` and `@+` count A up, `+*` changes it, and behind a way out nothing is known
 abbrev pub known_after : Known → Op → Known
@@ -103,7 +102,7 @@ store_over code line address =
     else None
 
 abbrev pub store_of : List ℕ → Known → ℕ → Request → Option Store
-store_of code known line (Put (Opcode op)) = option_map_or (store_over code line) (stored_at known op) None
+store_of code known line (Put (Opcode op)) = option_map_or (store_over code line) (store_address known op) None
 store_of code known line _ = None
 
 abbrev pub with_store : Option Store → List Store → List Store
@@ -117,5 +116,5 @@ stores_from program code known (asked ∷ rest) =
     with_store (store_of code known asked.line asked.request) (stores_from program code (known_behind program known asked.request) rest)
 
 -- all of a program
-abbrev pub stores_in : Program → List Store
-stores_in program = stores_from program (code_lines program) nothing_known program.asked.items
+abbrev pub stores_of_program : Program → List Store
+stores_of_program program = stores_from program (code_lines program) nothing_known program.asked.items

@@ -43,11 +43,6 @@ op_in (Cell _) = Nop
 abbrev pub nothing : Item
 nothing = Opcode Return
 
--- one cell of data, and nothing else
-abbrev pub is_data : List Item → Bool
-is_data (Cell _ ∷ []) = true
-is_data _ = false
-
 -- ---- the items of a cell
 
 -- the spot behind items

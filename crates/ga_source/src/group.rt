@@ -1,7 +1,7 @@
 //! A place in the cells of a node, and the items of a cell.
 
 ghost use Rattle.std.specs.Prelude.{◌≡◌, slice_index};
-ghost use Rattle.ga_source.specs.inner.{is_data as is_data_of};
+ghost use Rattle.ga_source.specs.Reading.{is_data_cell};
 
 use arrayvec::ArrayVec;
 use ga_parser::Item;
@@ -44,7 +44,7 @@ impl Group {
 
     /// Whether it is a cell of data.
     pub(crate) fn is_data(&self) -> bool
-        ensures { result ≡ is_data_of self.now.items.items }
+        ensures { result ≡ is_data_cell self.now.items.items }
     {
         if let [Item::Cell(_)] = self.items.as_slice() {
             true

@@ -1,9 +1,9 @@
 //! Stores of a constant address over the code of their own node.
 
 ghost use Rattle.std.specs.Prelude.{◌≡◌, ◌<◌, [], ◌++◌, length, if◌then◌else◌, IfOk, OnOk};
-ghost use Rattle.ga_source.specs.inner.{is_data};
+ghost use Rattle.ga_source.specs.Reading.{is_data_cell};
 ghost use Rattle.ga_source.specs.Reading.{p_behind as p_behind_of};
-ghost use Rattle.ga_source.specs.Stores.{cell_index, with_line, with_literal, with_word, code_lines as code_lines_of, stored_at, known_after, known_past_loop, is_nameless as is_nameless_by, known_behind, store_over, store_of, with_store, stores_in};
+ghost use Rattle.ga_source.specs.Stores.{cell_index, with_code_line, with_literal, with_code_word, code_lines as code_lines_of, store_address, known_after, known_past_loop, is_nameless as is_nameless_by, known_behind, store_over, store_of, with_store, stores_of_program};
 
 use super::group::Group;
 use super::program::Program;
@@ -41,8 +41,8 @@ const NOTHING_KNOWN: Known = Known {
 
 impl Known {
     /// The address that an opcode stores at, where it is known.
-    fn stored_at(self, op: Op) -> Option<u32>
-        ensures { result ≡ stored_at self op }
+    fn store_address(self, op: Op) -> Option<u32>
+        ensures { result ≡ store_address self op }
     {
         match op {
             Op::StoreB => self.b,
@@ -129,7 +129,7 @@ fn index_of(address: u32) -> usize
 /// Notes that a cell holds code of a line.
 fn note_line(code: &mut [u32], address: u32, line: u32)
     requires { length code.old ≡ 192 }
-    ensures noted { code.new ≡ with_line code.old address line }
+    ensures noted { code.new ≡ with_code_line code.old address line }
     ensures size { length code.new ≡ 192 }
 {
     code[index_of(address)] = line;
@@ -160,7 +160,7 @@ fn p_behind(p: u32, item: Item) -> u32
 #[tactic(auto, using(crate::proofs::Storing::literals_more))]
 fn note_code(code: &mut [u32], group: &Group)
     requires { length code.old ≡ 192 }
-    ensures noted { code.new ≡ with_word code.old group.now }
+    ensures noted { code.new ≡ with_code_word code.old group.now }
     ensures size { length code.new ≡ 192 }
 {
     note_line(code, group.address, group.line());
@@ -174,7 +174,7 @@ fn note_code(code: &mut [u32], group: &Group)
 /// Notes the lines of the cells of a group, where it holds code.
 fn note_group(code: &mut [u32], group: &Group)
     requires { length code.old ≡ 192 }
-    ensures noted { code.new ≡ (if is_data group.now.items.items then code.old else with_word code.old group.now) }
+    ensures noted { code.new ≡ (if is_data_cell group.now.items.items then code.old else with_code_word code.old group.now) }
     ensures size { length code.new ≡ 192 }
 {
     if !group.is_data() {
@@ -218,7 +218,7 @@ fn store_of(code: &[u32], known: Known, asked: Asked) -> Option<Store>
     ensures { result ≡ store_of code.now known asked.line asked.request }
 {
     match asked.request {
-        Request::Put(Item::Opcode(op)) => match known.stored_at(op) {
+        Request::Put(Item::Opcode(op)) => match known.store_address(op) {
             Some(address) => store_over(code, asked.line, address),
             None => None,
         },
@@ -246,7 +246,7 @@ fn add_store(stores: &mut Vec<Store>, store: Option<Store>) -> Result<(), AllocE
 /// Memory was refused.
 #[tactic(auto, using(crate::proofs::Storing::store_step))]
 pub fn stores_over_code(alloc: Global, program: &Program<'_>) -> Result<Vec<Store>, AllocError>
-    ensures { IfOk result (λ stores. stores.items ≡ stores_in program.now) }
+    ensures { IfOk result (λ stores. stores.items ≡ stores_of_program program.now) }
 {
     let code = code_lines(program);
     let mut stores = Vec::new(alloc);
