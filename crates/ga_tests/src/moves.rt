@@ -77,8 +77,8 @@ fn lines_are_stepped_in(rt: HostRuntime) -> Result<(), Fail> {
     moves(&rt, &mut lab, &notes, over, 9);
     let step = Stepping::step_in(&lab, node, Grain::Instruction);
     moves(&rt, &mut lab, &notes, step, 1);
-    // By `;` back to `drop`, the rest of line 3, and to line 4.
-    for wanted in [1, 2] {
+    // By `2*` and `;` back to `drop`, the rest of line 3, and to line 4.
+    for wanted in [2, 2] {
         let out = Stepping::next(&lab, node, Grain::Line);
         moves(&rt, &mut lab, &notes, out, wanted);
     }
