@@ -48,11 +48,13 @@ def ready(browser, address):
 
 def cases(room):
     subprocess.run([sys.executable, "-B", f"{TOP}/model/sessions.py", "--write", room, "0", str(SESSIONS)], check=True, stdout=subprocess.DEVNULL)
-    for folder in (f"{TOP}/examples", f"{TOP}/sessions", f"{TOP}/sessions/explore", room):
+    # (Each with the limit that the program has there unless it is given one.)
+    limits = {f"{TOP}/examples": 1000000, f"{TOP}/sessions": 1000000, f"{TOP}/sessions/explore": 20000000, room: 1000000}
+    for folder, limit in limits.items():
         for name in sorted(os.listdir(folder)):
             if name.endswith(".stdout"):
                 with open(f"{folder}/{name}", "rb") as wanted, open(f"{folder}/{name[:-7]}", "rb") as asked:
-                    yield name[:-7], asked.read().decode("latin1"), wanted.read().decode("latin1")
+                    yield name[:-7], asked.read().decode("latin1"), wanted.read().decode("latin1"), limit
 
 
 def bytes_of(text):
@@ -74,9 +76,9 @@ return [whole.endsWith("\\n" + page.session.ask(["dump"])[0].join("\\n") + "\\n"
 def conformance(browser):
     count = 0
     with tempfile.TemporaryDirectory() as room:
-        for name, asked, wanted in cases(room):
+        for name, asked, wanted, limit in cases(room):
             # (To a line that is no command the page says besides what to write, which `debug` doesn't.)
-            said = browser.run(f"return page.core.answer({bytes_of(asked)}, 1000000)")
+            said = browser.run(f"return page.core.answer({bytes_of(asked)}, {limit})")
             check(wanted in (said, re.sub("^(no 31 syntax): .*$", r"\1", said, flags=re.M)), f"{name} is answered otherwise")
             if wanted.startswith("ready\n") and "no 4 memory" not in wanted:
                 opened = browser.run(OPENED % json.dumps(asked))
