@@ -31,8 +31,8 @@ record_at chip n = slice_index_or chip n (record_of nowhere)
 abbrev pub AreSteady : List NodeRecord → Type 0
 AreSteady chip = (n : ℕ) → n < 144 → IsSteady (record_at chip n)
 
--- ---- A chip that lends one of its nodes
+-- ---- A mutable reference to one node of a chip
 
--- the chip ends with the last value behind the reference at this number
+-- whether the chip ends with the reference's last value as its node of this number
 abbrev pub LendsNode : MutBor (List NodeState) → ℕ → MutBor NodeState → Fml
 LendsNode chip n node = Lends the_row node_row chip node (with_node chip.now n)

@@ -43,7 +43,7 @@ node_of yxx = if nat_lt (yxx / 100) 8 && nat_lt (yxx % 100) 18 then Some (18 * (
 abbrev pub is_even : ℕ → Bool
 is_even n = n % 2 == 0
 
--- the place after a place or the one before, of so many places; none past the ends
+-- the next or the previous place, where there are `size` places; none past the ends
 abbrev pub next_place : ℕ → ℕ → Bool → Option ℕ
 next_place place size true = if nat_lt (place + 1) size then Some (place + 1) else None
 next_place place size false = if place == 0 then None else Some (place - 1)
@@ -71,7 +71,7 @@ node_id n = record { number = n % 144; in_range = mod-lt n (lit< tt) }
 abbrev pub linked_of : ℕ → Side → ℕ
 linked_of n side = if is_some (neighbour_of n side) then only side else 0
 
--- the ports stand in bits 7 to 4 of an address, exclusive-ored with 155
+-- the ports are in bits 7 to 4 of an address, exclusive-ored with 155
 abbrev pub load_p_of : ℕ → ℕ
 load_p_of n = bit_xor 0x155 (16 * (linked_of n Right + linked_of n Down + linked_of n Left + linked_of n Up))
 

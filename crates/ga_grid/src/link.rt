@@ -6,7 +6,7 @@ ghost use Rattle.ga_grid.specs.Grid.{next_place, neighbour_of, number_where_any,
 use crate::node_id::NodeId;
 use ga_ports::Side;
 
-// The place after a place or the one before, of so many places; none past the ends.
+// The next or the previous place, where there are `size` places; none past the ends.
 fn step(place: u8, size: u8, is_forward: bool) -> Option<u8>
     requires { place < size }
     ensures { result ≡ next_place place size is_forward }

@@ -14,7 +14,7 @@ pub fn decimal_digit(byte: u8) -> Option<u32>
     }
 }
 
-/// The row and the column of a node, as three decimal digits. `NodeId::from_yxx` says whether there is such a node.
+/// The row and the column of a node, as three decimal digits. `NodeId::from_yxx` returns the node, if there is one.
 #[tactic(auto, unfolding(crate::specs::Grid::node_number))]
 pub fn node_number(text: &[u8]) -> Option<u32>
     ensures value { result ≡ node_number text.now }

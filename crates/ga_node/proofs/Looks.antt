@@ -1,4 +1,4 @@
--- An event that doesn't look is the same whatever stands beside the node, and one that looks is not.
+-- An event that doesn't look is the same whatever its neighbours wait for, and one that looks is not.
 use Rattle.std.proofs.Common.{◌≡◌, ◌≢◌, ◌∙◌, ◌∷◌, ◌/◌, ℕ, Bool, true, false, List, slice_index, length, refl, sym, ap, arith, get_or-take}
 use Rattle.std.proofs.lemmas.Bool.{both_ways}
 use Rattle.ga_slots.specs.Codes.{code_of}
@@ -52,7 +52,7 @@ looks_due due n look is by = rw (← is) by
 
 -- ---- a look sees
 
--- the node after what is read tells the word
+-- the node after the access determines the word that was read
 abbrev IsTelling : Access → NodeRecord → Type 0
 IsTelling (Plain changes) n = Unit {0}
 IsTelling (Reads address more) n = (word other : ℕ) → after_changes (more word) n ≡ after_changes (more other) n → word ≡ other

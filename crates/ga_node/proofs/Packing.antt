@@ -92,7 +92,7 @@ pair_at [] i l = absurd (omega (arith, l))
 pair_at (w ∷ ws) zero l = refl
 pair_at (w ∷ ws) (suc i) l = pair_at ws i (omega (arith, l))
 
--- ---- what stands in free bits
+-- ---- the values of free bits
 
 -- a word with a number in its free bits
 mixed_free : (w n : ℕ) → w / 262144 % 64 ≡ 0 → n < 64 → (w + n * 262144) / 262144 % 64 ≡ n

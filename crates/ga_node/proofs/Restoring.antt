@@ -140,7 +140,7 @@ apart_from_ready n ready = go n.wait refl ready
 
 -- ---- values at places
 
--- two values at one place: the second stands
+-- two values at one place: the second remains
 absorbs : (n : NodeState) (p : Place) (v w : ℕ) → with_value (with_value n p v) p w ≡ with_value n p w
 absorbs n T v w = ap (λ (xs : List ℕ). record n { data_stack = record n.data_stack { registers = xs } }) (set-set n.data_stack.registers 0 v w)
 absorbs n S v w = ap (λ (xs : List ℕ). record n { data_stack = record n.data_stack { registers = xs } }) (set-set n.data_stack.registers 1 v w)
@@ -236,7 +236,7 @@ fit_past [] (suc i) fit = fit
 fit_past (zero ∷ ws) (suc i) fit = fit_past ws i fit
 fit_past (suc w ∷ ws) (suc i) fit = fit_past ws i fit.1
 
--- the values of a word that stands there
+-- the value of a gathered word is in range
 pub fit_of : (ws : List ℕ) (i w : ℕ) → AreFit (pairs_of ws) → i < length ws → get_or ws i 0 ≡ suc w → IsInRange (unpacked w).0 (unpacked w).1
 unfolding AreFit
 fit_of ws i w fit l is = (subst AreFit (pairs_past_one ws i w l is) (fit_past ws i fit)).0

@@ -65,7 +65,7 @@ after_plain (change ∷ rest) n plain = after_plain rest (changed change n) plai
 abbrev Ends : ℕ → List Change → Type 0
 Ends slot changes = ((w : Wait) × (changes ≡ SetWait w ∷ []) × FitsWait w slot 0) ⊎ ((code : ℕ) × (changes ≡ SetStop code ∷ []))
 
--- what an access, an opcode or a fetch comes to
+-- whether the outcome of an access, an opcode or a fetch has plain changes, or is a fitting wait or a stop
 abbrev Lands : ℕ → Result (List Change) (Kind × List Change) → Type 0
 Lands slot (Ok changes) = ArePlain changes
 Lands slot (Err event) = Ends slot event.1

@@ -22,6 +22,6 @@ io_word seen =
     + shown seen.left 12 11
     + shown seen.up 10 9
 
--- nobody on any side; what reads nothing does the same whatever stands there
+-- no neighbour on any side; an event that reads nothing is the same for all neighbours
 abbrev pub nobody : Seen
 nobody = record { right = Nobody; down = Nobody; left = Nobody; up = Nobody }

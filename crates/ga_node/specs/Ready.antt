@@ -1,4 +1,5 @@
--- What is asked of a node for the halves of an event: that it runs and can carry this out, that it waits to write or to read.
+-- The conditions on a node for an event or for half of a transfer: it runs and can carry this out, it waits to write or to
+-- read.
 use Rattle.std.specs.Prelude.{◌<◌, ◌%◌, ◌≡◌}
 use Rattle.ga_slots.specs.Codes.{code_of}
 use Rattle.ga_node.specs.Record.{NodeRecord}
@@ -11,7 +12,7 @@ use Rattle.ga_node.specs.declared.due.Due.TheVariants as due
 abbrev pub IsRunning : NodeRecord → Type 0
 IsRunning n = (n.wait ≡ Nothing) × (n.stop ≡ 0)
 
--- the node runs, and this can be what it carries out: an opcode stands in a slot, and in the last one its code is a multiple of 4
+-- whether the node runs and can carry this out: an opcode is in a slot, and in the last slot its code is a multiple of 4
 abbrev pub CanDo : Due → NodeRecord → Type 0
 CanDo due.Fetch n = IsRunning n
 CanDo (due.Run op) n = IsRunning n × (n.slot < 4) × (n.slot ≡ 3 → code_of op % 4 ≡ 0)

@@ -2,8 +2,8 @@
 
 use crate::wait::Wait;
 
-/// What a node waits for, and why it is stopped, set aside while old values are written to it: in between both may stand, as what
-/// was waited for before a stop.
+/// A node's wait and stop, set aside while old values are written to it: in between it may have both, such as the wait before a
+/// stop.
 #[derive(Clone, Copy, PartialEq, Eq, Debug)]
 pub struct Aside {
     /// The wait that is set aside.

@@ -52,7 +52,7 @@ impl Gathered {
         self.words[(word / 0x1000000) as usize] = word + 1;
     }
 
-    /// Adds the values that an event overwrote, to be written back behind those that are there.
+    /// Adds the values that an event overwrote; they are written back after those already gathered.
     #[inline(always)]
     pub fn add(&mut self, saved: &Saved)
         ensures back { (node : NodeState) → restored node self.new ≡ restored (restored node self.old) saved.now }

@@ -16,7 +16,8 @@ pub enum Kind {
     Stop(u8),
 }
 
-/// A kind as a session tells it: `fetch`, `run` with the opcode's code in two hexadecimal digits, `wait`, `stop` with its number.
+/// A kind as a session prints it: `fetch`, `run` with the opcode's code in two hexadecimal digits, `wait`, `stop` with its
+/// number.
 impl fmt::Display for Kind {
     fn fmt<W: fmt::Write>(&self, f: &mut fmt::Formatter<W>) -> fmt::Result {
         match self {

@@ -6,15 +6,15 @@ ghost use Rattle.ga_node.specs.Record.{NodeRecord, HasSizes};
 ghost use Rattle.ga_node.specs.Table.{own, own_event, looks};
 ghost use Rattle.ga_node.specs.Io.{io_word};
 
-/// An event that doesn't look is the same whatever stands beside the node, and changes the same.
+/// An event that doesn't look is the same whatever its neighbours wait for, and so are its changes.
 #[tactic(auto, using(crate::proofs::Looks::own_blind, crate::proofs::Looks::event_blind))]
 pub fn blind_unless_it_looks()
     ensures event { (seen other : Seen) (node : NodeRecord) → looks node ≡ false → own seen node ≡ own other node }
     ensures changes { (seen other : Seen) (node : NodeRecord) → looks node ≡ false → own_event seen node ≡ own_event other node }
 {}
 
-/// An event that looks sees: it leaves different nodes where different words of `io` stand beside the node. So no event is called
-/// a look that isn't one.
+/// An event that looks observes: it leads to different nodes if the words of `io` differ. No event is called a look that isn't
+/// one.
 #[tactic(auto, using(crate::proofs::Looks::look_sees))]
 pub fn a_look_sees()
     ensures { (seen other : Seen) (node : NodeRecord) → HasSizes node → looks node ≡ true → own seen node ≡ own other node → io_word seen ≡ io_word other }

@@ -237,7 +237,7 @@ pub(crate) fn unpack(word: u32) -> (Place, u32)
     (place(word), word % 0x40000)
 }
 
-/// The six words with a seventh in their free bits, behind a bit that says so.
+/// The six words with a seventh in their free bits, where bit 32 says that there is a seventh.
 #[tactic(auto, using(std::proofs::Common::append_assoc, std::proofs::lemmas::List::drop_all, crate::proofs::Packing::with_spare_past, crate::proofs::Packing::words_at))]
 #[inline(never)]
 fn spread(words: &ArrayVec<u32, 6>, word: u32) -> ArrayVec<u32, 6>

@@ -5,7 +5,7 @@ ghost use Rattle.ga_node.specs.Io.{io_word, nobody};
 
 use ga_word::Word18;
 
-/// What stands on one side of a node.
+/// The neighbour on one side of a node, as a read of `io` shows it.
 #[derive(Clone, Copy, PartialEq, Eq, Debug)]
 pub enum Beside {
     /// No node: an edge of the grid.
@@ -18,16 +18,16 @@ pub enum Beside {
     Writing,
 }
 
-/// What stands on each side of a node.
+/// The neighbours on the four sides of a node, as a read of `io` shows them.
 #[derive(Clone, Copy, PartialEq, Eq, Debug)]
 pub struct Seen {
-    /// What stands on side right.
+    /// The neighbour on side right.
     pub right: Beside,
-    /// What stands on side down.
+    /// The neighbour on side down.
     pub down: Beside,
-    /// What stands on side left.
+    /// The neighbour on side left.
     pub left: Beside,
-    /// What stands on side up.
+    /// The neighbour on side up.
     pub up: Beside,
 }
 

@@ -3,7 +3,7 @@
 ghost use Rattle.std.specs.Prelude.{◌≡◌, ◌≤◌, IfSome};
 ghost use Rattle.ga_ports.specs.Address.{side_value, set_number};
 
-/// What a letter of a set says: the value of its side, or 0 where a hyphen stands.
+/// The value of a letter of a set: the value of its side, or 0 for a hyphen.
 fn side_value(name: u8, value: u32, byte: u8) -> Option<u32>
     ensures value { result ≡ side_value name value byte }
     ensures in_range { IfSome result (λ v. v ≤ value) }

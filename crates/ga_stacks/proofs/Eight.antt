@@ -1,4 +1,4 @@
--- Facts on a ring of eight cells, by going through its places.
+-- Facts on a ring of eight cells, by case distinction over its cells.
 use Rattle.std.proofs.Common.{◌≡◌, ℕ, ◌+◌, ◌%◌, ◌<◌, List, [], ◌∷◌, length, slice_index, slice_set, refl, arith}
 use Rattle.ga_word.proofs.Below.{each_below}
 use Rattle.ga_stacks.specs.Ring.{Ring, listed, pushed}

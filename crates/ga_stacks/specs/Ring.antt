@@ -36,6 +36,6 @@ topped word words = word ∷ drop 1 words
 abbrev pub fresh_word : ℕ
 fresh_word = 0x15555
 
--- a stack with so many registers before anything is pushed
+-- a stack with this number of registers before anything is pushed
 abbrev pub fresh_ring : ℕ → Ring
 fresh_ring registers = record { registers = replicate registers fresh_word; cells = replicate 8 fresh_word; pointer = 0 }

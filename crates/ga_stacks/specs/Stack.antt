@@ -1,10 +1,10 @@
--- The places of a stack, and what a change tells of the words that it overwrote.
+-- The places of a stack, and the old values of those that a change overwrites.
 use Rattle.std.specs.Prelude.{ℕ, ◌<◌, ◌≤◌, ◌^◌, ◌≢◌, List, [], ◌∷◌, slice_index, slice_set, AllPairs, map}
 use Rattle.ga_stacks.specs.declared.place.StackPlace.{StackPlace}
 use Rattle.ga_stacks.specs.declared.place.StackPlace.TheVariants.{Pointer, Top, Second, Cell}
 use Rattle.ga_stacks.specs.Ring.{Ring}
 
--- what stands at a place
+-- the value at a place
 abbrev pub word_at_place : Ring → StackPlace → ℕ
 word_at_place ring Pointer = ring.pointer
 word_at_place ring Top = slice_index ring.registers 0
@@ -23,7 +23,7 @@ abbrev pub ring_restored : Ring → List (StackPlace × ℕ) → Ring
 ring_restored ring [] = ring
 ring_restored ring (saved ∷ rest) = with_stack_word (ring_restored ring rest) saved.0 saved.1
 
--- a place that a stack with so many registers has
+-- whether a stack with this number of registers has the place
 abbrev pub HasPlace : ℕ → StackPlace → Type 0
 HasPlace registers Pointer = Unit {0}
 HasPlace registers Top = Unit {0}
@@ -37,15 +37,15 @@ FitsPlace Top value = value < 2 ^ 18
 FitsPlace Second value = value < 2 ^ 18
 FitsPlace (Cell k) value = value < 2 ^ 18
 
--- what a change of a stack with so many registers tells: places of that stack, with values in their ranges
+-- whether these can be old values of a stack with this number of registers: places of that stack, with values in their ranges
 abbrev pub AreStackChanges : ℕ → List (StackPlace × ℕ) → Type 0
 AreStackChanges registers [] = Unit {0}
 AreStackChanges registers (saved ∷ rest) = HasPlace registers saved.0 × FitsPlace saved.0 saved.1 × AreStackChanges registers rest
 
--- what stands at some places, as a change of them tells it
+-- some places, each with its value in the stack
 abbrev pub old_words : Ring → List StackPlace → List (StackPlace × ℕ)
 old_words ring places = map (λ place. (place, word_at_place ring place)) places
 
--- no place of a stack stands twice in the list
+-- whether no place of a stack is twice in the list
 abbrev pub NoStackPlaceTwice : List (StackPlace × ℕ) → Type 0
 NoStackPlaceTwice saved = AllPairs (λ a b. a.0 ≢ b.0) saved

@@ -140,7 +140,7 @@ impl DataStack {
         saved
     }
 
-    /// Puts another word in the place of the top.
+    /// Replaces the top by another word.
     pub fn replace_top(&mut self, word: Word18) -> Overwritten
         ensures topped { listed self.new ≡ topped word (listed self.old) }
         ensures undone { ring_restored self.new result.items ≡ self.old }
@@ -155,7 +155,7 @@ impl DataStack {
         saved
     }
 
-    /// What stands in a register, a cell or the pointer.
+    /// Returns the value of a register, a cell or the pointer.
     pub fn get(&self, place: StackPlace) -> u32
         requires { HasPlace 2 place }
         ensures value { result ≡ word_at_place self.now place }

@@ -1,8 +1,8 @@
-//! The places of a stack, and what a change tells of them.
+//! The places of a stack, and the old values of those that a change overwrites.
 
 use arrayvec::ArrayVec;
 
-/// How many cells a ring has.
+/// The number of cells of a ring.
 pub(crate) const CELLS: u8 = 8;
 
 /// What each word of a stack is before anything is pushed.

@@ -124,7 +124,7 @@ impl ReturnStack {
         saved
     }
 
-    /// Puts another word in the place of the top.
+    /// Replaces the top by another word.
     pub fn replace_top(&mut self, word: Word18) -> Overwritten
         ensures topped { listed self.new ≡ topped word (listed self.old) }
         ensures undone { ring_restored self.new result.items ≡ self.old }
@@ -139,7 +139,7 @@ impl ReturnStack {
         saved
     }
 
-    /// What stands in a register, a cell or the pointer.
+    /// Returns the value of a register, a cell or the pointer.
     pub fn get(&self, place: StackPlace) -> u32
         requires { HasPlace 1 place }
         ensures value { result ≡ word_at_place self.now place }

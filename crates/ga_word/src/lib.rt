@@ -78,7 +78,7 @@ impl Word18 {
         (Word18::truncated(sum), sum >= WORDS)
     }
 
-    /// The number that the word stands for in two's complement: -2^17 to 2^17 - 1.
+    /// The value of the word in two's complement: -2^17 to 2^17 - 1.
     pub fn signed(self) -> i32
         ensures { result ≡ signed_of self }
     {

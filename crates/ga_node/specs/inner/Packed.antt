@@ -52,7 +52,7 @@ place_by kind code =
 abbrev pub packed : Place → ℕ → ℕ
 packed place value = code_of place * 2 ^ 24 + value
 
--- the place and the value of a word, whatever stands in its free bits
+-- the place and the value of a word, whatever its free bits are
 abbrev pub unpacked : ℕ → Place × ℕ
 unpacked word = (place_by (word / 2 ^ 27) (word / 2 ^ 24), word % 2 ^ 18)
 
@@ -65,11 +65,11 @@ abbrev pub AreWords : List ℕ → Type 0
 AreWords [] = Unit {0}
 AreWords (w ∷ ws) = IsWord w × AreWords ws
 
--- what stands in the free bits of a word
+-- the value of a word's free bits
 abbrev pub free_bits : ℕ → ℕ
 free_bits word = word / 2 ^ 18 % 64
 
--- what stands in the free bits of all words, six bits in each, the lowest in the first
+-- the value of the free bits of all words, six bits in each, the lowest in the first
 abbrev pub spare : List ℕ → ℕ
 spare [] = 0
 spare (w ∷ ws) = free_bits w + 64 * spare ws
@@ -79,7 +79,7 @@ abbrev pub with_spare : List ℕ → ℕ → List ℕ
 with_spare [] n = []
 with_spare (w ∷ ws) n = (w + n % 64 * 2 ^ 18) ∷ with_spare ws (n / 64)
 
--- the words of all pairs: where the free bits hold one, behind a bit that says so, it is the last
+-- the words of all pairs: the words, then the one in their free bits if bit 32 of `spare` is set
 abbrev pub whole : List ℕ → List ℕ
 whole ws = if spare ws == 0 then ws else ws ++ (spare ws - 2 ^ 32) ∷ []
 
@@ -98,7 +98,7 @@ pairs_of [] = []
 pairs_of (zero ∷ ws) = pairs_of ws
 pairs_of (suc w ∷ ws) = unpacked w ∷ pairs_of ws
 
--- each word stands at the code of its place, where the list begins at this code
+-- whether the index of each word is the code of its place, where the list begins at this code
 abbrev pub AreAt : ℕ → List ℕ → Type 0
 AreAt code [] = Unit {0}
 AreAt code (zero ∷ ws) = AreAt (code + 1) ws

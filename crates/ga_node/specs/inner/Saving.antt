@@ -30,12 +30,12 @@ pub record IsMade (changes : List Change) (old new : NodeState) (saved : List (P
   pub effect : record_of new ≡ after_changes changes (record_of old)
   pub saves : Overwrites changes old new saved
 
--- What the table says was made: the changes, or else the event that an access has become.
+-- Whether the outcome in the table was made: it has changes and is no other event.
 abbrev pub IsDone : Result (List Change) (Kind × List Change) → NodeState → NodeState → List (Place × ℕ) → Type 0
 IsDone (Ok changes) old new saved = IsMade changes old new saved
 IsDone (Err event) old new saved = ⊥
 
--- What the table says was made in place of what an access was for: an event of this kind, and its changes.
+-- Whether the outcome in the table was made in place of the access's purpose: an event of this kind, and its changes.
 abbrev pub IsEnded : {A : Type 0} → Result A (Kind × List Change) → Kind → NodeState → NodeState → List (Place × ℕ) → Type 0
 IsEnded (Ok given) kind old new saved = ⊥
 IsEnded (Err event) kind old new saved = (event.0 ≡ kind) × IsMade event.1 old new saved

@@ -125,7 +125,7 @@ impl Node {
         self.slot += (self.slot < 4) as u8;
     }
 
-    /// The next slot comes, or a fetch after the last, behind what takes six places.
+    /// Advances to the next slot, or to a fetch after the last, where six places may be saved already.
     #[tactic(auto, unfolding(crate::specs::Record::record_of))]
     #[inline(always)]
     pub(super) fn go_on_seventh(&mut self, saved: &mut Saved)

@@ -118,7 +118,7 @@ impl Node {
     fn reads_io(&self, op: Op) -> bool
         ensures { result ≡ reads_io op (record_of self.now) }
     {
-        // the four that read have the codes 08 to 0b: most others are told here, with no jump by opcode
+        // the four that read have the codes 08 to 0b: this test excludes most others, without a jump by opcode
         if op.code() / 4 != 2 {
             return false;
         }
@@ -157,9 +157,9 @@ impl Node {
         }
     }
 
-    /// Whether what stands in the slot that comes next reads `io` or fetches from it (DB001, the `io` register). Where the node
-    /// runs, its next own event is then a look, which depends on what stands beside the node; a node that waits or is stopped
-    /// has none now.
+    /// Whether the opcode in the next slot reads `io`, or the fetch that is due reads from it (DB001, the `io` register). If
+    /// the node runs, its next own event is then a look, which depends on what the neighbours wait for; a node that waits or is
+    /// stopped has none now.
     #[tactic(auto, unfolding(crate::specs::Table::looks))]
     pub fn looks(&self) -> bool
         ensures { result ≡ looks (record_of self.now) }
@@ -193,9 +193,9 @@ impl Node {
         }
     }
 
-    /// Makes the node's next event, where this stands beside it: a fetch where one is due, else the opcode in the slot. An
-    /// access to a port becomes a wait, and a bad one a stop, in place of the whole event (DB001, opcodes and ports). Only
-    /// a look depends on what stands beside the node ([`Node::looks`]).
+    /// Makes the node's next event, with these neighbours: a fetch where one is due, else the opcode in the slot. An access to
+    /// a port becomes a wait, and a bad one a stop, in place of the whole event (DB001, opcodes and ports). Only a look depends
+    /// on the neighbours ([`Node::looks`]).
     ///
     /// # Errors
     /// `Waiting` or `Stopped`, where the node waits or is stopped.

@@ -73,7 +73,7 @@ impl Node {
         Ok(())
     }
 
-    /// `!p`, store p: T goes to the address in P and is popped, and P advances.
+    /// `!p`, store p: stores T at the address in P and pops it, and P advances.
     pub(super) fn run_store_p(&mut self, saved: &mut Saved) -> Result<(), Kind>
         requires running { IsRunning (record_of self.old) }
         requires empty { saved.old ≡ [] }
@@ -88,7 +88,7 @@ impl Node {
         Ok(())
     }
 
-    /// `!+`, store plus: T goes to the address in A and is popped, and A advances.
+    /// `!+`, store plus: stores T at the address in A and pops it, and A advances.
     pub(super) fn run_store_plus(&mut self, saved: &mut Saved) -> Result<(), Kind>
         requires running { IsRunning (record_of self.old) }
         requires empty { saved.old ≡ [] }
@@ -103,7 +103,7 @@ impl Node {
         Ok(())
     }
 
-    /// `!b`, store b: T goes to the address in B and is popped.
+    /// `!b`, store b: stores T at the address in B and pops it.
     pub(super) fn run_store_b(&mut self, saved: &mut Saved) -> Result<(), Kind>
         requires running { IsRunning (record_of self.old) }
         requires empty { saved.old ≡ [] }
@@ -117,7 +117,7 @@ impl Node {
         Ok(())
     }
 
-    /// `!`, store: T goes to the address in A and is popped.
+    /// `!`, store: stores T at the address in A and pops it.
     pub(super) fn run_store(&mut self, saved: &mut Saved) -> Result<(), Kind>
         requires running { IsRunning (record_of self.old) }
         requires empty { saved.old ≡ [] }

@@ -30,7 +30,7 @@ impl Node {
         word
     }
 
-    /// Completes the writer's side of a transfer: T is popped and goes over. Answers T and the overwritten values.
+    /// Completes the writer's side of a transfer: pops T, the transferred word. Returns T and the overwritten values.
     pub fn send_half(&mut self) -> (Word18, Saved)
         requires { IsWriting (record_of self.old).wait }
         ensures word { result.0 ≡ t (record_of self.old) }
