@@ -1,4 +1,4 @@
--- The account of a node after a rollback.
+-- The local history of a node after a rollback.
 use Rattle.std.proofs.Common.{◌≡◌, ℕ, zero, suc, ◌+◌, ◌==◌, Bool, true, false, ◌||◌, cond, List, [], ◌∷◌, ◌++◌, map, take, Option, Some, None, refl, sym, ◌∙◌, ap, subst, ⊎_elim, arith, eqb-true, append-nil, ◌<◌, ◌↔◌, not, length, is_some, IsNone, slice_index_or}
 use Rattle.std.specs.List.{filter, zip}
 use Rattle.std.proofs.lemmas.Bool.{cases_Bool, or_left, or_right, both_ways, cond-true, cond-false, false_from_ne_true, ne_eqb, not-false}
@@ -109,7 +109,7 @@ account_from es (Some i) m =
     (ap (λ z. without (dependents z i) (numbered_seen es)) (causes_entries (λ n. 0) es) ∙ sym (seen_rest es i))
     (begins_rest (λ (x : Cause × List ℕ). x.0) m i (numbered_seen es))
 
--- the account of a node after a rollback is the first part of what it was
+-- the local history of a node after a rollback is a prefix of the one before
 pub first_part : (events : List Cause) (n k m : ℕ) → (later : List (Cause × List ℕ)) × (account m events ≡ account m (rewound_list events n k) ++ later)
 first_part events n k m = account_from events (place_of events n k) m
 
@@ -144,7 +144,7 @@ told_rest ts i m =
     (ap (λ z. without (dependents z i) (recorded ts)) (causes_zipped (λ n. 0) ts) ∙ sym (recorded_rest ts i))
     (begins_rest (λ (x : (Cause × List ℕ) × Told). x.0.0) m i (recorded ts))
 
--- what is left runs, and of each node the first part of what was told is told
+-- the remaining events run, and the local history of each node with its outcomes is a prefix of the one before
 abbrev Leaves : List NodeRecord → List (Cause × Told) → List Event → Type 0
 Leaves chip ts es = (now : List NodeRecord) × (left : List (Cause × Told)) × (run chip es ≡ Some (now, left)) × ((m : ℕ) → Begins (account_told m ts) (account_told m left))
 
@@ -160,7 +160,7 @@ pub first_part_told : (chip last : List NodeRecord) (events : List Event) (steps
 first_part_told chip last events steps n k is =
     leaves_from chip last events steps (place_of (causes steps) n k) is ((made_of chip last events steps is).1)
 
--- the account of the node itself ends before the step that is taken back
+-- the local history of the node itself ends before the step that is removed
 abbrev entries_at : ℕ → (ℕ → ℕ) → List Cause → List (Cause × List ℕ)
 entries_at n s es = filter (λ x. cause_touches x.0 n) (entries s es)
 
@@ -201,7 +201,7 @@ own_part_of events n k =
     let q : k + 1 ≡ suc k = omega arith in
     ap (λ (z : ℕ). account n (rewound_list events n z)) q ∙ own_part (λ i. 0) events n k
 
--- ---- Whether a step still stands after a rollback.
+-- ---- Whether a step still exists after a rollback.
 
 -- the place of a step by cases
 pub place-first : (e : Cause) (es : List Cause) (n : ℕ) → cause_touches e n ≡ true → place_of (e ∷ es) n 1 ≡ Some 0
@@ -261,7 +261,7 @@ no_place_kept marks (e ∷ es) n k m = ⊎_elim
     later zero f h = refl
     later (suc j) f h = place-other e (kept marks es) n j f ∙ ap (λ (o : Option ℕ). option_map suc o) (h (suc j))
 
--- the step stands after the drop exactly where its event was not flagged
+-- the step exists after the drop exactly if its event was not flagged
 Stands : List Cause → List Bool → ℕ → ℕ → ℕ → Type 0
 Stands now flags n k q = is_some (place_of now n k) ≡ not (slice_index_or flags q false)
 
@@ -350,7 +350,7 @@ rest_stands (e ∷ es) (suc i) n k q h = go k q (found_at e es n k q h) (λ j p.
 not_of : (b c : Bool) → c ≡ not b → ((c ≡ false) → (b ≡ true)) × ((b ≡ true) → (c ≡ false))
 not_of b c e = ((λ h. not-false b (sym e ∙ h)), (λ h. e ∙ ap not h))
 
--- a step stands no more after the rollback exactly where its event depends on the one taken back
+-- a step no longer exists after the rollback exactly if its event depends on the removed one
 pub refused_exactly : (events : List Cause) (n k m j i q : ℕ) → place_of events n k ≡ Some i → place_of events m j ≡ Some q → IsNone (place_of (rest events i) m j) ↔ DependsOn events i q
 unfolding Stands
 refused_exactly es n k m j i q h g =

@@ -178,7 +178,7 @@ found_one es i q (Some xs) (Some ys) f g = ap Some (chain_one es i q xs ys f g)
 pub chain_is : (es : List Cause) (i q : ℕ) (answer : Option (List Link)) → i < length es → IsFound es i q answer → answer ≡ chain_of es i q
 chain_is es i q answer k f = found_one es i q answer (chain_of es i q) f (chain_found es i q k)
 
--- ---- Dependence in the last events of a list: what stands before the cause has no part in it.
+-- ---- Dependence in the last events of a list: what comes before the cause has no part in it.
 
 event_later : (es : List Cause) (k p : ℕ) → event_at (drop k es) p ≡ event_at es (k + p)
 event_later es k p = get_or-drop k es p no_cause
@@ -235,14 +235,14 @@ none_later all es k i at is none d =
 pub rule_there : (all es : List Cause) (k p q : ℕ) → drop k all ≡ es → rule_between es p q ≡ rule_between all (k + p) (k + q)
 rule_there all es k p q is = ap (λ z. rule_between z p q) (sym is) ∙ rule_later all k p q
 
--- nothing stands before the whole list
+-- nothing comes before the whole list
 pub in_whole : {E : Type 0} → (es : List Cause) (i at : ℕ) (answer : Result (Option (List Link)) E)
     → IfOk answer (λ found. (all : List Cause) → drop 0 all ≡ es → IsFound all (0 + i) (0 + at) found) → IfOk answer (IsFound es i at)
 in_whole es i at (Ok found) h =
     subst (λ (z : ℕ). IsFound es z at found) (let e : 0 + i ≡ i = omega arith in e) (subst (λ (z : ℕ). IsFound es (0 + i) z found) (let e : 0 + at ≡ at = omega arith in e) (h es refl))
 in_whole es i at (Err why) h = h
 
--- a step that does not stand in the first part of a list stands in the second, by the steps that are left
+-- a step that is not in the first part of a list is in the second, with the number that remains
 on_suc : (k : ℕ) (o : Option ℕ) → option_map suc (on_by k o) ≡ on_by (suc k) o
 on_suc k None = refl
 on_suc k (Some q) = ap Some (let e : suc (k + q) ≡ suc k + q = omega arith in e)

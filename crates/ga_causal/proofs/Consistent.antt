@@ -37,11 +37,11 @@ turned c d p e f t u h k a =
 abbrev pub tolds : List (Cause × Told) → List Told
 tolds ts = map (λ x. x.1) ts
 
--- the entries with what is told, after so many steps of each node
+-- the entries with their outcomes, after s n steps of each node n
 abbrev pub told_after : (ℕ → ℕ) → List (Cause × Told) → List ((Cause × List ℕ) × Told)
 told_after s ts = zip (entries s (causes ts)) (tolds ts)
 
--- what runs from a chip, with what is told of it
+-- a list that runs from a chip, with its outcomes
 record Follows (c last : List NodeRecord) (ys : List Event) (ts : List (Cause × Told)) : Type 0 where
   pub told : List (Cause × Told)
   pub run_is : run c ys ≡ Some (last, told)
@@ -257,7 +257,7 @@ same_events c last now es fs ts us is so = (to, from)
         (λ x i. in_moved (numbered_seen (causes ts)) (numbered_seen (causes us)) x h i)
         (λ x i. in_moved (numbered_seen (causes us)) (numbered_seen (causes ts)) x (IsPermutation-sym (numbered_seen (causes ts)) (numbered_seen (causes us)) h) i))
 
--- each node has the same account
+-- each node has the same local history
 pub same_accounts : (c last now : List NodeRecord) (es fs : List Event) (ts us : List (Cause × Told)) → run c es ≡ Some (last, ts) → run c fs ≡ Some (now, us) → AreEquivalent c es fs ↔ ((n : ℕ) → account n (causes ts) ≡ account n (causes us))
 same_accounts c last now es fs ts us is so = (to, from)
   where

@@ -1,4 +1,4 @@
--- Where the events of a list stand in one that differs by swaps of neighbours that are apart, and its chains there.
+-- Where the events of a list are in one that differs by swaps of adjacent independent events, and its chains there.
 use Rattle.std.proofs.Common.{◌≡◌, ℕ, zero, suc, ◌<◌, ◌≢◌, List, [], ◌∷◌, length, map, Some, refl, sym, ◌∙◌, ap, ap₂, arith, ◌+◌, Bool, true, false, ◌||◌, cond, Option, None, subst, ⊎_elim}
 use Rattle.std.specs.Prelude.{slice_index_or, is_some, nat_lt}
 use Rattle.std.proofs.lemmas.Bool.{both_ways, cases_Bool, or_parts, cond-false}
@@ -32,7 +32,7 @@ event_of_entry s [] i = refl
 event_of_entry s (e ∷ es) zero = refl
 event_of_entry s (e ∷ es) (suc i) = event_of_entry (counted s e) es i
 
--- each event of the one list stands in the other with the same numbers, behind those on which it depends directly
+-- each event of the one list is in the other with the same numbers, after those on which it depends directly
 pub record Moved (s : ℕ → ℕ) (xs ys : List Cause) : Type 0 where
   pub to : ℕ → ℕ
   pub within : (i : ℕ) → i < length xs → to i < length ys
@@ -271,7 +271,7 @@ touching_shuffled n xs ys (after {e} {xs = us} {ys = vs} h) =
     touching-cons n e us ∙ ap (λ (z : ℕ). cond (cause_touches e n) 1 0 + z) (touching_shuffled n us vs h) ∙ sym (touching-cons n e vs)
 touching_shuffled n xs ys (chained {ys = zs} h k) = touching_shuffled n xs zs h ∙ touching_shuffled n zs ys k
 
--- a step stands in both or in neither
+-- a step is in both or in neither
 pub place_shuffled : (n k : ℕ) (xs ys : List Cause) → Shuffled xs ys → is_some (place_of xs n k) ≡ is_some (place_of ys n k)
 place_shuffled n zero xs ys h = ap is_some (place-zero xs n) ∙ sym (ap is_some (place-zero ys n))
 place_shuffled n (suc k) xs ys h = place_stands xs n k ∙ ap (nat_lt k) (touching_shuffled n xs ys h) ∙ sym (place_stands ys n k)

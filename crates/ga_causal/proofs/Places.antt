@@ -16,7 +16,7 @@ use Rattle.ga_causal.proofs.Accounts.{place-first, place-touched, place-other, s
 use Rattle.ga_event.proofs.Locality.{meets-touched}
 use Rattle.ga_causal.proofs.Exact.{meets_rule, any-mono}
 
--- a place that stands so many later
+-- a place that comes i later
 abbrev pub on_by : ℕ → Option ℕ → Option ℕ
 on_by i o = option_map (λ q. i + q) o
 
@@ -82,7 +82,7 @@ touching_no n e es t = sum _ _ (touching-cons n e es) (ap (λ (z : Bool). cond {
     sum : (a b : ℕ) → a ≡ b + touching n es → b ≡ 0 → a ≡ touching n es
     sum a b p q = omega arith
 
--- a step stands up to the number of events that touch the node
+-- a step exists up to the number of events that touch the node
 pub place_stands : (es : List Cause) (n k : ℕ) → is_some (place_of es n (suc k)) ≡ nat_lt k (touching n es)
 place_stands [] n k = sym (le-ltb k 0 (omega arith))
 place_stands (e ∷ es) n zero = ⊎_elim

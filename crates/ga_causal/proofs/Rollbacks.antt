@@ -14,11 +14,11 @@ use Rattle.ga_event.proofs.Locality.{meets-touched}
 use Rattle.ga_causal.proofs.Exact.{any-mono, any-or, meets-mono, meets-or}
 use Rattle.ga_causal.proofs.Runs.{kept}
 
--- one of the event's steps is among those to be taken back, after so many steps of each node
+-- one of the event's steps is among those to be removed, after c n steps of each node n
 abbrev pub is_cut : (ℕ → ℕ) → (ℕ → ℕ → Bool) → Cause → Bool
 is_cut c cut e = list_any (λ n. cut n (c n + 1)) (cause_nodes e)
 
--- the events that are left when all these steps are taken back at once, with what depends on them
+-- the events that remain when all these steps are removed at once, with what depends on them
 abbrev pub walk : (ℕ → Bool) → (ℕ → ℕ) → (ℕ → ℕ → Bool) → List Cause → List Cause
 walk marks c cut [] = []
 walk marks c cut (e ∷ es) = cond (meets marks e || is_cut c cut e) (walk (λ n. marks n || cause_touches e n) c cut es) (e ∷ walk marks (counted c e) cut es)

@@ -81,7 +81,7 @@ same_of marks e c d b t a free h = go (apply b e) refl (subst (λ o. Alike marks
     go None k g = absurd g
     go (Some done) k g = record { mid = done.0; done = k ∙ ap (λ z. Some (done.0, z)) (sym g.1); agree = g.0; cause = cause_alike marks c b e a free }
 
--- the events that meet no mark run from a chip, each the cause that it was, and tell what they told among all
+-- the events that see no marked node run from a chip, each the same cause with the same outcome as among all
 abbrev KeepsRun : (ℕ → Bool) → List NodeRecord → List (Cause × Told) → Type 0
 KeepsRun marks b ts = (now : List NodeRecord) × (run b (events_in (kept marks (causes ts))) ≡ Some (now, without (dependents_after marks (causes ts)) ts))
 
@@ -108,7 +108,7 @@ run_kept marks (e ∷ es) c b last ts a h =
 abbrev RestRuns : List NodeRecord → ℕ → List (Cause × Told) → Type 0
 RestRuns chip i ts = (now : List NodeRecord) × (run chip (events_in (rest (causes ts) i)) ≡ Some (now, without (dependents (causes ts) i) ts))
 
--- what is left without what depends on a place runs too, and tells the same
+-- the list without what depends on a place runs too, with the same outcomes
 pub run_rest : (chip : List NodeRecord) (es : List Event) (i : ℕ) (last : List NodeRecord) (ts : List (Cause × Told)) → run chip es ≡ Some (last, ts) → RestRuns chip i ts
 run_rest chip [] i last ts h = subst (λ z. RestRuns chip i z) (ap (λ (z : List NodeRecord × List (Cause × Told)). z.1) (same_Some _ _ h)) (chip, refl)
 run_rest chip (e ∷ es) zero last ts h =
@@ -150,7 +150,7 @@ same_chip e f c d b p q te tf h df be cf ce x y =
       | inr g ↦ sym (x.same n g) ∙ v.same n g
     ])
 
--- the two in either order: the chip is the same, and each is the same cause and is told the same
+-- the two in either order: the chip is the same, and each is the same cause with the same outcome
 pub run_swapped : (c : List NodeRecord) (e f : Event) → AreApart (cause_of c e) (cause_of c f) → option_map {U = List NodeRecord × List (Cause × Told)} (λ r. (r.0, reverse r.1)) (run c (e ∷ f ∷ [])) ≡ run c (f ∷ e ∷ [])
 run_swapped c e f h = go (apply c e) refl (apply c f) refl
   where

@@ -76,7 +76,7 @@ Shuffled-sym xs ys (flipped {e} {f} {xs = zs} h) = flipped (AreApart-sym e f h)
 Shuffled-sym xs ys (after {xs = us} {ys = vs} h) = after (Shuffled-sym us vs h)
 Shuffled-sym xs ys (chained {ys = zs} h k) = chained (Shuffled-sym zs ys k) (Shuffled-sym xs zs h)
 
--- the numbers of an event's next steps, after so many steps of each node
+-- the numbers of an event's next steps, after s n steps of each node n
 abbrev pub numbers : (ℕ → ℕ) → Cause → List ℕ
 numbers s e = map (λ n. s n + 1) (seen_by e)
 
@@ -122,7 +122,7 @@ In_shuffled s xs ys x (after {e} {xs = us} {ys = vs} h) (inl q) = inl q
 In_shuffled s xs ys x (after {e} {xs = us} {ys = vs} h) (inr q) = inr (In_shuffled (counted s e) us vs x h q)
 In_shuffled s xs ys x (chained {ys = zs} h k) i = In_shuffled s zs ys x k (In_shuffled s xs zs x h i)
 
--- an entry of a list that begins after so many steps of each node
+-- an entry of a list that begins after s n steps of each node n
 pub record IsLate (s : ℕ → ℕ) (x : Cause × List ℕ) : Type 0 where
   pub when : ℕ → ℕ
   pub most : (n : ℕ) → s n ≤ when n
@@ -161,7 +161,7 @@ pub touched_of : (e : Event) → Touched e
 touched_of (Own n) = record { node = n.number; is = or_left (n.number == n.number) false (eq-eqb n.number n.number refl) }
 touched_of (Pass w r side) = record { node = w.number; is = or_left (w.number == w.number) ((r.number == w.number) || false) (eq-eqb w.number w.number refl) }
 
--- At each node that k touches and that this event sees, it comes after k, which is made after so many steps of each node.
+-- At each node that k touches and that this event sees, it comes after k, which is made after s n steps of each node n.
 IsBeyond : Cause → (ℕ → ℕ) → Cause × List ℕ → Type 0
 IsBeyond k s x = (n : ℕ) → cause_touches k n ≡ true → sees x.0 n ≡ true → (w : ℕ → ℕ) → numbers w x.0 ≡ x.1 → s n < w n
 

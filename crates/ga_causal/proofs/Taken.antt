@@ -84,7 +84,7 @@ abbrev AllApart : Cause → List Cause → Type 0
 AllApart e [] = Unit {0}
 AllApart e (k ∷ ks) = AreApart e k × AllApart e ks
 
--- an event goes behind events that are apart from it
+-- an event moves past events that are independent of it
 behind : (e : Cause) (ks ls : List Cause) → AllApart e ks → Shuffled (e ∷ (ks ++ ls)) (ks ++ e ∷ ls)
 behind e [] ls h = stays
 behind e (k ∷ ks) ls h = chained (flipped h.0) (after (behind e ks ls h.1))

@@ -1,4 +1,4 @@
--- A node is what its account with the words makes of it.
+-- A node is determined by its local history with the words.
 use Rattle.std.proofs.Common.{◌≡◌, ℕ, ◌<◌, ◌==◌, Bool, true, false, ◌||◌, cond, inl, inr, List, [], ◌∷◌, length, set, Option, Some, None, refl, sym, ◌∙◌, ap, subst, arith, length-set, get_or-set_other, get_or-set_same, eqb-true, eq-eqb, ext_get_or, ◌++◌}
 use Rattle.std.specs.Prelude.{unwrap_or, option_map}
 use Rattle.std.proofs.lemmas.Bool.{cases_eq, cases_lt, or_cases, both_ways, cond-true, cond-false, ne_eqb, or_parts, or_from}
@@ -134,7 +134,7 @@ pub becomes_of : (n : ℕ) (c d : List NodeRecord) (e : Event) (told : Told) →
 becomes_of n c d e told l h touched =
     subst (λ z. Becomes n (record_at c n) e (word_of c e) (record_at z n)) (ap (λ z. z.0) (after_is c d e told h)) (after_becomes n c e l touched)
 
--- what an account makes of a node
+-- the node that results from a local history
 abbrev Lives : ℕ → NodeRecord → List (Event × Option ℕ) → NodeRecord → Type 0
 Lives n x [] y = x ≡ y
 Lives n x (a ∷ xs) y = (z : NodeRecord) × Becomes n x a.0 a.1 z × Lives n z xs y

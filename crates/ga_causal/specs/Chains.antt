@@ -51,7 +51,7 @@ least_below test (suc n) =
 abbrev pub oldest_cause : List Cause → ℕ → ℕ → ℕ
 oldest_cause events cause place = least_below (leads_to events cause place) place
 
--- the links from the cause to a place that depends on it, made from their end; at most so many
+-- the links from the cause to a place that depends on it, made from their end; at most `most` of them
 unfoldable pub links_to : ℕ → List Cause → ℕ → ℕ → List Link
 links_to zero events cause place = []
 links_to (suc most) events cause place =

@@ -102,7 +102,7 @@ abbrev pub rest_from : List Cause → Option ℕ → List Cause
 rest_from events None = events
 rest_from events (Some i) = rest events i
 
--- the list after a rollback of the node to its step k; a step that does not stand is refused, and changes nothing
+-- the list after a rollback of the node to its step k; the list itself if there is no such step
 abbrev pub rewound_list : List Cause → ℕ → ℕ → List Cause
 rewound_list events n k = rest_from events (place_of events n k)
 

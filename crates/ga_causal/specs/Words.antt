@@ -1,6 +1,6 @@
--- What comes to a node from outside it, with the events that touch it. Danos and Krivine ("Reversible Communicating Systems", 2004)
--- let a process stand beside the memory of what it did and received (a monitored process); here this is a node and its account with
--- the words. That a look receives a word too is this project's own, as looks are.
+-- What comes to a node from outside it, with the events that touch it. Danos and Krivine ("Reversible Communicating Systems",
+-- 2004) pair a process with the memory of what it did and received (a monitored process); here this is a node and its local
+-- history with the words. That a look receives a word too is this project's own, as looks are.
 use Rattle.std.specs.Prelude.{ℕ, if◌then◌else◌, List, [], ◌∷◌, Option, Some, None, option_to_list}
 use Rattle.std.specs.List.{filter, flat_map}
 use Rattle.ga_node.specs.Record.{NodeRecord}
@@ -12,7 +12,8 @@ use Rattle.ga_event.specs.declared.event.Event.TheVariants.{Own, Pass}
 use Rattle.ga_event.specs.Touches.{touches}
 use Rattle.ga_event.specs.Apply.{seen_from, after}
 
--- the word that comes with an event from outside its node: what goes over in a pass, what a look reads in `io`; else there is none
+-- the word that comes with an event from outside its node: the transferred word of a pass, the word that a look reads in `io`;
+-- else none
 abbrev pub word_of : List NodeRecord → Event → Option ℕ
 word_of chip (Own node) = if looks (record_at chip node.number) then Some (io_word (seen_from chip node.number)) else None
 word_of chip (Pass writer reader side) = Some (t (record_at chip writer.number))
@@ -22,8 +23,8 @@ abbrev pub with_words : List NodeRecord → List Event → List (Event × Option
 with_words chip [] = []
 with_words chip (event ∷ events) = (event, word_of chip event) ∷ with_words (after chip event).0 events
 
--- The account of a node with its words: the events that touch it, in order, each with its word. Unlike `account` it has no numbers
--- of steps, so it doesn't say how far a neighbour was at which the node looked.
+-- The local history of a node with its words: the events that touch it, in order, each with its word. Unlike `account` it has
+-- no numbers of steps, so it doesn't determine how many steps a neighbour had made when the node looked.
 abbrev pub account_read : ℕ → List NodeRecord → List Event → List (Event × Option ℕ)
 account_read n chip events = filter (λ x. touches x.0 n) (with_words chip events)
 

@@ -8,7 +8,7 @@ abbrev pub any_of : (ℕ → Bool) → Option ℕ → Bool
 any_of marks None = false
 any_of marks (Some n) = marks n
 
--- a place for each node, or the one that stands for none
+-- a place for each node, or the number that means none
 pub record Oldest : Type 0 where
   pub places : List ℕ
   pub none : ℕ

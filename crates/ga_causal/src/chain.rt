@@ -133,8 +133,8 @@ fn chain_alone(alloc: Global, place: u32) -> Result<Chain, Memory>
     Ok(Chain { links })
 }
 
-/// The chain from one event to another, or none where that does not depend on it. It is made from its end: before each event
-/// other than the first stands the oldest of those on which it depends directly and which are the first or depend on it.
+/// The chain from one event to another, or none if that does not depend on it. It is made from its end: the link before each
+/// event other than the first is the oldest of those on which it depends directly and which are the first or depend on it.
 /// Walks once over the events between the two, and then back over those of the chain. Places count from 0.
 pub fn find_chain(
     alloc: Global,

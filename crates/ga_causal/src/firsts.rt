@@ -11,7 +11,7 @@ use ga_grid::{NODES, NodeId, neighbour};
 use ga_ports::Side;
 use std::marker::Model;
 
-/// For each node the place of the oldest event noted that touches it, or a place that stands for none.
+/// For each node the place of the oldest noted event that touches it, or the number that means none.
 #[derive(Drop)]
 pub(crate) struct Firsts {
     places: [u32; 144],

@@ -1,4 +1,4 @@
-//! The laws of dependence, each the contract of a function that does nothing. They stand over the definitions alone.
+//! The laws of dependence, each the contract of a function that does nothing. They are about the definitions only.
 
 ghost use Rattle.std.specs.Prelude.{◌≡◌, ◌↔◌, ◌<◌, ◌≤◌, ℕ, Bool, false, not, List, [], ◌∷◌, ◌++◌, ◌+◌, take, IsTrue, IsSome, IsNone, Option, Some, map, option_map, reverse, length, count_by, slice_index_or, IsPermutation};
 ghost use Rattle.ga_event.specs.declared.event.Event.{Event};
@@ -15,8 +15,8 @@ ghost use Rattle.ga_event.specs.Told.{events_in};
 ghost use Rattle.ga_causal.specs.Equivalence.{AreApart, AreEquivalent, recorded, account, account_told};
 ghost use Rattle.ga_causal.specs.Words.{account_read};
 
-/// Two events can be swapped that touch no common node, and of which neither looks at a node that the other touches: in either
-/// order they lead to the same chip, and each looks alike and the same is told of it, or neither order can be.
+/// Two events can be swapped if they touch no common node and neither looks at a node that the other touches: in either order
+/// they lead to the same chip, and each looks alike and has the same outcome, or neither order can be made.
 #[tactic(auto, using(crate::proofs::Runs::replay_swapped, crate::proofs::Runs::run_swapped))]
 pub fn swap()
     ensures chip { (chip : List NodeRecord) (e f : Event) → AreApart (cause_of chip e) (cause_of chip f) →
@@ -26,8 +26,9 @@ pub fn swap()
         ≡ run chip (f ∷ e ∷ []) }
 {}
 
-/// What a rollback leaves replays too, and of what it keeps the same is told, and whether it looks, with the same numbers of
-/// steps. Each look that it keeps still comes after as many steps of each node at which it looks.
+/// The list that a rollback leaves replays too, and each event that it keeps has the same outcome, looks exactly if it looked
+/// before, and has the same numbers of steps. Each look that it keeps still comes after the same number of steps of each node
+/// at which it looks.
 pub fn rest_replays()
     ensures told { (chip : List NodeRecord) (events : List Event) (i : ℕ) (last : List NodeRecord) (steps : List (Cause × Told)) →
         run chip events ≡ Some (last, steps) →
@@ -90,8 +91,8 @@ pub fn equivalent()
         replay chip events ≡ replay chip others }
 {}
 
-/// Equivalent lists run alike: to the same chip, with the same numbered events, of each of which the same is told, and with the
-/// same account of each node. The first list must run: what can't run has no chip and no accounts to compare.
+/// Equivalent lists run alike: to the same chip, with the same numbered events and outcomes, and with the same local history of
+/// each node. The first list must run: a list that can't run has no chip and no local histories to compare.
 #[tactic(auto, using(crate::proofs::Consistent::kept_alike))]
 pub fn equivalent_keeps()
     ensures { (chip last : List NodeRecord) (events others : List Event) (steps : List (Cause × Told)) →
@@ -101,9 +102,9 @@ pub fn equivalent_keeps()
 {}
 
 /// Causal consistency (Danos and Krivine): of two lists that run from one chip, one is made from the other by swaps of
-/// independent neighbours exactly where each node has the same account after both, and exactly where both have the same numbered
-/// events. Both must run, since nothing is swapped in a list that can't be made. Without looks the numbers of the steps are
-/// enough; a look also wants how far each neighbour was when it looked, which these numbers don't say.
+/// independent neighbours exactly if each node has the same local history after both, and exactly if both have the same
+/// numbered events. Both must run, since nothing is swapped in a list that can't be made. Without looks the numbers of the
+/// steps are enough; a look also needs the number of steps of each neighbour when it looked, which these numbers don't give.
 #[tactic(auto, using(crate::proofs::Consistent::same_accounts, crate::proofs::Consistent::same_events, crate::proofs::Taken::same_steps))]
 pub fn causal_consistency()
     ensures accounts { (chip last now : List NodeRecord) (events others : List Event) (steps made : List (Cause × Told)) →
@@ -121,11 +122,12 @@ pub fn causal_consistency()
         (AreEquivalent chip events others ↔ IsPermutation (numbered (causes steps)) (numbered (causes made))) }
 {}
 
-/// A node is what its account with the words makes of it (after the monitored processes of Danos and Krivine): on chips of one size
-/// that hold the same in a node, lists in which it has the same account with the same words leave the same in it, whatever else they
-/// do. So lists that run from one chip leave the same chip where each node has the same account with the same words. They need not
-/// be equivalent: a look can read the same word before and after a step of a neighbour. Lists that are equivalent have the same.
-/// Both lists must run, since what can't be made leaves no chip.
+/// A node is determined by its local history with the words (after the monitored processes of Danos and Krivine): on chips of
+/// one size with the same record of a node, lists in which it has the same local history with the same words leave the same
+/// record of it, whatever else they do. Lists that run from one chip therefore lead to the same chip if each node has the same
+/// local history with the same words. They need not be equivalent: a look can read the same word before and after a step of a
+/// neighbour. Equivalent lists have the same local histories with words. Both lists must run, since a list that can't be made
+/// leads to no chip.
 #[tactic(auto, using(crate::proofs::Words::same_node, crate::proofs::Words::same_chip, crate::proofs::Words::same_received))]
 pub fn accounts_determine()
     ensures node { (chip other last now : List NodeRecord) (events others : List Event) (n : ℕ) →
@@ -150,8 +152,8 @@ pub fn equivalent_rollbacks()
         AreEquivalent chip (events_in (rewound_all (causes steps) rollbacks)) (events_in (rewound_all (causes made) rollbacks)) }
 {}
 
-/// After a rollback each account is the first part of what it was, of which the same is told; that of the node whose step is taken
-/// back ends just before the step, also where the step doesn't stand, so that nothing is taken.
+/// After a rollback each local history is a prefix of the one before, with the same outcomes; that of the node whose step is
+/// removed ends just before the step, also if the step doesn't exist, when nothing is removed.
 pub fn account_kept()
     ensures first { (events : List Cause) (n k m : ℕ) →
         (later : List (Cause × List ℕ)) × (account m events ≡ account m (rewound_list events n k) ++ later) }
@@ -164,9 +166,9 @@ pub fn account_kept()
         × ((m : ℕ) → (later : List ((Cause × List ℕ) × Told)) × (account_told m steps ≡ account_told m left ++ later)) }
 {}
 
-/// What a rollback takes can be brought to the end of the list by swaps of independent neighbours, where no look is among it: such
-/// a rollback is undos, after swaps. A look that is taken can stand before a step that is kept, of a node at which it looked, and
-/// isn't swapped with it.
+/// The events that a rollback removes can be moved to the end of the list by swaps of independent neighbours, if no look is
+/// among them: such a rollback is a sequence of undos, after swaps. A removed look can come before a kept step of a node at
+/// which it looked, and isn't swapped with it.
 #[tactic(auto, using(crate::proofs::Taken::taken_last))]
 pub fn taken_last()
     ensures { (chip last : List NodeRecord) (events : List Event) (steps : List (Cause × Told)) (i : ℕ) →
@@ -187,7 +189,7 @@ pub fn equivalent_chains()
         (chain : List Link) × IsChain (causes made) chain × (links_by_events (causes steps) links ≡ links_by_events (causes made) chain) }
 {}
 
-/// There is one chain from a place to another, it is a chain, and `chain_of` tells whether there is one, and which.
+/// There is at most one chain from a place to another, it is a chain, and `chain_of` returns whether there is one, and which.
 #[tactic(auto, using(crate::proofs::ChainOf::chain_one, crate::proofs::ChainOf::chain_chain, crate::proofs::ChainOf::chain_found, crate::proofs::ChainOf::chain_is))]
 pub fn chains()
     ensures one { (events : List Cause) (cause place : ℕ) (links others : List Link) →

@@ -6,7 +6,8 @@ ghost use Rattle.ga_causal.specs.Dependence.{place_of};
 use ga_event::{Cause, touches};
 use ga_grid::NodeId;
 
-/// The place of a node's step, which is the so many-th event that touches the node, counted from 1. None where there is none.
+/// The place of a node's step: of the event that is number `step` of those that touch the node, counted from 1. None if there
+/// is none.
 pub fn place_of(events: &[Cause], node: NodeId, step: u32) -> Option<u32>
     requires { length events.now < 2 ^ 32 }
     ensures value { result ≡ place_of events.now node.number step }

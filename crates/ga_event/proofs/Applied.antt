@@ -81,7 +81,7 @@ own_applied chip node new kind saved seen false l ready apart is given made save
   ready = own_ready chip node.number new saved l saves.undone saves.fit apart;
 }
 
--- the same for a call that is told what the event carries out
+-- the same for a call that gets what the event carries out as an argument
 pub due_applied : (chip : List NodeState) (node : NodeId) (at new : NodeState) (kind : Kind) (saved : List (Place × ℕ)) (seen : Seen) (due : Due) (look : Bool) → node.number < length chip → at ≡ node_at chip node.number
     → refusal (record_of (node_at chip node.number)) ≡ None → due ≡ due_of (record_of (node_at chip node.number))
     → looks_by due (record_of (node_at chip node.number)) ≡ look → (look ≡ true → seen ≡ seen_from (records_of chip) node.number)
@@ -91,7 +91,7 @@ due_applied chip node at new kind saved seen due look l is ready due_is by given
     own_applied chip node new kind saved seen look l ready (apart_from_ready (node_at chip node.number) ready) (looks_due due (record_of (node_at chip node.number)) look due_is by) given
     (subst (λ z. (kind, record_of new) ≡ own seen (record_of z)) is made) (subst (λ z. Overwrites changes z new saved) is saves)
 
--- the effect says whether the event looked
+-- the effect has whether the event looked
 pub applied_cause : (old new : List NodeState) (event : Event) (effect : Effect) → IsApplied old event effect new → cause_of (records_of old) event ≡ cause_with event effect
 applied_cause old new event effect made = ap (λ z. made_cause event z) made.look
   where

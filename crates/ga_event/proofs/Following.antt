@@ -19,7 +19,7 @@ use Rattle.ga_event.specs.inner.{Trace, At, Found, set_at, push_data, pop_data, 
 use Rattle.std.specs.Prelude.{◌↔◌, IsTrue}
 use Rattle.std.proofs.lemmas.Bool.{eq-eqb, eqb-true}
 
--- the flow of what stands there
+-- the flow of a trace: that of its part, or the one already found
 abbrev resolved : Flows → Trace → Flow
 resolved f (At part) = f part
 resolved f (Found flow) = flow

@@ -40,7 +40,7 @@ word_free word n Outside is = absurd is
 past_both : (xs ys : List ℕ) (size k : ℕ) → length xs ≡ size → length ys ≡ size → size ≤ k → slice_index xs k ≡ slice_index ys k
 past_both xs ys size k long long' l = get_or_past xs k 0 (omega arith) ∙ sym (get_or_past ys k 0 (omega arith))
 
--- a part that each node has, or nothing stands there
+-- either each node has the part, or its value is the same in both nodes
 part_or_none : (n m : NodeRecord) (part : Part) → HasSizes n → HasSizes m → IsPart part ⊎ (part_of 0 n part ≡ part_of 0 m part)
 part_or_none n m (OfD k) left right = ⊎_elim (λ l. inl l) (λ l. inr (past_both n.d m.d 10 k left.d right.d l)) (cases_lt k 10)
 part_or_none n m (OfR k) left right = ⊎_elim (λ l. inl l) (λ l. inr (past_both n.r m.r 9 k left.r right.r l)) (cases_lt k 9)

@@ -43,7 +43,7 @@ apply_steady chip event steady = go (refusal_of chip event) refl
     go None ready = after_steady chip event steady ready
     go (Some reason) refused = tt
 
--- what is told of one event more
+-- a run with one more event at its front
 abbrev with_first : Cause × Told → Option (List NodeRecord × List (Cause × Told)) → Option (List NodeRecord × List (Cause × Told))
 with_first told rest = option_map (λ (done : List NodeRecord × List (Cause × Told)). (done.0, told ∷ done.1)) rest
 

@@ -71,7 +71,7 @@ module _ (word : ℕ) (n : NodeRecord) (other : ℕ) (m : NodeRecord) where
   by_comes g (Same part) x y comes = λ agree. ap g (comes.0 ∙ agree.0 ∙ sym comes.1)
   by_comes g (From parts) x y comes = λ agree. ap g (comes agree)
 
-  -- two lists of so many words, each of which comes from there
+  -- two lists of `size` words, each of which comes from its flow
   record Words (flows : ℕ → Flow) (size : ℕ) (xs ys : List ℕ) : Type 0 where
     each : (k : ℕ) → k < size → Comes word n other m (flows k) (slice_index xs k) (slice_index ys k)
     left : length xs ≡ size

@@ -20,7 +20,7 @@ use Rattle.ga_event.specs.declared.event.Event.{Event}
 use Rattle.ga_event.specs.declared.event.Event.TheVariants.{Own, Pass}
 use Rattle.ga_event.specs.declared.event.Cause.{Cause}
 
--- what is told of an event: its kind, or the word that went over
+-- the outcome of an event: its kind, or the transferred word
 pub data Told : Type 0 where
   Did : (kind : Kind) → Told
   Carried : (word : ℕ) → Told
@@ -43,12 +43,12 @@ reads_from (Write posted) side = false
 abbrev pub shows : Wait → Side → Beside
 shows wait side = if reads_from wait side then Reading else if writes_to wait side then Writing else Idle
 
--- what stands at a number, where there is one, as it shows on a side
+-- the state that the neighbour of this number, if there is one, shows on a side
 abbrev pub beside_in : List NodeRecord → Side → Option ℕ → Beside
 beside_in chip side None = Nobody
 beside_in chip side (Some n) = shows (record_at chip n).wait side
 
--- what stands on each side of a node
+-- the states of a node's neighbours on its four sides
 unfoldable pub seen_from : List NodeRecord → ℕ → Seen
 seen_from chip n = record {
   right = beside_in chip Right (neighbour_of n Right);
@@ -76,7 +76,7 @@ refusal_of chip (Own node) = refusal (record_at chip node.number)
 refusal_of chip (Pass writer reader side) =
     unmatched (is_open writer.number reader.number side (record_at chip writer.number).wait (record_at chip reader.number).wait)
 
--- the chip after an own event of a node, with what is told of it
+-- the chip after an own event of a node, with the event's outcome
 abbrev pub after_own : List NodeRecord → ℕ → Kind × NodeRecord → List NodeRecord × Told
 after_own chip n done = (slice_set chip n done.1, Did done.0)
 
@@ -99,7 +99,7 @@ abbrev pub unless : {A : Type 0} → Option NotReady → A → Option A
 unless None done = Some done
 unless (Some why) done = None
 
--- the chip after an event, with what is told of it; none where the event cannot be
+-- the chip after an event, with the event's outcome; none if the event is not enabled
 abbrev pub apply : List NodeRecord → Event → Option (List NodeRecord × Told)
 apply chip event = unless (refusal_of chip event) (after chip event)
 
@@ -112,8 +112,8 @@ is_look chip (Pass writer reader side) = false
 abbrev pub cause_of : List NodeRecord → Event → Cause
 cause_of chip event = record { event = event; look = is_look chip event }
 
--- the events in order, each on the chip that those before it left, with whether each looks and what is told of it; none where
--- one cannot be
+-- the last chip of the events in order, each made on the chip after those before it, with whether each looks and its outcome;
+-- none if one is not enabled
 abbrev pub run : List NodeRecord → List Event → Option (List NodeRecord × List (Cause × Told))
 run chip [] = Some (chip, [])
 run chip (event ∷ events) =
@@ -130,7 +130,7 @@ pub record Agree (marks : ℕ → Bool) (chip other : List NodeRecord) : Type 0 
   pub size : length chip ≡ length other
   pub same : (n : ℕ) → marks n ≡ false → record_at chip n ≡ record_at other n
 
--- an event can be on neither of two chips, or it leaves chips that agree and tells the same of both
+-- whether an event is enabled on neither of two chips, or has the same outcome on both and leads to chips that agree
 abbrev pub Alike : (ℕ → Bool) → Option (List NodeRecord × Told) → Option (List NodeRecord × Told) → Type 0
 Alike marks None None = Unit {0}
 Alike marks None (Some there) = ⊥

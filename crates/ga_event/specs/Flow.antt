@@ -1,5 +1,5 @@
--- Where the values come from that an event leaves in a node: the table of ga_node's Table.antt once more, with the sources of each word
--- in the place of the word.
+-- Where the values come from that an event leaves in a node: the table of ga_node's Table.antt once more, with the sources of
+-- each word in place of the word.
 use Rattle.std.specs.Prelude.{ℕ, ◌+◌, ◌-◌, ◌/◌, ◌^◌, ◌==◌, ◌≡◌, ◌<◌, Bool, false, ◌&&◌, if◌then◌else◌, List, [], ◌∷◌, slice_index}
 use Rattle.ga_word.specs.Word.{carry_value}
 use Rattle.ga_slots.specs.declared.op.Op.{Op}
@@ -33,7 +33,7 @@ second = OfD 1
 abbrev pub top_return : Part
 top_return = OfR 0
 
--- what stands in a part of a node, where this word comes from outside
+-- the value of a part of a node, where this word comes from outside
 abbrev pub part_of : ℕ → NodeRecord → Part → ℕ
 part_of word n (OfD k) = slice_index n.d k
 part_of word n (OfR k) = slice_index n.r k
@@ -171,7 +171,7 @@ moved_all (move ∷ rest) f = moved_all rest (moved move f)
 
 -- ---- what decides an event
 
--- what decides an event beside its opcode: a test, or the target of an address
+-- what decides an event besides its opcode: a test, or the target of an address
 abbrev pub choice : Due → NodeRecord → Choice
 choice due.Fetch n = At (classified n.p)
 choice (due.Run Unext) n = Test (r n == 0)
@@ -189,7 +189,7 @@ choice (due.Run StoreB) n = At (classified n.b)
 choice (due.Run Store) n = At (classified n.a)
 choice (due.Run _) n = Plain
 
--- the parts by which an event is decided beside its opcode
+-- the parts that decide an event besides its opcode
 abbrev pub chosen_by : Due → List Part
 chosen_by due.Fetch = OfP ∷ []
 chosen_by (due.Run Unext) = top_return ∷ []
@@ -258,7 +258,7 @@ multiply_moves = let sum = From (top ∷ second ∷ OfA ∷ []) in SetA sum ∷ 
 abbrev pub fetch_moves : Target → List Move
 fetch_moves target = read_moves target (λ word. SetI word ∷ SetP (from OfP) ∷ StartAgain ∷ [])
 
--- the moves of what comes next in their order, by the opcode and what decides the event beside it
+-- the moves of what comes next in their order, by the opcode and what else decides the event
 abbrev pub moves_where : Due → Choice → List Move
 moves_where due.Fetch c = fetch_moves (target_of c)
 moves_where (due.Run Return) c = SetP (from top_return) ∷ PopReturn ∷ Skip ∷ []
@@ -328,7 +328,7 @@ take_flow wait = moved_all (take_moves wait) Same
 
 -- ---- two runs
 
--- what comes next is the same in two nodes, and so is what decides it beside the opcode
+-- whether what comes next is the same in two nodes, and so is what decides it besides the opcode
 pub record DecideAlike (n m : NodeRecord) : Type 0 where
   pub due : due_of n ≡ due_of m
   pub choice : choice (due_of n) n ≡ choice (due_of m) m
@@ -345,7 +345,7 @@ Comes word n other m (From parts) x y = AgreeAtParts word n other m parts → x 
 
 -- ---- the flows of the code
 
--- what a kept flow stands for
+-- the flow that a stored flow represents
 abbrev pub flow_of : KeptFlow → Flow
 flow_of (flow.Same part) = Same part
 flow_of (flow.From parts) = From parts.items
@@ -359,7 +359,8 @@ abbrev pub AreParts : List Part → Type 0
 AreParts [] = Unit {0}
 AreParts (part ∷ rest) = IsPart part × AreParts rest
 
--- The word from outside stands nowhere in a flow but as what a part becomes: nothing is computed from it in the event that brings it.
+-- Whether the word from outside occurs in a flow only as the new value of a part: nothing is computed from it in the event that
+-- brings it.
 abbrev pub AreSources : Flow → Type 0
 AreSources (Same part) = IsSource part
 AreSources (From parts) = AreParts parts

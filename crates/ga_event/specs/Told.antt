@@ -1,4 +1,4 @@
--- What is told of a list of events, with the numbers of their steps.
+-- The outcomes of a list of events, with the numbers of their steps.
 use Rattle.std.specs.Prelude.{ℕ, List, map, count_by, ◌+◌, if◌then◌else◌, [], ◌∷◌, ◌++◌, take, Option, Some, None, option_and_then, option_to_list}
 use Rattle.ga_event.specs.declared.event.Event.{Event}
 use Rattle.ga_event.specs.declared.event.Cause.{Cause}
@@ -9,7 +9,7 @@ use Rattle.ga_event.specs.declared.event.Event.TheVariants as event
 use Rattle.ga_event.specs.declared.made.Made.{Made}
 use Rattle.ga_event.specs.declared.made.Made.TheVariants as made
 
--- the events of which a list tells, each with whether it looked; and alone
+-- the events of a list with outcomes, each with whether it looked; in `events_told` without
 abbrev pub causes_told : List (Cause × Told) → List Cause
 causes_told told = map (λ (x : Cause × Told). x.0) told
 
@@ -20,7 +20,7 @@ events_told told = map (λ (cause : Cause). cause.event) (causes_told told)
 abbrev pub steps_of : ℕ → List Event → ℕ
 steps_of n events = count_by (λ e. touches e n) events
 
--- what is told of an event that follows these; none where it is of another kind
+-- an event that follows these, as made with this outcome; none if the outcome is of another kind
 abbrev pub made_after : List Event → Event → Told → Option Made
 made_after events (event.Own node) (Did kind) = Some (made.Own node (steps_of node.number events + 1) kind)
 made_after events (event.Pass w r side) (Carried word) =
@@ -28,12 +28,12 @@ made_after events (event.Pass w r side) (Carried word) =
 made_after events (event.Own node) (Carried word) = None
 made_after events (event.Pass w r side) (Did kind) = None
 
--- what is told of the event at a place
+-- the event at a place, as made
 abbrev pub made_in : List (Cause × Told) → ℕ → Option Made
 made_in kept place =
     option_and_then (λ x. made_after (events_told (take place kept)) x.0.event x.1) (slice_get kept place)
 
--- what is told, in order, of those of the events that touch a node, where others came before
+-- those of the events that touch a node, in order, as made after the events `before`
 abbrev pub mades_after : List Event → List (Cause × Told) → ℕ → List Made
 mades_after before [] n = []
 mades_after before (x ∷ xs) n =

@@ -30,7 +30,7 @@ abbrev pub looked_at : Event → Bool → List ℕ
 looked_at (Own node) look = if look then neighbours node.number else []
 looked_at (Pass writer reader side) look = []
 
--- the nodes on which it depends whether the event can be, what is told of it and what it does
+-- the nodes on which depend whether the event is enabled, its outcome and its effect
 unfoldable pub seen_by : Cause → List ℕ
 seen_by cause = nodes_of cause.event ++ looked_at cause.event cause.look
 

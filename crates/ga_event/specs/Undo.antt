@@ -1,5 +1,5 @@
--- An event taken back: the old values of the touched nodes are written back (after Danos and Krivine, "Reversible Communicating
--- Systems", 2004).
+-- The undo of an event: the old values of the touched nodes are written back (after Danos and Krivine, "Reversible
+-- Communicating Systems", 2004).
 use Rattle.std.specs.Prelude.{◌≡◌, ◌≢◌, ℕ, Bool, true, false, if◌then◌else◌, List, length, Some}
 use Rattle.ga_node.specs.Record.{NodeState}
 use Rattle.ga_node.specs.State.{restored, AreFit, IsApart}
@@ -14,7 +14,7 @@ use Rattle.ga_event.specs.declared.event.Effect.TheVariants as effect
 use Rattle.ga_event.specs.Touches.{touches}
 use Rattle.ga_event.specs.Apply.{Told, Did, Carried, apply, is_look}
 
--- what is told of an event with this effect
+-- the outcome of an event with this effect
 abbrev pub told_of : Effect → Told
 told_of (effect.Own kind saved) = Did kind
 told_of (effect.Look kind saved) = Did kind
@@ -62,8 +62,8 @@ pub record CanRestore (node : NodeState) (saved : List (Place × ℕ)) : Type 0 
   pub fit : AreFit saved
   pub apart : IsApart (restored node saved)
 
--- The event can be taken back: the effect is of its kind, the nodes of a pass are two, and what is written back makes nodes.
--- It holds of each chip where the touched nodes are as the event left them.
+-- Whether the event can be undone: the effect is of its kind, the nodes of a pass are two, and the restored values make nodes.
+-- It holds of each chip whose touched nodes are as the event left them.
 abbrev pub CanUnapply : List NodeState → Event → Effect → Type 0
 CanUnapply chip (event.Own node) (effect.Own kind saved) = CanRestore (node_at chip node.number) saved
 CanUnapply chip (event.Own node) (effect.Look kind saved) = CanRestore (node_at chip node.number) saved
@@ -73,8 +73,8 @@ CanUnapply chip (event.Own node) (effect.Pass word sent took) = ⊥
 CanUnapply chip (event.Pass writer reader side) (effect.Own kind saved) = ⊥
 CanUnapply chip (event.Pass writer reader side) (effect.Look kind saved) = ⊥
 
--- The event led from one chip to the other with this effect, which is of its kind: the records are those of the definition,
--- which tells what the effect tells, it looked where the effect says so, and taking it back leads to the old chip as a whole.
+-- The event led from one chip to the other with this effect, which is of its kind: the records and the outcome are those of the
+-- definition, the event looked exactly if the effect says so, and its undo leads to the whole old chip.
 pub record IsApplied (old : List NodeState) (event : Event) (effect : Effect) (new : List NodeState) : Type 0 where
   pub of_kind : IsOfKind event effect
   pub done : apply (records_of old) event ≡ Some (records_of new, told_of effect)

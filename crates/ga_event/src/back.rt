@@ -1,4 +1,4 @@
-//! Events taken back.
+//! The undo of events.
 
 ghost use Rattle.std.specs.Prelude.{◌≡◌};
 ghost use Rattle.ga_grid.specs.Chip.{node_at};

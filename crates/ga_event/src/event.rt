@@ -14,7 +14,7 @@ use ga_word::Word18;
 pub enum Event {
     /// A fetch, an opcode, a posted wait or a stop of one node.
     Own(NodeId),
-    /// A word that goes over the link on a side, between two nodes that wait for it.
+    /// The transfer of a word over the link on a side, between two nodes that wait for it.
     Pass {
         /// The node that gives its T.
         writer: NodeId,
@@ -51,7 +51,7 @@ pub enum Effect {
     Own(Kind, Saved),
     /// The kind of a node's own event that looked at all neighbours: it read `io` or fetched from it.
     Look(Kind, Saved),
-    /// The word that went over, and what its two nodes held.
+    /// The transferred word, and the old values of its two nodes.
     Pass {
         /// The word.
         word: Word18,

@@ -31,8 +31,8 @@ pub fn next_can_be_made()
     ensures { (chip : List NodeRecord) (node : NodeId) (event : Event) → next chip node ≡ Ok event → refusal_of chip event ≡ None }
 {}
 
-/// Whether an event can be, whether it looks, what is told of it and what it does depends on the nodes that it sees alone: on
-/// chips that agree there it is refused alike, or tells the same and leaves chips that agree as much as before.
+/// Whether an event is enabled, whether it looks, its outcome and its effect depend only on the nodes that it sees: on chips
+/// that agree there it is refused alike, or has the same outcome and leaves chips that agree as much as before.
 #[tactic(auto, using(crate::proofs::Locality::refusal_alike, crate::proofs::Locality::apply_alike, crate::proofs::Locality::cause_alike))]
 pub fn depends_on_seen_alone()
     ensures refused { (marks : ℕ → Bool) (chip other : List NodeRecord) (event : Event) →
@@ -46,15 +46,15 @@ pub fn depends_on_seen_alone()
         Alike marks (apply chip event) (apply other event) }
 {}
 
-/// The effect of an event says whether it looked.
+/// The effect of an event has whether it looked.
 #[tactic(auto, using(crate::proofs::Applied::applied_cause))]
 pub fn effect_gives_cause()
     ensures { (old new : List NodeState) (event : Event) (effect : Effect) →
         IsApplied old event effect new → cause_of (records_of old) event ≡ cause_with event effect }
 {}
 
-/// An event can be taken back also where nodes that it doesn't touch have changed since: the touched nodes are what they were
-/// before it, and the others stay.
+/// An event can be undone also if nodes that it doesn't touch have changed since: the touched nodes get their values from
+/// before it, and the others are unchanged.
 pub fn taken_back()
     ensures ready { (old new chip : List NodeState) (event : Event) (effect : Effect) →
         IsApplied old event effect new → IsLeft event new chip →

@@ -1,5 +1,5 @@
-//! Events of the chip: which event a node makes next, what an event does to a chip, how it is taken back, and from where each word
-//! comes that it leaves.
+//! Events of the chip: which event a node makes next, what an event does to a chip, its undo, and from where each word comes
+//! that it leaves.
 #![tactic(auto)]
 
 mod back;

@@ -1,4 +1,4 @@
--- What each part of a list tells of looks and changes that are near.
+-- Which racing pairs of a look and a change each part of a search over a list adds.
 use Rattle.std.proofs.Common.{◌≡◌, ℕ, ◌+◌, ◌<◌, ◌≤◌, ◌==◌, ◌⊎◌, Bool, true, false, ◌&&◌, ◌||◌, inl, inr, List, [], length, Contains, refl, sym, ◌∙◌, ap, subst, arith, eq-eqb, eqb-true}
 use Rattle.std.specs.List.{list_any}
 use Rattle.std.proofs.lemmas.List.{length-map}
@@ -64,7 +64,7 @@ both_touch a b n h k =
     own_any b.cause.event n (touches a.cause.event) (and_parts b.cause.look (is_own_of b.cause.event n) k).1
     (own_touches a.cause.event n (and_parts a.cause.look (is_own_of a.cause.event n) h).1)
 
--- no look or change is near behind what is bound to both
+-- a look and a change are no racing pair if an action between them is dependent with both
 parted : (xs : List Action) (first middle later : ℕ) → first < middle → middle < later → are_bound (action_at xs first) (action_at xs middle) ≡ true → are_bound (action_at xs middle) (action_at xs later) ≡ true
     → AreNear xs first later → ⊥
 parted xs first middle later l k a b near =

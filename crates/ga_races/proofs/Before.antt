@@ -1,4 +1,4 @@
--- What happens before an event comes before it in each order of the list, and what doesn't comes behind it in some order.
+-- What happens before an event comes before it in each order of the list, and what doesn't comes after it in some order.
 use Rattle.std.proofs.Common.{◌≡◌, ℕ, zero, suc, ◌+◌, ◌<◌, ◌⊎◌, Bool, true, false, cond, inl, inr, List, [], ◌∷◌, ◌++◌, length, Some, IsSome, ◌↔◌, refl, sym, ◌∙◌, ap, ap₂, subst, subst₂, arith, append_assoc, length-append}
 use Rattle.std.specs.List.{list_any}
 use Rattle.std.proofs.lemmas.Bool.{cases_Bool, both_ways, or_cases, or_parts, false_from_ne_true}
@@ -37,7 +37,7 @@ reached_from (a ∷ xs) (suc i) (suc j) = reached_from xs i j
 
 -- ---- what is reached happens later
 
--- an action that stands before a place, at the first place or at one before which that happens
+-- an action before a place, which is the one at the first place or happens after it
 record IsHeld (all : List Action) (first place : ℕ) (a : Action) : Type 0 where
   at : ℕ
   before : at < place
@@ -268,7 +268,7 @@ turned_at (e ∷ es) c last (suc i) (suc j) h l m none =
       turned = let w : t.to j < t.to i = t.turned in let g : suc (t.to j) < suc (t.to i) = omega (arith, w) in g;
     }
 
--- ---- as the law says it
+-- ---- as the law states it
 
 pub every_order : (c : List NodeRecord) (es fs : List Event) (i j : ℕ) → HappensBefore (actions c es) i j → AreOrders c es fs → StandsBefore c es fs i j
 every_order c es fs i j h order n k m l p q a b x y =
@@ -293,7 +293,7 @@ from_all xs = record { at = λ q. ap (action_at xs) (let e : 0 + q ≡ q = omega
 pub before_of : (xs : List Action) (i j : ℕ) → reached_from xs i j ≡ true → HappensBefore xs i j
 before_of xs i j t = subst₂ (HappensBefore xs) (let e : 0 + i ≡ i = omega arith in e) (let e : 0 + j ≡ j = omega arith in e) (reached_before xs xs 0 i j (from_all xs) t)
 
--- an event that doesn't happen before a later one comes behind it in some order
+-- an event that doesn't happen before a later one comes after it in some order
 pub other_order : (c : List NodeRecord) (es : List Event) (i j : ℕ) → IsSome (replay c es) → i < j → j < length es → (HappensBefore (actions c es) i j → ⊥)
     → (others : List Event) × AreOrders c es others × StandsBefore c es others j i
 other_order c es i j h l m never =
@@ -302,7 +302,7 @@ other_order c es i j h l m never =
 
 -- ---- and so it is exact
 
--- a step that stands at the place
+-- a node and the number of its step that is at the place
 pub record IsNamed (c : List NodeRecord) (es : List Event) (i : ℕ) : Type 0 where
   pub node : ℕ
   pub number : ℕ
@@ -339,7 +339,7 @@ exact c es i j h l m = (
   ],
 )
 
--- each step stands in each order
+-- each step exists in each order
 pub stands : (c : List NodeRecord) (es fs : List Event) (n k i : ℕ) → AreOrders c es fs → IsStepOf c es n k i → (p : ℕ) × IsStepOf c fs n k p
 stands c es fs n k i h s =
     let t = moves_of c es fs h in

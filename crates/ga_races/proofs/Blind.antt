@@ -48,7 +48,7 @@ look_free (e ∷ es) c last ts is none =
     let p : NoneLooks (causes ((cause_of c e, m.told) ∷ m.others)) = subst (λ (z : List (Cause × Told)). NoneLooks (causes z)) m.all none in
     (p.0, subst (λ d. LookFree d es) (sym (ap (λ (z : List NodeRecord × Told). z.0) (after_is c m.mid e m.told m.first))) (look_free es m.mid last m.others m.then p.1))
 
--- whether an event looks is said by a node that it touches
+-- whether an event looks depends on a node that it touches
 pub look_still : (c : List NodeRecord) (e f : Event) → CanBe c f → ((n : ℕ) → touches e n ≡ true → touches f n ≡ false) → is_look (after c f).0 e ≡ is_look c e
 look_still c (Own a) f can apart = ap (λ (z : NodeRecord). looks z) (sym ((stays c f can).same a.number (apart a.number (touches_own a))))
 look_still c (Pass w r side) f can apart = refl
@@ -118,7 +118,7 @@ events-append : (xs ys : List Cause) → events_in (xs ++ ys) ≡ events_in xs +
 events-append [] ys = refl
 events-append (x ∷ xs) ys = ap (λ (z : List Event). x.event ∷ z) (events-append xs ys)
 
--- what a rollback of the event behind a list leaves
+-- the list that a rollback of the event after `xs` leaves
 rest_split : (xs : List Cause) (x : Cause) (ys : List Cause) → rest (xs ++ x ∷ ys) (length xs) ≡ xs ++ kept (cause_touches x) ys
 rest_split [] x ys = refl
 rest_split (e ∷ xs) x ys = ap (λ (z : List Cause). e ∷ z) (rest_split xs x ys)
@@ -126,7 +126,7 @@ rest_split (e ∷ xs) x ys = ap (λ (z : List Cause). e ∷ z) (rest_split xs x 
 rewound_split : (n : ℕ) (xs : List Cause) (x : Cause) (ys : List Cause) → cause_touches x n ≡ true → rewound_list (xs ++ x ∷ ys) n (suc (touching n xs)) ≡ xs ++ kept (cause_touches x) ys
 rewound_split n xs x ys h = ap (λ (o : Option ℕ). rest_from (xs ++ x ∷ ys) o) (place_split n (touching n xs) xs x ys refl h) ∙ rest_split xs x ys
 
--- ---- what is left where a pass is taken back
+-- ---- what remains if a pass is removed
 
 abbrev pub reader_of : Event → ℕ
 reader_of (Own a) = a.number
@@ -174,12 +174,12 @@ stays_open (e ∷ es) marks c last p q a m canp canq h =
         let apart : (n : ℕ) → touches p n ≡ true → touches e.event n ≡ false = λ n t. no_touch marks e n is (m n t) in
         more (after c e.event).0 (can_still c p e.event apart f.can canp) (can_still c q e.event (rival_spared c p q e.event a canq f.can apart) f.can canq) f.then
 
--- ---- a race of two passes shows where one of them is taken back
+-- ---- a race of two passes shows after a rollback of one of them
 
 abbrev pub Shows : List NodeRecord → List Cause → Event → Event → Type 0
 Shows c es p q = (k : ℕ) × (now : List NodeRecord) × (replay c (events_in (rewound_list es (reader_of p) k)) ≡ Some now) × CanBe now p × CanBe now q
 
--- by a step that stands
+-- by a step that exists
 abbrev pub ShowsWithin : List NodeRecord → List Cause → List Event → Event → Event → Type 0
 ShowsWithin c es events p q =
     (k : ℕ) × (0 < k) × (k ≤ steps_of (reader_of p) events) × (now : List NodeRecord)

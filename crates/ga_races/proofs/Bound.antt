@@ -1,4 +1,4 @@
--- Neighbours in a list are free of one another exactly where their actions are not bound, and are the same actions in either order.
+-- Neighbours in a list are independent exactly if their actions are not dependent, and are the same actions in either order.
 use Rattle.std.proofs.Common.{◌≡◌, ℕ, ◌+◌, ◌==◌, Bool, true, false, not, ◌&&◌, ◌||◌, cond, inl, inr, List, [], ◌∷◌, Option, Some, None, ◌↔◌, true≢false, refl, sym, ◌∙◌, ap, ap₂, subst, arith, eq-eqb, eqb-true, ne_eqb}
 use mathlib.Core.Path.{fun_ext}
 use Rattle.std.specs.List.{list_any, filter}
@@ -65,7 +65,7 @@ module _ (one other : ℕ → Bool) (apart : (n : ℕ) → one n ≡ true → ot
   changes_alike : (n : ℕ) → (io_word (seen_from v n) == io_word (seen_from u n)) ≡ (io_word (seen_from d n) == io_word (seen_from c n))
   changes_alike n = equal_alike (io_word (seen_from c n)) (io_word (seen_from d n)) (io_word (seen_from u n)) (io_word (seen_from v n)) (io_sum n)
 
--- the chips behind an event with the other before it and without, where the same word comes to it
+-- the chips after an event with the other before it and without, where it receives the same word
 agree_behind : (c : List NodeRecord) (e f : Event) → CanBe c e → CanBe c f → Apart e f → word_of (after c e).0 f ≡ word_of c f → Agree (touches e) (after c f).0 (after (after c e).0 f).0
 agree_behind c e f cane canf apart word =
     let then : CanBe (after c e).0 f = can_still c f e (apart-sym e f apart) cane canf in
@@ -75,7 +75,7 @@ agree_behind c e f cane canf apart word =
           (stays c e cane).size ((stays c e cane).same n out) (ap (λ (w : Option ℕ). filter (λ (x : Event × Option ℕ). touches x.0 n) ((f, w) ∷ [])) (sym word));
     }
 
--- an event is the same action behind another that touches none of its nodes and behind which the same word comes to it
+-- an event is the same action after another that touches none of its nodes and after which it receives the same word
 pub action_still : (c : List NodeRecord) (e f : Event) → CanBe c e → CanBe c f → Apart e f → word_of (after c e).0 f ≡ word_of c f → action_of (after c e).0 f ≡ action_of c f
 action_still c e f cane canf apart word =
     let back = apart-sym e f apart in
@@ -121,14 +121,14 @@ none_common : (e f : Event) → Apart e f → list_any (touches e) (nodes_of f) 
 none_common e f apart =
     false_from_ne_true (list_any (touches e) (nodes_of f)) (λ t. let k = any_of (touches e) (nodes_of f) t in both_ways (touches f k.node) (apart k.node k.marked) k.listed)
 
--- events that are free of one another are not bound
+-- independent events are not dependent as actions
 pub unbound_of : (c : List NodeRecord) (e f : Event) → CanBe c e → CanBe c f → AreFree c e f → are_bound (action_of c e) (action_of c f) ≡ false
 unbound_of c e f cane canf free =
     or_from (list_any (touches e) (nodes_of f)) (is_shown (action_of c e) (action_of c f) || is_shown (action_of c f) (action_of c e)) (none_common e f free.apart)
     (or_from (is_shown (action_of c e) (action_of c f)) (is_shown (action_of c f) (action_of c e))
     (unshown c e f canf free.apart free.first) (unshown c f e cane (apart-sym e f free.apart) free.second))
 
--- and neighbours in a list that are not bound are free of one another
+-- and neighbours in a list whose actions are not dependent are independent
 pub free_of : (c : List NodeRecord) (e f : Event) → CanBe c e → CanBe (after c e).0 f → are_bound (action_of c e) (action_of (after c e).0 f) ≡ false → CanBe c f × AreFree c e f
 free_of c e f cane then none =
     let d = (after c e).0 in

@@ -78,7 +78,7 @@ module _ (c last : List NodeRecord) (xs ys : List Event) (h : replay c xs ≡ So
   unwritten : touches (made_at c ys p) x ≡ false
   unwritten = ap (λ (z : Event). touches z x) r.rivals.one ∙ writer_apart r.rivals.first r.rivals.reader r.rivals.second r.rivals.side r.rivals.other r.rivals.writers beside
 
-  -- a later step of the writer takes place behind the pass
+  -- a later step of the writer comes after the pass
   next_later : (q : ℕ) → q < length (actions c xs) → touches (action_at (actions c xs) q).cause.event x ≡ true → tally x (actions c xs) q ≡ a → b p < q
   next_later q l t is = elim (cases_order (f q) p) [
     | inl e ↦ absurd (both_ways (touches (made_at c ys p) x) unwritten (subst (λ (z : ℕ). touches (made_at c ys z) x ≡ true) e at_there))
@@ -163,7 +163,7 @@ module _ (c last : List NodeRecord) (xs ys : List Event) (h : replay c xs ≡ So
             omega (arith, fewer, more, count, is);
       }
 
--- ---- as the law says it
+-- ---- as the law states it
 
 -- each race of two passes is contended
 pub rivals_contended : (c last : List NodeRecord) (es : List Event) (step other : Event) → replay c es ≡ Some last → IsRace c es step other → AreRivals step other

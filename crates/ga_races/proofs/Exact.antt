@@ -17,7 +17,7 @@ use Rattle.ga_causal.specs.Equivalence.{AreApart, AreEquivalent}
 use Rattle.ga_causal.proofs.Words.{same_received, after_is}
 use Rattle.ga_causal.proofs.Runs.{replay_equivalent}
 
--- what stands behind a list
+-- the run after a list
 
 pub replay_into : (fs ys : List Event) (c now : List NodeRecord) → replay c fs ≡ Some now → replay c (fs ++ ys) ≡ replay now ys
 replay_into [] ys c now h = ap (λ d. replay d ys) (same_Some c now h)
@@ -68,7 +68,7 @@ next_entry n c now es before ys zs a b us vs led h k p q =
 abbrev AllComplete : List NodeRecord → List Event → Type 0
 AllComplete c es = (fs : List Event) → IsSome (replay c fs) → Completed c es fs
 
--- that goes on in a second way
+-- the list with another continuation
 again : (fs ys others : List Event) → fs ++ (ys ++ others) ≡ (fs ++ ys) ++ others
 again [] ys others = refl
 again (e ∷ fs) ys others = ap (λ (z : List Event). e ∷ z) (again fs ys others)
@@ -114,12 +114,12 @@ module _ (c last : List NodeRecord) (es : List Event) (led : replay c es ≡ Som
 pub no_race_of : (c last : List NodeRecord) (es : List Event) → replay c es ≡ Some last → AllComplete c es → HasNoRace c es
 no_race_of c last es led all step other r = no_such c last es led all step other r
 
--- ---- swaps of neighbours that are apart are swaps of neighbours that are free of one another
+-- ---- swaps of neighbours that see none of each other's nodes are swaps of independent neighbours
 
 apart_nodes : (c : List NodeRecord) (e f : Event) → AreApart (cause_of c e) (cause_of c f) → (n : ℕ) → touches e n ≡ true → touches f n ≡ false
 apart_nodes c e f h n t = false_from_ne_true (touches f n) (λ u. h.first n t (sees_touched (cause_of c f) n u))
 
--- the word of the first is the same behind the second
+-- the word of the first is the same after the second
 word_behind : (c : List NodeRecord) (e f : Event) → AreApart (cause_of c e) (cause_of c f) → CanBe c e → CanBe c f → word_of (after c f).0 e ≡ word_of c e
 word_behind c e f h cane canf =
     let apart = apart_nodes c e f h in

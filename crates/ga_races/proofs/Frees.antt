@@ -1,4 +1,4 @@
--- Events that are free of one another, in either order.
+-- Independent events, in either order.
 use Rattle.std.proofs.Common.{◌≡◌, ℕ, ◌==◌, Bool, true, false, ◌⊎◌, inl, inr, List, [], ◌∷◌, Option, Some, None, refl, sym, ◌∙◌, ap, arith, eq-eqb, eqb-true}
 use Rattle.std.specs.Prelude.{option_and_then}
 use Rattle.std.specs.List.{list_any, filter}
@@ -129,7 +129,7 @@ free-sym c e f free = record { apart = apart-sym e f free.apart; first = free.se
 
 -- ---- free events in either order
 
--- the chip behind both
+-- the chip after both
 pub both : List NodeRecord → Event → Event → List NodeRecord
 both c e f = (after (after c e).0 f).0
 
@@ -158,7 +158,7 @@ free_chip c e f cane canf free =
     ∙ swap_filter (λ (x : Event × Option ℕ). touches x.0 n) (e, word_of c e) (f, word_of c f) [] (λ t u. both_ways (touches f n) (free.apart n t) u)
     ∙ sym (read_two c f e [] n (free-sym c e f free)))
 
--- and so is the list behind them
+-- and so is the list after them
 pub free_replay : (c : List NodeRecord) (e f : Event) (zs : List Event) → CanBe c e → CanBe c f → AreFree c e f → replay c (e ∷ f ∷ zs) ≡ replay c (f ∷ e ∷ zs)
 free_replay c e f zs cane canf free =
     replay_more c e (f ∷ zs) cane ∙ replay_more (after c e).0 f zs (can_still c f e (apart-sym e f free.apart) cane canf)

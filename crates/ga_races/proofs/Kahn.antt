@@ -23,7 +23,7 @@ use Rattle.ga_races.proofs.Rivals.{Open, open_of, number_of}
 use Rattle.ga_races.proofs.Exact.{Entry, read_into, read_touched}
 use Rattle.ga_races.proofs.Blind.{race_rivals, end_blind}
 
--- ---- a list cut where a node's account is cut
+-- ---- a list cut where a node's local history is cut
 
 record Cut (c : List NodeRecord) (n : ℕ) (es : List Event) (xs : List Entry) : Type 0 where
   first : List Event

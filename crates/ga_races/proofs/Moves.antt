@@ -1,4 +1,4 @@
--- Where the actions of a list stand in another order of it: those that are bound keep their order, and each is the step of the same
+-- Where the actions of a list are in another order of it: dependent actions keep their order, and each is the step of the same
 -- number of each of its nodes.
 use Rattle.std.proofs.Common.{◌≡◌, ℕ, zero, suc, ◌+◌, ◌<◌, Bool, true, false, cond, inl, inr, List, [], ◌∷◌, length, take, refl, sym, ◌∙◌, ap, ap₂, subst, subst₂, arith}
 use Rattle.std.proofs.lemmas.Bool.{both_ways, cases_order}
@@ -104,7 +104,7 @@ moves_chained xs ys zs f g p q = record {
   steps = λ n i l t. p.steps n i l t ∙ q.steps n (f i) (p.within i l) (ap (λ (a : Action). touches a.cause.event n) (sym (p.alike i l)) ∙ t);
 }
 
--- the actions of two neighbours that are free of one another, in either order
+-- the actions of two independent neighbours, in either order
 pub actions_first : (c : List NodeRecord) (e f : Event) (zs : List Event) → CanBe c e → CanBe c f → AreFree c e f
     → actions c (e ∷ f ∷ zs) ≡ action_of c e ∷ action_of c f ∷ actions (after (after c e).0 f).0 zs
 actions_first c e f zs cane canf free =
@@ -209,7 +209,7 @@ tally_grows n (a ∷ xs) (suc i) (suc j) l k t =
     more : (x y z : ℕ) → y < z → x + y < x + z
     more x y z h = omega (arith, h)
 
--- each step stands at one place
+-- each step is at one place
 pub tallied_one : (xs : List Action) (n k i j : ℕ) → IsTallied xs n k i → IsTallied xs n k j → i ≡ j
 tallied_one xs n k i j s u = elim (cases_order i j) [
   | inl q ↦ q

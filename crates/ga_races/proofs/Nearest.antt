@@ -1,4 +1,5 @@
--- What is told of a list: a look and a change that are near, and a pass whose reader another writer waits to write to.
+-- What a list shows of its races: a racing pair of a look and a change, or a pass whose reader another writer waits to write
+-- to.
 use Rattle.std.proofs.Common.{◌≡◌, ◌≢◌, ℕ, zero, suc, ◌+◌, ◌<◌, ◌≤◌, ◌⊎◌, true, false, inl, inr, List, [], ◌∷◌, ◌++◌, length, Some, refl, sym, ◌∙◌, ap, ap₂, subst, arith, length-append}
 use Rattle.std.specs.List.{list_any}
 use Rattle.std.proofs.lemmas.Bool.{cases_Bool, cases_eq, both_ways}
@@ -170,7 +171,7 @@ met (g ∷ es) c last e h can end =
           })
     ]
 
--- ---- where another event can be made in place of the first, something is told
+-- ---- if another event is enabled in place of the first, the list shows a race
 
 pub told_head : (c last : List NodeRecord) (f : Event) (es : List Event) (e : Event) → replay c (f ∷ es) ≡ Some last → IsAtEnd last → CanBe c e → f ≢ e → (AreFree c f e → ⊥) → IsTold c (f ∷ es)
 told_head c last f es e h end can differ bound =
@@ -199,7 +200,7 @@ told_head c last f es e h end can differ bound =
           }))
     ]
 
--- ---- what is told of the end of a list is told of the list
+-- ---- what the end of a list shows, the list shows
 
 bound_earlier : (a : Action) (xs : List Action) (i m : ℕ) → IsBound (a ∷ xs) (suc i) m → (k : ℕ) × (m ≡ suc k) × IsBound xs i k
 bound_earlier a xs i zero d = let l : suc i < 0 = d.before in absurd (omega (arith, l))
@@ -236,7 +237,7 @@ pub told_behind : (fs ys : List Event) (c now : List NodeRecord) → replay c fs
 told_behind [] ys c now h t = subst (λ (z : List NodeRecord). IsTold z ys) (sym (same_Some c now h)) t
 told_behind (f ∷ fs) ys c now h t = told_more c f (fs ++ ys) (told_behind fs ys (after c f).0 now ((first_of c f fs now h).then) t)
 
--- ---- and what is told of an order is told of the list
+-- ---- and what an order of the list shows, the list shows
 
 pub round_trip : (xs ys : List Action) (f b : ℕ → ℕ) → Moves f xs ys → Moves b ys xs → (i : ℕ) → i < length ys → f (b i) ≡ i
 round_trip xs ys f b m w i l =

@@ -31,7 +31,7 @@ wait_at chip n = (record_at chip n).wait
 abbrev stop_at : List NodeRecord → ℕ → ℕ
 stop_at chip n = (record_at chip n).stop
 
--- the same waits on two chips beside a node
+-- the neighbours of a node have the same waits on two chips
 abbrev SameBeside : List NodeRecord → List NodeRecord → NodeId → Side → Type 0
 SameBeside c d node side = (m : NodeId) → beside node side ≡ Some m → wait_at c m.number ≡ wait_at d m.number
 

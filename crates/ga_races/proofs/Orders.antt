@@ -30,7 +30,7 @@ order_replay c xs ys (swapped {e} {f} {xs = zs} cane canf free) = free_replay c 
 order_replay c xs ys (later {e} {xs = us} {ys = vs} can h) = replay_more c e us can ∙ order_replay (after c e).0 us vs h ∙ sym (replay_more c e vs can)
 order_replay c xs ys (joined {ys = zs} h k) = order_replay c xs zs h ∙ order_replay c zs ys k
 
--- in which each node has the same account with the same words
+-- in which each node has the same local history with the same words
 pub order_read : (n : ℕ) (c : List NodeRecord) (xs ys : List Event) → AreOrders c xs ys → account_read n c xs ≡ account_read n c ys
 order_read n c xs ys same = refl
 order_read n c xs ys (swapped {e} {f} {xs = zs} cane canf free) = read_swapped c e f zs n free (free_chip c e f cane canf free)
@@ -161,7 +161,7 @@ completed_quiet (e ∷ fs) es c last now k h calm end =
 
 -- ---- ends
 
--- what can be made behind a list can be made on its chip
+-- an event that can be made after a list can be made on its chip
 pub can_behind : (fs : List Event) (c now : List NodeRecord) (e : Event) (others : List Event) → replay c fs ≡ Some now → IsSome (replay c (fs ++ e ∷ others)) → CanBe now e
 can_behind [] c now e others k some =
     let there = some_of (replay c (e ∷ others)) some in
@@ -179,7 +179,7 @@ one_end c last now es fs h calm end k stop = go (completed_quiet fs es c last no
 
 -- ---- steps
 
--- an account has the steps of its node
+-- a local history has the steps of its node
 pub steps_read : (n : ℕ) (c : List NodeRecord) (es : List Event) → length (account_read n c es) ≡ steps_of n es
 steps_read n c [] = refl
 steps_read n c (e ∷ es) = go (touches e n) (steps_read n (after c e).0 es) ∙ sym (sum_by-cons (λ (x : Event). cond (touches x n) 1 0) e es)
@@ -188,7 +188,7 @@ steps_read n c (e ∷ es) = go (touches e n) (steps_read n (after c e).0 es) ∙
     go true h = omega (arith, h)
     go false h = omega (arith, h)
 
--- the account of a beginning is a beginning of the account
+-- the local history of a prefix is a prefix of the local history
 pub read_first : (n : ℕ) (c : List NodeRecord) (fs others : List Event) → (d : List NodeRecord) × (account_read n c (fs ++ others) ≡ account_read n c fs ++ account_read n d others)
 read_first n c [] others = (c, refl)
 read_first n c (e ∷ fs) others =

@@ -107,7 +107,7 @@ alone_is f turn node t is others = elim (cases_lt node.number turn) [
 pub turn_is : (f : ℕ → Bool) (turn : NodeId) → f turn.number ≡ true → Some turn ≡ first_in f turn.number 144
 turn_is f turn is = ahead_is f turn.number turn (omega arith) is (λ m l h. absurd (omega arith))
 
--- the only one, where none stands before it, and none from the number behind it on
+-- the only one, if there is none before it, and none from the next number on
 pub none_other : (f : ℕ → Bool) (n turn : ℕ) → n + 1 ≡ turn → ((m : ℕ) → turn ≤ m → m < 144 → f m ≡ false) → ((m : ℕ) → 0 ≤ m → m < n → f m ≡ false)
     → (m : ℕ) → m < 144 → m ≢ n → f m ≡ false
 none_other f n turn e ahead before m l ne = elim (cases_lt m n) [

@@ -76,7 +76,7 @@ abbrev pub actor : Event → ℕ
 actor (Own a) = a.number
 actor (Pass w r side) = w.number
 
--- what can be made says of its nodes
+-- an enabled event and the state of its nodes
 runs_of : (wait : Wait) (stop : ℕ) → refused_by wait stop ≡ None → wait ≡ Nothing
 runs_of Nothing stop h = refl
 runs_of (Fetch sides) stop h = absurd (cc)

@@ -54,7 +54,7 @@ but-set n c b k x a = record {
 not_own : (a : NodeId) (n : ℕ) → touches (Own a) n ≡ false → a.number ≡ n → ⊥
 not_own a n f e = both_ways (a.number == n) (or_parts (a.number == n) false f).0 (subst (λ z. (a.number == z) ≡ true) e (grind (arith)))
 
--- behind an event of the node's own
+-- after an event that touches no other node
 but-own : (n : ℕ) (c b : List NodeRecord) (e : Event) → ((m : ℕ) → (m ≡ n → ⊥) → touches e m ≡ false) → CanBe c e → AreBut n c b → AreBut n (after c e).0 b
 but-own n c b e alone can a =
     let k = stays c e can in
@@ -213,7 +213,7 @@ left n (e ∷ es) c b last led own a back runs =
       ]
     ]
 
--- ---- as the law says it
+-- ---- as the law states it
 
 taken_out : (n : ℕ) (c : List NodeRecord) (es : List Event) → (r : IsRound c n es) → replay c (events_without n es) ≡ Some r.last
 taken_out n c es r = left n es c c r.last r.led r.own (record { size = refl; same = λ m ne. refl }) r.back (λ some. running n es c r.last r.led r.own some)

@@ -104,7 +104,7 @@ same_bits r d l u x y z w a b c e f g h i q =
     let third : l ≡ z = omega arith in
     record { right = first; down = second; left = third; up = omega arith }
 
--- ---- what stands on a side
+-- ---- the neighbour's state on a side
 
 abbrev changed_at : List NodeRecord → List NodeRecord → Side → Option ℕ → Bool
 changed_at c d side None = false

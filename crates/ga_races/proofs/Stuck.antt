@@ -57,7 +57,7 @@ untouched chip marks (Pass w r side) n s can m =
     (apart_from w.number n (λ e. writer_free chip marks w r side s (opened chip w r side can) (subst (λ z. marks z ≡ true) e m)))
     (or_from (r.number == n) false (apart_from r.number n (λ e. reader_free chip marks w r side s (opened chip w r side can) (subst (λ z. marks z ≡ true) e m))) refl)
 
--- and they are stuck wherever they stand as they stood
+-- and they are deadlocked on each chip on which their records are the same
 abbrev Stand : List NodeRecord → List NodeRecord → (ℕ → Bool) → Type 0
 Stand c d marks = (n : ℕ) → marks n ≡ true → record_at c n ≡ record_at d n
 

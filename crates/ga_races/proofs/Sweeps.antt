@@ -63,7 +63,7 @@ action_before (f ∷ fs) c ys (suc j) l = action_before fs (after c f).0 ys j (o
 
 -- ---- the sweep
 
--- `e` comes as late as it can among the first events `xs`, without `post`: what comes behind it isn't of the kind `q`
+-- `e` comes as late as it can among the first events `xs`, without `post`: no action after it is of the kind `q`
 record IsSwept (c d : List NodeRecord) (e : Event) (xs post : List Event) (q : Action → Bool) : Type 0 where
   before : List Event
   behind : List Event
@@ -316,7 +316,7 @@ chip_there [] c d [] h = same_Some c d h
 chip_there [] c d (y ∷ ys) h = same_Some c d h
 chip_there (f ∷ fs) c d ys h = chip_there fs (after c f).0 d ys (first_of c f fs d h).then
 
--- behind so many events the node waits to write, and none of its steps among them happens after the first
+-- after k of the events the node waits to write, and none of its steps among them happens after the first event
 abbrev IsPosted : List NodeRecord → Event → ℕ → Side → List Event → ℕ → Type 0
 IsPosted c e x side es k = (writes_to (record_at (chip_at c (e ∷ es) k) x).wait side ≡ true)
     × ((step : ℕ) → step < k → touches (made_at c (e ∷ es) step) x ≡ true → HappensBefore (actions c (e ∷ es)) 0 step → ⊥)

@@ -1,4 +1,4 @@
--- What a node holds behind so many of its steps, and the places where it has made so many.
+-- The record of a node after a number of its steps, and the places where it has made this number of steps.
 use Rattle.std.proofs.Common.{◌≡◌, ℕ, zero, suc, ◌+◌, ◌<◌, ◌≤◌, Bool, true, false, cond, List, [], ◌∷◌, ◌++◌, length, Some, refl, sym, ◌∙◌, ap, ap₂, subst₂, arith}
 use Rattle.std.proofs.lemmas.List.Sums.{sum_by-cons}
 use Rattle.ga_node.specs.Record.{NodeRecord}
@@ -17,7 +17,7 @@ use Rattle.ga_races.proofs.Moves.{tally}
 use Rattle.ga_races.proofs.Sweeps.{Split, split_at, chip_there}
 use Rattle.ga_races.proofs.Kahn.{head_is, begins}
 
--- ---- a node behind as many of its steps holds the same in each order
+-- ---- a node's record after the same number of its steps is the same in each order
 
 prefix_same : (us vs ws zs : List Entry) → us ++ vs ≡ ws ++ zs → length us ≡ length ws → us ≡ ws
 prefix_same [] vs [] zs h k = refl
@@ -73,7 +73,7 @@ tally_up n (a ∷ xs) (suc i) (suc j) l = more (cond (touches a.cause.event n) 1
     more : (x y z : ℕ) → y ≤ z → x + y ≤ x + z
     more x y z h = omega (arith, h)
 
--- a place behind just so many steps of the node
+-- a place after exactly `a` steps of the node
 pub between : (n : ℕ) (xs : List Action) (i a : ℕ) → i ≤ length xs → tally n xs i ≤ a → a ≤ tally n xs (length xs) → (k : ℕ) × (i ≤ k) × (k ≤ length xs) × (tally n xs k ≡ a)
 between n [] i a l low high = (i, omega arith, l, omega (arith, low, high))
 between n (x ∷ xs) zero a l low high = go a (touches x.cause.event n) refl low high (between n xs 0)
@@ -107,7 +107,7 @@ between n (x ∷ xs) (suc i) a l low high = go a (touches x.cause.event n) refl 
         let j : i ≤ r.0 = r.1 in
         (suc r.0, omega (arith, j), omega (arith, m), ap (λ (b : Bool). cond b 1 0 + tally n xs r.0) is ∙ (let e : tally n xs r.0 ≡ a = r.3 in let g : 0 + tally n xs r.0 ≡ a = omega (arith, e) in g))
 
--- the step of the node behind just so many
+-- the step of the node after exactly `a` of its steps
 pub record IsBelow (n : ℕ) (xs : List Action) (i a : ℕ) : Type 0 where
   pub at : ℕ
   pub before : at < i

@@ -22,7 +22,9 @@ use Rattle.ga_races.specs.HappensBefore.{Action, action_at, AreNear}
 abbrev pub IsSubset : (ℕ → Bool) → (ℕ → Bool) → Type 0
 IsSubset marks others = (n : ℕ) → n < 144 → marks n ≡ true → others n ≡ true
 
--- ---- sets of nodes that can never go on. A bare ring of nodes that wait for one another need not be one: a node that reads from several sides can be freed from outside of the ring. Here all whom a node of the set awaits are in the set too (F18A Technology Reference DB001, ports; G144A12 Chip Reference DB002, links).
+-- ---- deadlocked sets of nodes. A wait cycle alone need not be one: a node that reads from several sides can be freed from
+-- outside of the cycle. Here all nodes that a node of the set awaits are in the set too (F18A Technology Reference DB001,
+-- ports; G144A12 Chip Reference DB002, links).
 
 -- a node that waits so awaits the neighbour on this side
 abbrev pub awaits : Wait → Side → Bool
@@ -61,7 +63,7 @@ is_own_of (Pass w r side) n = false
 abbrev pub is_look_of : Action → ℕ → Bool
 is_look_of action n = action.cause.look && is_own_of action.cause.event n
 
--- At the two places are a look of a node and a change of what is shown to it that are near, whichever of them stands first.
+-- At the two places are a look of a node and a change of what is shown to it, and they are a racing pair, in whichever order.
 pub record IsNearLook (acts : List EventAccess) (near : Near) : Type 0 where
   pub node : ℕ
   pub look : is_look_of (action_at (actions_in acts) near.look) node ≡ true

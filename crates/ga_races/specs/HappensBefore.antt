@@ -21,7 +21,7 @@ use Rattle.ga_races.specs.Orders.{AreRivals}
 
 -- ---- nodes at which an event can change what the next event is: those that it touches and their neighbours (F18A Technology Reference DB001, ports; G144A12 Chip Reference DB002, links). A node's next event hangs on its own wait and stop and on the waits of its neighbours.
 
--- the node of this number is one of the marked, or beside one of them
+-- whether the node of this number is marked or has a marked neighbour
 abbrev pub IsMarkedOrBeside : (ℕ → Bool) → ℕ → Type 0
 IsMarkedOrBeside marks n = (t : ℕ) × (marks t ≡ true) × ((n ≡ t) ⊎ ((side : Side) × (neighbour_of t side ≡ Some n)))
 
@@ -30,12 +30,13 @@ abbrev pub are_linked : ℕ → ℕ → Bool
 are_linked n m =
     is_number (neighbour_of n Right) m || (is_number (neighbour_of n Down) m || (is_number (neighbour_of n Left) m || is_number (neighbour_of n Up) m))
 
--- an event as it was made (a letter of a trace): with whether it looked, and the nodes to which it changed what their neighbours show
+-- an event as it was made (a symbol of a trace's alphabet): with whether it looked, and the nodes to which it changed what
+-- their neighbours show
 pub record Action : Type 0 where
   pub cause : Cause
   pub changes : ℕ → Bool
 
--- the event, with whether it looks, and the nodes that would read another word in `io` behind it than before it
+-- the event, with whether it looks, and the nodes that would read another word in `io` after it than before it
 abbrev pub action_of : List NodeRecord → Event → Action
 action_of chip event = record {
   cause = cause_of chip event;
@@ -61,8 +62,8 @@ action_at actions place = slice_index_or actions place no_action
 abbrev pub is_shown : Action → Action → Bool
 is_shown look change = look.cause.look && list_any change.changes (cause_nodes look.cause)
 
--- Two actions touch a common node, or one is a look and the other changes what is shown to it, in whichever order they stand: the
--- dependence of letters. Neighbours in a list are so where they are not free of one another (law `happens_before`).
+-- Whether two actions touch a common node, or one is a look and the other changes what is shown to it, in whichever order: the
+-- dependence of a trace's symbols. Neighbours in a list are so exactly if they are not independent (law `happens_before`).
 abbrev pub are_bound : Action → Action → Bool
 are_bound first second =
     list_any (cause_touches first.cause) (cause_nodes second.cause) || (is_shown first second || is_shown second first)
@@ -82,13 +83,13 @@ pub data HappensBefore (actions : List Action) (first : ℕ) : ℕ → Type 0 wh
 abbrev pub IsStepOf : List NodeRecord → List Event → ℕ → ℕ → ℕ → Type 0
 IsStepOf chip events n k place = IsStep (causes_in (actions chip events)) n k place
 
--- in another order of a list, the event at the place `first` stands before the one at the place `later`: each is a step there
--- of the same number of each of its nodes
+-- whether, in another order of a list, the event at the place `first` comes before the one at the place `later`: each is a step
+-- there of the same number of each of its nodes
 abbrev pub StandsBefore : List NodeRecord → List Event → List Event → ℕ → ℕ → Type 0
 StandsBefore chip events others first later = (n k m l p q : ℕ) → IsStepOf chip events n k first → IsStepOf chip events m l later
     → IsStepOf chip others n k p → IsStepOf chip others m l q → p < q
 
--- the chip behind so many of the events
+-- the chip after `place` of the events
 abbrev pub chip_at : List NodeRecord → List Event → ℕ → List NodeRecord
 chip_at chip [] place = chip
 chip_at chip (event ∷ events) zero = chip
@@ -103,12 +104,12 @@ pub record AreNear (actions : List Action) (first later : ℕ) : Type 0 where
   pub apart : (n : ℕ) → touches (action_at actions first).cause.event n ≡ true → touches (action_at actions later).cause.event n ≡ false
   pub none : (middle : ℕ) → HappensBefore actions first middle → HappensBefore actions middle later → ⊥
 
--- A look and a change of what is shown to it that keep their order only by this, in whichever order they stand.
+-- A racing pair: a look and a change of what is shown to it that keep their order only by this, in whichever order.
 abbrev pub IsNear : List NodeRecord → List Event → ℕ → ℕ → Type 0
 IsNear chip events first later = AreNear (actions chip events) first later
 
--- The event at the place is a pass, and another writer could have been there first: the reader waits for it too, and behind so many
--- events, none of which is a step of this writer that happens after the pass, it waits to write to the reader.
+-- The event at the place is a pass, and another writer could have been there first: the reader waits for it too, and after
+-- `posted` events, none of which is a step of this writer that happens after the pass, it waits to write to the reader.
 pub record IsContended (chip : List NodeRecord) (events : List Event) (place : ℕ) (other : Event) : Type 0 where
   pub rivals : AreRivals (made_at chip events place) other
   pub stands : place < length events
@@ -128,7 +129,7 @@ abbrev pub IsClock : List Action → ℕ → (ℕ → ℕ) → Type 0
 IsClock actions place clock = (n k step : ℕ) → IsStep (causes_in actions) n k step
     → (k ≤ clock n ↔ ((step ≡ place) ⊎ HappensBefore actions step place))
 
--- the greatest number that one of some clocks has for a node; each clock stands with its place
+-- the greatest number that one of some clocks has for a node; each clock is paired with its place
 abbrev pub joined : List (ℕ × (ℕ → ℕ)) → ℕ → ℕ
 joined [] n = 0
 joined (known ∷ others) n = max (known.1 n) (joined others n)

@@ -19,7 +19,7 @@ use Rattle.ga_causal.specs.Words.{word_of}
 abbrev pub can_go : List NodeRecord → ℕ → Bool
 can_go chip n = nat_lt n 144 && is_ok (next chip (node_id n))
 
--- the first of so many numbers from this one on, round the chip, of which a test holds
+-- the first of k numbers from this one on, round the chip, that passes a test
 abbrev pub first_in : (ℕ → Bool) → ℕ → ℕ → Option NodeId
 first_in test n zero = None
 first_in test n (suc k) = if test (n % 144) then Some (node_id n) else first_in test (n + 1) k
@@ -38,8 +38,8 @@ pub record AreFree (chip : List NodeRecord) (e f : Event) : Type 0 where
   pub first : word_of (after chip f).0 e ≡ word_of chip e
   pub second : word_of (after chip e).0 f ≡ word_of chip f
 
--- On a chip, the one list is the other in another order: they differ by swaps of neighbours that are free of one another where they
--- stand.
+-- On a chip, the one list is the other in another order: they differ by swaps of neighbours that are independent where they
+-- are.
 pub data AreOrders : List NodeRecord → List Event → List Event → Type 0 where
   same : {chip : List NodeRecord} {xs : List Event} → AreOrders chip xs xs
   swapped : {chip : List NodeRecord} {e f : Event} {xs : List Event}
@@ -82,11 +82,11 @@ pub record AreRivals (e f : Event) : Type 0 where
 abbrev pub ComesFirst : List NodeRecord → List Event → Event → Type 0
 ComesFirst chip events event = (others : List Event) × AreOrders chip events (event ∷ others)
 
--- The set has lists that can be made, the empty one among them. It goes on with each list that can be gone on with, by some event. And
--- it turns races around: where it went on with an event, and in an order of the list from there on some steps come before this event
--- behind which another could have been made in its place, of which it is not free, there it also goes on with one of these steps or
--- the other event, which comes first in an order of them. This it has to do only where the other event comes right behind in that
--- order, or both are passes to one reader, of which the list may never make the other.
+-- The set has lists that can be made, the empty one among them. It continues each list after which some event is enabled, by
+-- some event. And it reverses races. Suppose that it continued with an event, that an order of the list from there on has some
+-- steps before this event, and that another event, dependent with it, is enabled after these steps. Then the set also continues
+-- with an event that comes first in an order of these steps and the other event. This is required only if the other event comes
+-- directly after in that order, or both are passes to one reader, of which the list may never make the other.
 pub record IsExplored (chip : List NodeRecord) (has : List Event → Type 0) : Type 0 where
   pub made : (events : List Event) → has events → IsSome (replay chip events)
   pub begun : has []

@@ -10,7 +10,7 @@ use Rattle.ga_event.specs.Touches.{touches}
 use Rattle.ga_event.specs.Apply.{replay}
 use Rattle.ga_event.specs.Told.{steps_of}
 
--- no word comes to the node or goes from it
+-- whether the event transfers no word to or from the node
 abbrev pub PassesBy : ℕ → Event → Type 0
 PassesBy n (Own a) = Unit {0}
 PassesBy n (Pass w r side) = touches (Pass w r side) n ≡ false
@@ -19,7 +19,8 @@ PassesBy n (Pass w r side) = touches (Pass w r side) n ≡ false
 abbrev pub events_without : ℕ → List Event → List Event
 events_without n events = filter (λ e. not (touches e n)) events
 
--- On the chip, what the node makes in the list is its own, and leaves it as it was. What other nodes make may stand between.
+-- On the chip, the node's events in the list are its own, and lead back to its record before them. Events of other nodes may be
+-- in between.
 pub record IsRound (chip : List NodeRecord) (n : ℕ) (events : List Event) : Type 0 where
   pub last : List NodeRecord
   pub led : replay chip events ≡ Some last

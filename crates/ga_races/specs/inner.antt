@@ -22,40 +22,40 @@ use Rattle.std.specs.List.{list_any}
 use Rattle.ga_event.specs.Touches.{touches}
 use Rattle.ga_causal.specs.Dependence.{cause_nodes}
 
--- ---- which looks and changes are told by a part of a list
+-- ---- which racing pairs a part of a list adds
 
--- A list has more than before: what it had, nothing but what is near, and of what was asked for all that is near.
+-- A list of pairs after an addition: it has its old pairs, else only racing pairs, and all racing pairs of the requested ones.
 pub record IsMore (acts : List EventAccess) (asked : Near → Type 0) (old new : List Near) : Type 0 where
   pub kept : (near : Near) → Contains old near → Contains new near
   pub sound : (near : Near) → Contains new near → Contains old near ⊎ IsNearLook acts near
   pub all : (near : Near) → asked near → IsNearLook acts near → Contains new near
 
--- the look and the change stand at these two places
+-- whether the look and the change are at these two places
 abbrev pub OfPair : ℕ → ℕ → Near → Type 0
 OfPair look change near = (near.look ≡ look) × (near.change ≡ change)
 
--- the look stands at this place, and the change before it from a place on
+-- whether the look is at this place, and the change before it from a place on
 abbrev pub OfLook : ℕ → ℕ → Near → Type 0
 OfLook look from near = (near.look ≡ look) × (near.change < look) × (from ≤ near.change)
 
--- the change stands at this place, and before it a look of the node
+-- whether the change is at this place, and before it a look of the node
 abbrev pub OfChange : List EventAccess → ℕ → ℕ → Near → Type 0
 OfChange acts change n near =
     (near.change ≡ change) × (near.look < change) × (is_look_of (action_at (actions_in acts) near.look) n ≡ true)
 
--- the change stands at this place, and before it a look of the neighbour on a side of a node, if the side is one of some
+-- whether the change is at this place, and before it a look of the neighbour on a side of a node, if `has` is true
 abbrev pub OverSide : List EventAccess → ℕ → ℕ → Side → Bool → Near → Type 0
 OverSide acts change m side has near = (n : ℕ) × OfChange acts change n near × ((has && is_number (neighbour_of m side) n) ≡ true)
 
--- the change stands at this place, and before it a look of the neighbour on one of the sides of a node
+-- whether the change is at this place, and before it a look of the neighbour on one of the sides of a node
 abbrev pub OverSides : List EventAccess → ℕ → ℕ → Sides → Near → Type 0
 OverSides acts change m sides near = (n : ℕ) × OfChange acts change n near × (side_leads_to sides m n ≡ true)
 
--- of the look and the change the later stands at the place
+-- whether the later of the look and the change is at the place
 abbrev pub AtPlace : ℕ → Near → Type 0
 AtPlace place near = ((near.look ≡ place) × (near.change < place)) ⊎ ((near.change ≡ place) × (near.look < place))
 
--- the look and the change both stand before the place
+-- whether the look and the change are both before the place
 abbrev pub BelowPlace : ℕ → Near → Type 0
 BelowPlace place near = (near.look < place) × (near.change < place)
 
@@ -65,7 +65,7 @@ LooksAreMarked acts place marks = (q n : ℕ) → q < place → is_look_of (acti
 
 -- ---- on which sides of a node what it shows there changes
 
--- what stands on a side, by number: 0 nothing that shows, 1 that a node waits to read there, 2 that it waits to write
+-- the number of what a side shows: 0 for nothing, 1 for a node that waits to read there, 2 for one that waits to write
 abbrev pub shown_as : Beside → ℕ
 shown_as Nobody = 0
 shown_as Idle = 0
@@ -114,7 +114,7 @@ unfoldable pub is_freed : List NodeRecord → (ℕ → Bool) → ℕ → Bool
 is_freed chip marks n =
     is_freed_on chip marks n Right || (is_freed_on chip marks n Down || (is_freed_on chip marks n Left || is_freed_on chip marks n Up))
 
--- each node of the chip is marked just where it waits or is stopped
+-- whether each node of the chip is marked exactly if it waits or is stopped
 abbrev pub MarksHalted : List NodeRecord → (ℕ → Bool) → Type 0
 MarksHalted chip marks = (n : ℕ) → n < 144 → marks n ≡ is_some (refusal (record_at chip n))
 
@@ -122,7 +122,7 @@ MarksHalted chip marks = (n : ℕ) → n < 144 → marks n ≡ is_some (refusal 
 abbrev pub IsSettled : List NodeRecord → (ℕ → Bool) → Type 0
 IsSettled chip marks = (n : ℕ) → marks n ≡ true → is_freed chip marks n ≡ false
 
--- ---- sides of a node on which a marked neighbour stands
+-- ---- sides of a node with a marked neighbour
 
 -- the neighbour on one of the sides of a node is marked
 abbrev pub shows_marked : (ℕ → Bool) → Sides → ℕ → Bool

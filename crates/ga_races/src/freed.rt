@@ -92,9 +92,9 @@ fn settled(chip: &Chip, mut marks: [bool; 144]) -> [bool; 144]
     marks
 }
 
-/// Nodes that can never go on, whatever further events are made: a flag for each node. Each waits or is stopped, awaits none but
-/// these, and no two of them can pass a word. There is no greater set of this kind. Of a node without a flag nothing is said: it may
-/// await one that runs for ever and never answers.
+/// The deadlocked nodes, which stay as they are whatever further events are made: a flag for each node. Each waits or is
+/// stopped, awaits none but these, and no two of them can transfer a word. There is no greater set of this kind. A node without
+/// a flag may wait forever too: for one that runs forever and never answers.
 pub fn find_stuck(chip: &Chip) -> [bool; 144]
     ensures stuck { AreStuck (records_of chip.now) (is_marked result) }
     ensures greatest { (marks : ℕ → Bool) → AreStuck (records_of chip.now) marks → IsSubset marks (is_marked result) }

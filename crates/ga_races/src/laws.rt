@@ -1,4 +1,4 @@
-//! The laws of orders and races, each the contract of a function that does nothing. They stand over the definitions alone.
+//! The laws of orders and races, each the contract of a function that does nothing. They are about the definitions only.
 
 ghost use Rattle.std.specs.Prelude.{◌≡◌, ◌≢◌, ◌<◌, ◌≤◌, ◌↔◌, ◌⊎◌, All, Contains, ℕ, Bool, true, false, length, List, [], ◌∷◌, ◌++◌, Some, IsSome, map, IfSome};
 ghost use Rattle.ga_node.specs.Record.{NodeRecord};
@@ -21,9 +21,9 @@ ghost use Rattle.ga_grid.specs.Chip.{record_at};
 ghost use Rattle.ga_event.specs.Next.{next};
 ghost use Rattle.ga_races.specs.Acts.{AreStuck};
 
-/// Of two different events that can be made on a chip, either both can be made one after the other, in both orders with the same
-/// chip, where they are free of one another. Where they touch a common node they are passes to one reader from two writers, over two
-/// sides: so a word can only be lost to another word where a reader waits on several sides.
+/// Two different events that are enabled on a chip can both be made, in both orders and with the same chip, if they are
+/// independent. If they touch a common node they are passes to one reader from two writers, over two sides: a word can only be
+/// lost to another word where a reader waits on several sides.
 pub fn diamond()
     ensures order { (chip : List NodeRecord) (e f : Event) → CanBe chip e → CanBe chip f → AreFree chip e f →
         IsSome (replay chip (e ∷ f ∷ [])) × (replay chip (e ∷ f ∷ []) ≡ replay chip (f ∷ e ∷ [])) }
@@ -31,9 +31,8 @@ pub fn diamond()
         touches e n ≡ true → touches f n ≡ true → AreRivals e f }
 {}
 
-/// Where a list has no race, whatever else can be made from the same chip, in which no node makes more steps than in the list, is a
-/// beginning of the list in another order: it can be gone on with, until each node has the account with the words that it has in the
-/// list.
+/// If a list has no race, any other list that can be made from the same chip, in which no node makes more steps, is a prefix of
+/// the list in another order: it can be continued until each node has the local history with the words that it has in the list.
 #[tactic(auto, using(crate::proofs::Orders::beginning_within))]
 pub fn beginnings()
     ensures { (chip : List NodeRecord) (events others : List Event) → IsSome (replay chip events) → HasNoRace chip events →
@@ -41,8 +40,8 @@ pub fn beginnings()
         (later : List Event) × AreOrders chip events (others ++ later) }
 {}
 
-/// A list has no race where all else that can be made from the same chip is a beginning of it in another order. So where it ends
-/// without a next event this says the same as that it has no race (`one_end`).
+/// A list has no race if each other list that can be made from the same chip is a prefix of it in another order. For a list
+/// that ends without an enabled event this is equivalent to having no race (`one_end`).
 pub fn exact()
     ensures { (chip last : List NodeRecord) (events : List Event) → replay chip events ≡ Some last →
         ((others : List Event) → IsSome (replay chip others) → (later : List Event) × AreOrders chip events (others ++ later)) →
@@ -63,9 +62,9 @@ pub fn one_end()
         AreOrders chip events others × (now ≡ last) }
 {}
 
-/// Where no event of a list looks and the list ends without a next event, it has no race just where no rollback of a step of a
-/// node leaves a chip on which two neighbours wait to write to it while it waits for both: what `rewind` of a step leaves shows each
-/// race. (A race of two passes shows there also where the list doesn't end.)
+/// If no event of a list looks and the list ends without an enabled event, it has no race exactly if no rollback of a node's
+/// step leaves a chip on which two neighbours wait to write to the node while it waits for both: what `rewind` of a step leaves
+/// shows each race. (A race of two passes shows there also if an event is enabled at the end.)
 pub fn race_free_by_rollbacks()
     ensures shows { (chip last : List NodeRecord) (events : List Event) (steps : List (Cause × Told)) (w x r : NodeId) (side other : Side) →
         run chip events ≡ Some (last, steps) → let causes = map (λ (s : Cause × Told). s.0) steps in
@@ -101,9 +100,9 @@ pub fn orders()
         account_read n chip events ≡ account_read n chip others }
 {}
 
-/// Where no list that can be made from a chip is longer than some number, a set that goes on with each of its lists and turns each
-/// race around meets every order: whatever can be made is, in another order, a beginning of a list of the set, and what ends without a
-/// next event is a list of the set in another order. So it is enough to look at the set to know how all of them end.
+/// If no list that can be made from a chip is longer than some number, a set that continues each of its lists and reverses each
+/// race covers every order: each list that can be made is, in another order, a prefix of a list of the set, and each that ends
+/// without an enabled event is a list of the set in another order. The set is therefore enough to know how all of them end.
 pub fn explored()
     ensures all { (chip : List NodeRecord) (has : List Event → Bool) (most : ℕ) → IsExplored chip (λ events. has events ≡ true) →
         ((events : List Event) → IsSome (replay chip events) → length events ≤ most) →
@@ -115,10 +114,10 @@ pub fn explored()
         (met : List Event) × (has met ≡ true) × AreOrders chip met others }
 {}
 
-/// What happens before an event in a list (Lamport) is what comes before it in every order of the list: so the past of an event can be
-/// read from the one list that was made. Neighbours in a list are not bound exactly where they are free of one another. The events are
-/// named by their steps: each is one, and stands in every order as the step of the same number. The list must be one that can be made,
-/// as nothing is swapped past an event that can't be.
+/// Happens-before (Lamport) in a list is what every order of the list keeps: the past of an event can be read from the one list
+/// that was made. Two neighbours in a list are not dependent as actions (`are_bound`) exactly if they are independent
+/// (`AreFree`). The events are named by their steps: each is one, and is in every order as the step of the same number. The
+/// list must be one that can be made, as nothing is swapped past an event that is not enabled.
 pub fn happens_before()
     ensures free { (chip : List NodeRecord) (e f : Event) → CanBe chip e → CanBe (after chip e).0 f →
         ((are_bound (action_of chip e) (action_of (after chip e).0 f) ≡ false) ↔ (CanBe chip f × AreFree chip e f)) }
@@ -139,10 +138,11 @@ pub fn happens_before()
         ↔ ((others : List Event) → AreOrders chip events others → StandsBefore chip events others first later)) }
 {}
 
-/// Which events of a list race is read from the list alone, by what happens before what (after Netzer and Miller). A look and a change
-/// of what is shown to it race where nothing happens between them. A pass races with the pass of another writer exactly where this
-/// comes to wait to write to the reader by steps of which none happens after the pass. Where a list ends without a next event these
-/// are enough: it has no race exactly where there is neither, and so every order of steps ends on its chip (`one_end`).
+/// Which events of a list race can be read from the list alone, by happens-before (after Netzer and Miller). A look and a
+/// change of what is shown to it race if nothing happens between them. A pass races with the pass of another writer exactly if
+/// this writer comes to wait to write to the reader by steps of which none happens after the pass. For a list that ends without
+/// an enabled event these are enough: it has no race exactly if there is neither, and then every order of steps ends on its
+/// chip (`one_end`).
 pub fn nearest()
     ensures looks { (chip last : List NodeRecord) (events : List Event) (first later : ℕ) → replay chip events ≡ Some last →
         IsNear chip events first later → IsRace chip events (made_at chip events first) (made_at chip events later) }
@@ -185,10 +185,10 @@ pub fn stuck_stay()
         IfSome (replay chip events) (λ later. (n : ℕ) → marks n ≡ true → record_at chip n ≡ record_at later n) }
 {}
 
-/// A node that polls makes rounds: events of its own that leave it as it was. A round by itself leads to the chip on which it began. What
-/// other nodes make within it they make without it too, since a node that runs shows them nothing: so a list without a round leads to
-/// the same chip, whatever the looks of the round read. A shortest list to a chip has no round, so the lists without one reach each
-/// chip that any list reaches.
+/// A node that polls makes rounds: events of its own that lead back to its record before them. A round without other events
+/// leads to the chip on which it began. The events of other nodes within it can be made without it too, since a node that runs
+/// shows them nothing: a list without a round leads to the same chip, whatever the looks of the round read. A shortest list to
+/// a chip has no round, so the lists without one reach each chip that any list reaches.
 pub fn rounds()
     ensures alone { (chip : List NodeRecord) (n : ℕ) (round : List Event) → IsRound chip n round → events_without n round ≡ [] →
         replay chip round ≡ Some chip }

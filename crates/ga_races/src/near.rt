@@ -179,8 +179,8 @@ fn hides(acts: &[EventAccess], place: usize, change: usize, node: NodeId) -> boo
     act.changes(node) && act.is_beside(&end)
 }
 
-// Adds the last look of a node, where a change of what is shown to it is near to that. None is near behind which the neighbour
-// already changed this.
+// Adds the last look of a node, if it and a change of what is shown to it are a racing pair. No look before an earlier such
+// change by the neighbour is in a racing pair with this one.
 fn add_look(
     list: &mut Vec<Near>,
     acts: &[EventAccess],
@@ -256,7 +256,7 @@ fn add_looks_beside(
     Ok(())
 }
 
-// Adds the looks and changes that stand before an action and are near to it.
+// Adds the racing pairs of an action with the looks and changes before it.
 fn add_at(
     list: &mut Vec<Near>,
     acts: &[EventAccess],
@@ -281,9 +281,10 @@ fn add_at(
     }
 }
 
-/// The looks of a list with the changes of what is shown to them that keep their order with them only by this (`IsNear`): each could
-/// come before a change that stands before it, or behind one that stands behind it. In the order of whichever stands later. Takes
-/// memory for these, and time by the list; and for each node that looks by the list once more for each of its sides.
+/// The racing pairs of a list: the looks, with the changes of what is shown to them that keep their order with them only by
+/// this (`IsNear`). Each look could come before a change that is before it, or after one that is after it. The pairs are in the
+/// order of the later of the two. Takes memory for these, and time linear in the list; and for each node that looks the time of
+/// the list once more for each of its sides.
 ///
 /// # Errors
 /// `Memory` alone.

@@ -1,13 +1,13 @@
-//! What decides an event beside its opcode.
+//! What decides an event besides its opcode.
 
 use ga_ports::Target;
 
-/// What decides an event beside its opcode (DB001, opcodes).
+/// What decides an event besides its opcode (DB001, opcodes).
 #[derive(Clone, Copy, PartialEq, Eq, Debug)]
 pub enum Choice {
-    /// Nothing beside the opcode.
+    /// Nothing besides the opcode.
     Plain,
-    /// What a test said.
+    /// The result of a test.
     Test(bool),
     /// What an address names.
     At(Target),

@@ -42,7 +42,7 @@ pub fn due_in(node: &Node) -> Due
     Due::Run(opcode(i_of(node), slot))
 }
 
-// What decides the next event beside its opcode.
+// What decides the next event besides its opcode.
 #[tactic(auto, unfolding(ga_node::specs::Record::record_of))]
 fn choice_of(node: &Node, due: Due) -> Choice
     ensures value { result ≡ choice due (record_of node.now) }
@@ -54,7 +54,7 @@ fn choice_of(node: &Node, due: Due) -> Choice
     }
 }
 
-// What decides an opcode that comes next, beside the opcode itself.
+// What decides an opcode that comes next, besides the opcode itself.
 #[tactic(auto, unfolding(ga_node::specs::Record::record_of))]
 fn choice_by(node: &Node, op: Op) -> Choice
     ensures value { result ≡ choice (Due.Run op) (record_of node.now) }
@@ -293,8 +293,8 @@ pub fn own_flow(node: &Node, part: Part) -> Flow
     flow_where(due, choice_of(node, due), part)
 }
 
-/// Where the value of a part comes from after what comes next in its node, where this decides it: by the opcode and the choice alone,
-/// whatever else stands in the node.
+/// Where the value of a part comes from after the next event of its node, where this decides it: by the opcode and the choice
+/// alone, whatever the node's other values are.
 pub fn flow_where(due: Due, choice: Choice, part: Part) -> Flow
     requires choice { IsTarget (target_of choice) }
     requires part { IsPart part }

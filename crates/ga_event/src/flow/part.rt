@@ -1,7 +1,7 @@
 //! The parts of a node, and where their values come from.
 
-/// A part of a node as the reference describes it: a word of its stacks or memories, or a register. Beside these stands the
-/// word that comes from outside the node in an event: the one that `io` shows, or one that comes over a link.
+/// A part of a node as the reference describes it: a word of its stacks or memories, or a register. One more is the word that
+/// comes from outside the node in an event: the one that `io` shows, or a transferred one.
 #[derive(Clone, Copy, PartialEq, Eq, Debug, Default)]
 pub enum Part {
     /// A word of the data stack, 0 for T, 1 for S, to 9.

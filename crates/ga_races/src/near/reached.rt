@@ -159,7 +159,7 @@ pub(super) fn both(one: bool, other: bool) -> bool
     one && other
 }
 
-// Whether something happens between two actions of a list, by one pass over what stands between them.
+// Whether something happens between two actions of a list, by one pass over the actions between them.
 pub(super) fn is_between(acts: &[EventAccess], first: usize, later: usize) -> bool
     requires order { first < later }
     requires within { later < length acts.now }
