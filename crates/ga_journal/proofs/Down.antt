@@ -28,7 +28,7 @@ left_steps hs lengths top n log size all at w =
     sym (ap length (history-cut hs lengths n (omega (arith, size, at)) (omega (arith, all, at))) ∙ length-take-le (slice_index lengths n) (history hs n) (w.fits n))
     ∙ steps_older log top n (cut hs lengths) w.records.order w.records.histories
 
--- so many events are walked, and the step stood before the last of them
+-- i events are walked back, and the step was within the list before the last of them
 pub record IsDown (hs : List (List Past)) (lengths : List ℕ) (top : ℕ) (log : List Stamped) (n k : ℕ) (items : List Cause) (i : ℕ) : Type 0 where
   pub walk : WalksBack hs lengths top (drop i log)
   pub list : items ≡ map cause_at (take i log)
@@ -129,7 +129,7 @@ since_of (x ∷ older) (suc i) n k m steps within l below is =
       others = r.others;
     }
 
--- the step stands no more
+-- the step is no longer within the list
 stopped : (log : List Stamped) (n k m steps : ℕ) (i : ℕ) → i ≤ length log → k ≤ steps_of n (older_events (drop (i - 1) log)) → steps_of n (older_events (drop i log)) < k → steps ≡ steps_of m (older_events (drop i log))
     → IsSince (older_causes log) n k m (reverse (map cause_at (take i log))) (length log - i) steps
 stopped log n k m steps zero within l below is =
@@ -150,7 +150,7 @@ down_last hs lengths top log n k m before steps items all i size whole at there 
     (subst (λ (z : ℕ). z < k) (left_steps hs lengths top n (drop i log) size whole at d.walk) l)
     (other ∙ left_steps hs lengths top m (drop i log) size whole there d.walk)))
 
--- what a journal tells
+-- the result of a journal's walk
 pub since_kept : (r : Result Since JournalFault) (vecs : List Held) (top kept n k m : ℕ) (log : List Stamped) (all : List Cause)
     → IfOk r (λ since. (l : List Stamped) → kept ≡ length l → Records l (lists_of vecs) top → IsSince (older_causes l) n k m since.causes.items since.before since.steps) → kept ≡ length log → Records log (lists_of vecs) top → older_causes log ≡ all
     → IfOk r (λ since. IsSince all n k m since.causes.items since.before since.steps)
@@ -172,7 +172,7 @@ tested_not lengths at n k is l = subst (λ (z : ℕ). slice_index lengths z < k)
 pub some_of : (log : List Stamped) (i : ℕ) → i < length log → 0 < length (drop i log)
 some_of log i l = let n : length (drop i log) ≡ length log - i = length-drop i log in omega (arith, n, l)
 
--- ---- Telling the kept events one by one from the newest back.
+-- ---- Reading the events of the history one by one from the newest back.
 
 length-older_events : (log : List Stamped) → length (older_events log) ≡ length log
 length-older_events [] = refl
@@ -190,7 +190,7 @@ older_dropped (x ∷ older) (suc j) place q =
     let n : length (older_events older) ≡ length older = length-older_events older in
     older_dropped older j place (omega (arith, q)) ∙ sym (take-append-le place (older_events older) (x.event ∷ []) (omega (arith, n, q)))
 
--- at first none is told
+-- at first no event was read
 pub none_told : (vecs : List Held) (lengths : List ℕ) (top kept : ℕ) (book : Book) → book.histories ≡ lists_of vecs → (kept_is : kept ≡ length (kept_of book)) → Keeps vecs top book.made kept book.limit → IsWhole book.histories book.made
     → length vecs ≡ 144 → length lengths ≡ 144 → ((n : ℕ) → n < 144 → slice_index lengths n ≡ length (history (lists_of vecs) n)) → IsUntold book lengths top kept
 none_told vecs lengths top kept book is kept_is k whole size all same =
@@ -208,7 +208,7 @@ none_told vecs lengths top kept book is kept_is k whole size all same =
       size = all;
     }
 
--- what it tells, and where it stands then
+-- the event that is read, and the place reached then
 pub told_next : (book : Book) (lengths : List ℕ) (top place : ℕ) (cause : Cause) (made : Made) → 0 < place → (u : IsUntold book lengths top place)
     → ((log : List Stamped) → WalksBack book.histories lengths top log → IsFirst log cause made) → made_in (kept_of book) (place - 1) ≡ Some made
 told_next book lengths top place cause made some u first =
@@ -245,9 +245,9 @@ place_within book lengths top place u =
     let n : length (kept_of book) ≡ length u.log = ap length (kept_log u.log book u.records) ∙ length-tellings u.log in
     omega (arith, w, n)
 
--- ---- What one walk back tells of several places.
+-- ---- The events at several places, read in one walk back.
 
--- walking on from where the walk stands
+-- walking on from the place that the walk has reached
 pub left_long : (log : List Stamped) (kept left place : ℕ) → kept ≡ length log → left ≤ kept → left - place ≤ length (drop (kept - left) log)
 left_long log kept left place long within = let n : length (drop (kept - left) log) ≡ length log - (kept - left) = length-drop (kept - left) log in omega (arith, n)
 
@@ -278,7 +278,7 @@ told_more log places at place told items l is t rest =
     (subst (λ z. AreTold log (get_or places at 0 ∷ drop (suc at) places) z) (sym (reverse-append items (told ∷ [])))
     (subst (λ (z : ℕ). IsToldAt log z told) is t, rest))
 
--- what a journal tells of them
+-- the events that a journal returns for the places
 mades_told : (log : List Stamped) (places : List ℕ) (mades : List Made) → All (λ (place : ℕ). place < length log) places → AreTold log places mades
     → map Some mades ≡ map (made_in (tellings log)) places
 mades_told log [] [] a t = refl

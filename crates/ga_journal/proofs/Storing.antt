@@ -79,7 +79,7 @@ pasts_more ps p n m (e ∷ es) h l =
     ap (λ z. past e.stamp z e.saved ∷ map (past_in (ps ++ p ∷ [])) es) (act_more ps p e.part e.place b)
     ∙ ap (λ z. past_in ps e ∷ z) (pasts_more ps p (n + passes_in e.part) m es h.1 l)
 
--- where the newest look stands is no part of an act
+-- a pass with another position of the newest look; it is no part of an act
 abbrev pub with_looked : Pass → ℕ → Pass
 with_looked p looked = record { partner = p.partner; side = p.side; at = p.at; looked = looked; word = p.word }
 
@@ -87,7 +87,7 @@ pub same_act : (role : Role) (p : Pass) (looked : ℕ) → act_with role (with_l
 same_act Writer p looked = refl
 same_act Reader p looked = refl
 
--- the new one tells the new pass
+-- the act at the new place is that of the new pass
 pub act_last : (ps : List Pass) (p : Pass) (role : Role) → act_in (ps ++ p ∷ []) (Passed role) (length ps) ≡ act_with role p
 act_last ps p role = ap (λ z. act_with role z) (get_or-append_seam ps p [] no_pass)
 

@@ -4,7 +4,7 @@ use Rattle.ga_journal.specs.Histories.{Past, Book, history}
 use Rattle.ga_journal.specs.Events.{has_looked_in}
 use Rattle.ga_journal.specs.Marks.{mark_of, ticked_in_vain}
 
--- the newest look among the first entries of a history, as many as the mark says
+-- the newest look among the first `mark` entries of a history
 pub record IsNewestLook (entries : List Past) (mark at : ℕ) : Type 0 where
   pub entry : Past
   pub below : at < mark
@@ -12,7 +12,7 @@ pub record IsNewestLook (entries : List Past) (mark at : ℕ) : Type 0 where
   pub looked : has_looked_in entry.act ≡ true
   pub newest : (p : ℕ) (e : Past) → at < p → p < mark → slice_get entries p ≡ Some e → has_looked_in e.act ≡ false
 
--- none of the first entries of a history, as many as the mark says, is a look
+-- none of the first `mark` entries of a history is a look
 abbrev pub HasNoLook : List Past → ℕ → Type 0
 HasNoLook entries mark = (p : ℕ) (e : Past) → p < mark → slice_get entries p ≡ Some e → has_looked_in e.act ≡ false
 

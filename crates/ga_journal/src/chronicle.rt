@@ -1,4 +1,4 @@
-//! A journal that is told as a list.
+//! A journal whose events are also read as a list.
 
 use crate::fault::JournalFault;
 use crate::journal::{BackwardEvents, Journal};
@@ -7,8 +7,8 @@ use ga_event::{Cause, Event, Made};
 use ga_grid::NodeId;
 use ga_node::{Node, Place};
 
-/// A journal whose events are also told as a list. These calls read entries that no tick counts, so whoever is lent the journal
-/// alone, as a rollback is, can't make them, nor set its count back.
+/// A journal whose events are also read as a list. These calls read entries that no tick counts; code that gets a reference to
+/// the journal only, as a rollback does, can neither make them nor reset the count.
 #[derive(Drop)]
 pub struct Chronicle {
     pub journal: Journal,
@@ -24,7 +24,7 @@ impl Chronicle {
     ghost use Rattle.ga_event.specs.Told.{steps_of, mades_of, made_in};
     ghost use Rattle.ga_journal.specs.Logs.{IsSince, IsWhole};
 
-    /// What is told of the kept events that touch a node, in order.
+    /// The events of the history that touch a node, in order, each with its step numbers and outcome.
     ///
     /// # Errors
     /// `Memory` alone.
@@ -36,7 +36,7 @@ impl Chronicle {
         self.journal.history(node)
     }
 
-    /// What is told of the kept event at a place of those that touch a node, from 0 on; none past their end.
+    /// The event at a place of those of the history that touch a node, from 0 on; none past their end.
     pub fn told(&self, node: NodeId, place: u32) -> Option<Made>
         requires { IsWhole self.now.journal.histories self.now.journal.made }
         ensures { result ≡ slice_get (mades_of (kept_of self.now.journal) node.number) place }
@@ -72,8 +72,8 @@ impl Chronicle {
         self.journal.event_at(place)
     }
 
-    /// What is told of the kept event at a place of their list, from 0 on; none past its end. It walks back from the
-    /// newest.
+    /// The event at a place of the history, from 0 on, with its step numbers and outcome; none past the end. Walks back from
+    /// the newest.
     pub fn made_at(&self, place: u32) -> Option<Made>
         requires { IsWhole self.now.journal.histories self.now.journal.made }
         ensures value { result ≡ made_in (kept_of self.now.journal) place }
@@ -82,8 +82,8 @@ impl Chronicle {
         self.journal.made_at(place)
     }
 
-    /// What is told of the kept events at these places of their list, each above the one before. It walks back once, from the
-    /// newest to the first of them, and takes memory for what it tells alone.
+    /// The events at these places of the history, each above the one before, with their step numbers and outcomes. Walks back
+    /// once, from the newest to the first of them, and takes memory only for the returned list.
     ///
     /// # Errors
     /// `Memory` alone.
@@ -97,7 +97,7 @@ impl Chronicle {
         self.journal.mades_at(places)
     }
 
-    /// The kept events, none of which is told yet.
+    /// A reader of the history from the newest event back, which has read none yet.
     pub fn backward(&self) -> BackwardEvents<'_>
         requires { IsWhole self.now.journal.histories self.now.journal.made }
         ensures { result ≡ untold self.now.journal (length (kept_of self.now.journal)) }
@@ -105,7 +105,7 @@ impl Chronicle {
         self.journal.backward()
     }
 
-    /// The kept events in order, each with whether it looked.
+    /// The events of the history in order, each with whether it looked.
     ///
     /// # Errors
     /// `Memory` alone.
@@ -117,8 +117,8 @@ impl Chronicle {
         self.journal.causes()
     }
 
-    /// The kept events from a node's step on, and what stands before them. It walks back from the newest down to the step, and
-    /// takes memory for what it passes alone.
+    /// The events of the history from a node's step on, and the number of those before them. Walks back from the newest down to
+    /// the step, and takes memory only for the events that it passes.
     ///
     /// # Errors
     /// `Memory` alone.

@@ -14,15 +14,16 @@ use std::marker::Model;
 mod overwritten;
 mod walking;
 
-/// So many entries take more than 128 KiB: C's memory gives a list of that size pages of its own, which grow without a copy.
+/// This number of entries takes more than 128 KiB: C's memory gives a list of that size pages of its own, which grow without a
+/// copy.
 const MAPPED: usize = 2816;
 
-/// The entries of one node, the oldest first. The passes among them stand in a list of their own, so that an own event
-/// takes no more memory than it has to.
+/// The entries of one node, the oldest first. The passes among them are in a list of their own, so that an own event takes no
+/// more memory than it needs.
 #[derive(Drop)]
 pub(crate) struct History {
     entries: Vec<Entry>,
-    // One past the position of the newest look, 0 for none. It stands beside what an own event reads besides.
+    // One past the position of the newest look, 0 for none. It is next to the other fields that an own event reads.
     looked: u32,
     passes: Vec<Pass>,
 }
@@ -74,7 +75,7 @@ fn act_of(passes: &Vec<Pass>, part: Part, place: u32) -> Act
     }
 }
 
-/// One past the position of the newest look before an entry, where its pass stands at a place of the list.
+/// One past the position of the newest look before an entry, whose pass, if it is an end of one, is at a place of the list.
 #[inline(always)]
 fn looked_before(passes: &Vec<Pass>, part: Part, place: u32) -> u32
     requires { IsBelow part place (length passes.now.items) }
@@ -184,7 +185,7 @@ impl History {
         }
     }
 
-    /// What the entry at a position tells.
+    /// The entry at a position, without its overwritten values.
     #[inline(always)]
     pub fn head(&self, at: usize) -> Head
         requires { at < length self.now.items }
@@ -298,7 +299,7 @@ impl History {
         });
     }
 
-    /// Adds an end of a pass, to which it puts where the newest look stands.
+    /// Adds an end of a pass, with the position of the newest look.
     pub fn push_pass(&mut self, stamp: u64, role: Role, pass: Pass, saved: Saved, before: NodeId)
         requires room { IsTrue self.old.room.entry }
         requires pass_room { IsTrue self.old.room.pass }

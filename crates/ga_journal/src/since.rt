@@ -1,9 +1,9 @@
-//! The kept events from a step on.
+//! The events of the history from a step on.
 
 use ga_event::Cause;
 
-/// The kept events from a node's step on, in order, each with whether it looked; how many events stand before them; and how many
-/// of those are steps of another node.
+/// The events of the history from a node's step on, in order, each with whether it looked; how many events come before them;
+/// and how many of those are steps of another node.
 #[derive(Debug, Drop)]
 pub struct Since {
     pub causes: Vec<Cause>,

@@ -3,7 +3,7 @@
 use ga_grid::NodeId;
 use std::marker::Model;
 
-/// A flag for each node that waits, and a window in which all of them stand, so that not every flag is looked at.
+/// A flag for each pending node, and a window that contains all of them, so that not every flag is read.
 #[derive(Drop)]
 pub(crate) struct Waiting {
     flags: [bool; 144],

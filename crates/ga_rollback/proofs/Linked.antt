@@ -1,4 +1,4 @@
--- What stands in the table of links.
+-- The contents of the table of links.
 use Rattle.std.specs.Prelude.{◌==◌, ◌&&◌, nat_lt, Option, None}
 use Rattle.std.proofs.Common.{◌≡◌, ℕ, zero, suc, ◌+◌, ◌*◌, ◌-◌, ◌<◌, ◌≤◌, Bool, true, false, Some, get_or, refl, ap, arith, inl, inr, eq-zero-or-pos}
 use Rattle.std.proofs.lemmas.Bool.Decides.{nat_tests}

@@ -210,7 +210,7 @@ marked_lowered book visited n k j q marked l due = record {
   whole = λ x r i t looked named. let a = marked.whole x r i t looked named in let b = lowered_falls book j q i marked.sound l in omega arith;
 }
 
--- what it comes to in ticks
+-- what it costs in ticks
 pub lowered_line : (book : Book) (j q : ℕ) → AreMarks book → q < mark_of book j → in_line (lowered book j q) ≤ in_line book + 1
 lowered_line book j q sound l =
     let in_book : j < length book.histories = node_within book.histories j q (omega arith) in

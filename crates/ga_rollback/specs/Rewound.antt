@@ -1,4 +1,4 @@
--- What a rollback leaves. A step is taken back with all that it caused and nothing else, whatever else came later: an action may
+-- The result of a rollback. A step is removed with all that it caused and nothing else, whatever else came later: an action may
 -- be undone once all its consequences are (Danos and Krivine, "Reversible Communicating Systems", 2004).
 use Rattle.std.specs.Prelude.{ℕ, List, ◌≡◌, [], ◌∷◌, length, ◌+◌, ◌*◌, ◌<◌, ◌≤◌, Some, slice_index}
 use Rattle.std.specs.List.{sum_by, count_by}
@@ -25,7 +25,7 @@ looks_of hs = sum_by looks_in hs
 
 -- ---- the chip and the journal belong together
 
--- Each event of the log, taken back one after another from the chip on, led from the chip without it to the chip with it.
+-- Each event of the log, undone one after another from the chip on, led from the chip without it to the chip with it.
 abbrev pub LeadsBack : List NodeState → List Stamped → Type 0
 LeadsBack chip [] = Unit {0}
 LeadsBack chip (x ∷ older) =
@@ -38,9 +38,9 @@ pub record IsTied (chip : List NodeState) (book : Book) : Type 0 where
   pub records : Records log book.histories book.made
   pub leads : LeadsBack chip log
 
--- Node n was rolled back to its step k, which removed so many events. The events that are left are those that do not depend on
--- the step, in their order, and those of them that looked still do; replaying them from the load, which stays, leads to the
--- new chip.
+-- Node n was rolled back to its step k, which removed `removed` events. The events that remain are those that do not depend on
+-- the step, in their order, and those of them that looked still do; replaying them from the load, which is unchanged, leads to
+-- the new chip.
 pub record IsRolledBack (old : Book) (chip : List NodeState) (n k : ℕ) (new : Book) (now : List NodeState) (removed : ℕ) : Type 0 where
   pub stands : (0 < k) × (k ≤ steps_of n (events_of old))
   pub left : causes_in_book new ≡ rewound_list (causes_in_book old) n k
@@ -52,17 +52,17 @@ pub record IsRolledBack (old : Book) (chip : List NodeState) (n k : ℕ) (new : 
   pub tied : IsTied now new
   pub settled : IsAtRest new
 
--- What a rollback of node n to its step k would take: so many events, and of each node so many steps. Those that would be left
--- are the events that do not depend on the step.
+-- What a rollback of node n to its step k would remove: `events` events, and of each node m `steps[m]` steps. Those that would
+-- remain are the events that do not depend on the step.
 pub record WouldGo (old : Book) (n k : ℕ) (events : ℕ) (steps : List ℕ) : Type 0 where
   pub stands : (0 < k) × (k ≤ steps_of n (events_of old))
   pub number : events + length (rewound_list (causes_in_book old) n k) ≡ length (events_of old)
   pub each : (m : ℕ)
       → slice_index steps m + steps_of m (events_in (rewound_list (causes_in_book old) n k)) ≡ steps_of m (events_of old)
 
--- How much a rollback did, whatever else is kept: at most four searches in vain for each entry that it removed, and none where no
--- kept entry was a look; beside them at least two ticks for each and two more, and at most four for each and one for each look
--- among them.
+-- The work of a rollback, whatever the rest of the history is: at most four searches in vain for each entry that it removed,
+-- and none if no entry was a look; besides them at least two ticks for each removed entry and two more, and at most four for
+-- each and one for each look among them.
 pub record IsTicked (old new : Book) : Type 0 where
   pub gone : ℕ
   pub looks_gone : ℕ

@@ -15,7 +15,7 @@ use Rattle.ga_journal.specs.Events.{has_looked_in}
 use Rattle.ga_journal.specs.Looks.{HasLook, IsLookToGo, SawNoneToGo}
 use Rattle.ga_rollback.specs.Rewound.{looks_of}
 
--- ---- the ends of histories, taken back
+-- ---- the ends of histories, restored
 
 -- what a history lost of its end
 abbrev pub end_of : List (List Past) → List (List Past) → ℕ → List Past
@@ -42,7 +42,7 @@ pub record IsRestoring (chip : List NodeState) (first : Book) (now : List NodeSt
 
 -- ---- A table of links
 
--- where the neighbour on this side stands among the four of a node in the table
+-- the place of the neighbour on this side among the four of a node in the table
 abbrev pub place_of : Side → ℕ
 place_of Right = 0
 place_of Down = 1
@@ -101,8 +101,8 @@ pub data IsFollowed (old : Book) (m p : ℕ) (new : Book) : Type 0 where
 abbrev pub IsUnseen : Book → ℕ → Type 0
 IsUnseen book j = (m : ℕ) (side : Side) → neighbour_of j side ≡ Some m → SawNoneToGo book j m
 
--- marks of a node's neighbours lowered one after another, each to a look that came after an entry of the node that is to go, in
--- two ticks; and so many searches that found none, each of a node that has a look, in one tick
+-- marks of a node's neighbours lowered one after another, each to a look that came after an entry of the node that is to be
+-- removed, in two ticks; and `vain` searches that found none, each of a node that has a look, in one tick
 pub data AreLowered (old : Book) (node : ℕ) : ℕ → Book → Type 0 where
   Same : {vain : ℕ} {new : Book} → vain ≡ 0 → new ≡ old → AreLowered old node vain new
   Further : {vain : ℕ} {new : Book} (book : Book) (m p : ℕ) (side : Side) → AreLowered old node vain book
@@ -111,20 +111,21 @@ pub data AreLowered (old : Book) (node : ℕ) : ℕ → Book → Type 0 where
   Vain : {vain : ℕ} {new : Book} (book : Book) (before m : ℕ) → AreLowered old node before book
       → HasLook (history book.histories m) → vain ≡ before + 1 → new ≡ ticked_in_vain book → AreLowered old node vain new
 
--- marks of a node's neighbours were lowered as `AreLowered` says, with at most so many searches that found none
+-- marks of a node's neighbours were lowered as in `AreLowered`, with at most `most` searches that found none
 pub record AreLoweredBy (most : ℕ) (old : Book) (node : ℕ) (new : Book) : Type 0 where
   pub vain : ℕ
   pub few : vain ≤ most
   pub chain : AreLowered old node vain new
 
--- the entries that are to stay, where so many at the end of each history are to go
+-- the entries that are to stay, where `going` has how many at the end of each history are to be removed
 abbrev pub staying : List (List Past) → List ℕ → List (List Past)
 staying [] going = []
 staying (h ∷ hs) [] = h ∷ staying hs []
 staying (h ∷ hs) (k ∷ going) = take (length h - k) h ∷ staying hs going
 
--- the marks while they are lowered: no entry that stays was visited, and each tick was a node taken up, an entry visited, a
--- search for a look that is to go or a mark lowered; for each node that waits, four searches in vain may come, and so many more
+-- the marks while they are lowered: no entry that stays was visited, and each tick was a pending node processed, an entry
+-- visited, a search for a look to be removed or a mark lowered; at most four more searches in vain can come for each pending
+-- node, and `more` besides
 pub record IsMarking (first : Book) (n k : ℕ) (book : Book) (visited : List ℕ) (more : ℕ) : Type 0 where
   pub marked : IsMarked book visited n k
   pub others : book ≡ record first { going = book.going; waiting = book.waiting; ticks = book.ticks }
@@ -161,7 +162,7 @@ abbrev pub one_counted : Option Bool → ℕ
 one_counted None = 0
 one_counted (Some b) = if b then 1 else 0
 
--- some marks were raised, an entry in a tick, and so many events are counted by these entries
+-- some marks were raised, an entry in a tick, and `events` events are counted by these entries
 pub record IsRaising (first book : Book) (events : ℕ) : Type 0 where
   pub others : book ≡ record first { going = book.going; ticks = book.ticks }
   pub sized : length book.going ≡ 144
@@ -181,9 +182,9 @@ pub record AreCounted (old new : Book) : Type 0 where
   pub least : old.ticks.count + to_go new + 2 + vain ≤ new.ticks.count
   pub most : new.ticks.count ≤ old.ticks.count + 3 * to_go new + found + vain
 
--- ---- where the nodes stand of which entries were visited
+-- ---- the range of the nodes of which entries were visited
 
--- each count that is not 0 stands from the first place on and below the end
+-- each count that is not 0 is from the first place on and below the end
 pub record IsWindow (counts : List ℕ) (first past : ℕ) : Type 0 where
   pub size : length counts ≡ 144
   pub fits : past ≤ 144

@@ -16,7 +16,7 @@ use crate::visited::Visited;
 use ga_grid::NodeId;
 use ga_journal::Journal;
 
-/// What a rollback would take: so many events, and of each node so many steps.
+/// What a rollback would remove: the number of events, and the number of steps of each node.
 #[derive(Drop)]
 pub struct Going {
     /// How many events a rollback would take.
@@ -25,8 +25,8 @@ pub struct Going {
     pub steps: Visited,
 }
 
-/// What `rewind` would take. Nothing is taken back: the journal is as before, but for its ticks. No memory is taken. The work is
-/// counted in ticks, at most nine for each step that would go, whatever else is kept.
+/// Returns what `rewind` would remove. Nothing is removed: the journal is as before, except for its ticks. No memory is taken.
+/// The work is counted in ticks, at most nine for each step that would be removed, whatever the rest of the history is.
 ///
 /// # Errors
 /// `NoStep`, where the node has no such step.
@@ -39,7 +39,7 @@ pub fn would_rewind(journal: &mut Journal, node: NodeId, step: u32) -> Result<Go
     ensures ticked { IfOk result (λ going.
         journal.new.ticks.count ≤ journal.old.ticks.count + 9 * sum_by (λ (x : ℕ). x) going.steps) }
 
-    // `NoStep`, just where the step is 0 or past the node's steps
+    // `NoStep`, exactly if the step is 0 or past the node's steps
     ensures refused { (result ≡ Err RollbackFault.NoStep)
         ↔ ((step ≡ 0) ⊎ (steps_of node.number (events_of journal.old) < step)) }
     ensures journal { OnErr result (journal.new ≡ journal.old) }
@@ -60,7 +60,7 @@ pub fn would_rewind(journal: &mut Journal, node: NodeId, step: u32) -> Result<Go
     })
 }
 
-/// Raises all marks up to the ends of the histories, and says how many events have an entry that was to go.
+/// Raises all marks up to the ends of the histories, and returns how many events have an entry that was to be removed.
 fn release(journal: &mut Journal, going: &Visited) -> u32
     requires going { (m : ℕ) → slice_index going.now m ≡ going_of journal.old m }
     requires sound { AreMarks journal.old }

@@ -38,7 +38,7 @@ static BESIDE: [u8; 576] = [
     142, 125, 144, 144,
 ];
 
-/// Where the neighbour on this side stands among the four of a node in the table.
+/// The place of the neighbour on this side among the four of a node in the table.
 #[inline(always)]
 fn place_of(side: Side) -> usize
     ensures value { result ≡ place_of side }
@@ -63,7 +63,7 @@ fn number_beside(node: NodeId, side: Side) -> u8
     BESIDE[at + place]
 }
 
-/// The node at the other end of the link on this side, as [`ga_grid::neighbour`] tells, without working it out.
+/// The node at the other end of the link on this side, as [`ga_grid::neighbour`] returns it, read from the table.
 #[tactic(auto, using(crate::proofs::Linked::some_beside, crate::proofs::Linked::none_beside))]
 #[inline(always)]
 pub(crate) fn node_beside(node: NodeId, side: Side) -> Option<NodeId>

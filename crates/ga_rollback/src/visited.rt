@@ -3,7 +3,7 @@
 use ga_grid::NodeId;
 use std::marker::Model;
 
-/// How many entries of each node were visited, from its last one on, and a window in which all nodes with some stand, so that
+/// How many entries of each node were visited, from its last one on, and a window that contains all nodes with some, so that
 /// not every count is read.
 #[derive(Drop)]
 pub struct Visited {

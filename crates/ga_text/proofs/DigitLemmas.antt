@@ -1,4 +1,5 @@
--- Numbers in decimal digits, some digits at a time; the number of a cell by its two digits; what stands in the tables of digits.
+-- Numbers in decimal digits, some digits at a time; the number of a cell by its two digits; the contents of the tables of
+-- digits.
 use Rattle.std.proofs.Common.{◌≡◌, ℕ, ◌+◌, ◌<◌, ◌≤◌, ◌^◌, ◌/◌, ◌%◌, [], ◌∷◌, ◌++◌, decimal, length, length-append, ap, ◌∙◌, arith, List, refl, ◌≢◌, ◌*◌, Bool, true, false, cond, Option, Some, None, Result, Ok, Err, zero, suc, get_or, subst, inl, inr, eq-zero-or-pos, ◌-◌}
 use Rattle.std.proofs.lemmas.Fmt.{decimal_step, decimal_digit, length-decimal-le}
 use Rattle.ga_text.specs.inner.{four_digits}
@@ -38,7 +39,7 @@ four_alone n big small =
     ∙ ap (λ (m : ℕ). (48 + m % 10) ∷ (48 + n / 10 / 10 % 10) ∷ (48 + n / 10 % 10) ∷ []) front
     ∙ ap (λ (m : ℕ). (48 + n / 1000 % 10) ∷ (48 + m % 10) ∷ (48 + n / 10 % 10) ∷ []) next)
 
--- the last four digits stand behind the others
+-- the last four digits come after the others
 pub four_more : (n : ℕ) → 10000 ≤ n → n < 2 ^ 64 → decimal n ≡ decimal (n / 10000) ++ four_digits (n % 10000)
 four_more n big fits =
     let a : n / 10 / 10 / 10 / 10 ≡ n / 10000 = omega arith in
@@ -121,9 +122,9 @@ pub some_decoded : (decoded : Result (List ℕ) FromHexError) (out : List ℕ) (
 some_decoded (Ok bytes) out cell done is agrees = rw is.1 agrees
 some_decoded (Err other) out cell done is agrees = absurd (let clash : Ok done ≡ Err other = is in cc)
 
--- ---- what stands in the tables of digits
+-- ---- the contents of the tables of digits
 
--- so many pairs of a table are these
+-- whether the first n pairs of a table are these
 abbrev pairs : List ℕ → (ℕ → ℕ) → (ℕ → ℕ) → ℕ → Bool
 pairs table first second zero = true
 pairs table first second (suc n) = (get_or table (2 * n) 0 == first n && get_or table (2 * n + 1) 0 == second n) && pairs table first second n
@@ -164,7 +165,7 @@ three_bytes n below =
     let f : n % 256 / 16 ^ 0 % 16 ≡ n / 16 ^ 0 % 16 = omega arith in
     rw (a, b, c, d, e, f) refl
 
--- so many names of the table of names are these, each with a space behind it
+-- whether the name at n in the table of names is this, with a space after it; in `names` the first n names
 abbrev row_is : ℕ → Bool
 row_is n = get_or NAMES (4 * n) 0 == 48 + n / 18 && get_or NAMES (4 * n + 1) 0 == 48 + n % 18 / 10
 
@@ -194,7 +195,7 @@ pub name_four : (n : ℕ) → n < 144
     → (get_or NAMES (4 * n) 0 ≡ 48 + n / 18) × (get_or NAMES (4 * n + 1) 0 ≡ 48 + n % 18 / 10) × (get_or NAMES (4 * n + 2) 0 ≡ 48 + n % 18 % 10) × (get_or NAMES (4 * n + 3) 0 ≡ 32)
 name_four n below = name_at 144 n refl below
 
--- so many numbers from 144 on have four zeros
+-- whether the name at n is four zeros; in `blanks` the first n names from 144 on
 abbrev blank : ℕ → Bool
 blank n = (get_or NAMES (4 * n) 0 == 0 && get_or NAMES (4 * n + 1) 0 == 0) && (get_or NAMES (4 * n + 2) 0 == 0 && get_or NAMES (4 * n + 3) 0 == 0)
 

@@ -1,4 +1,4 @@
--- What was said stays said, whatever of it is written.
+-- A text that was written to a writer stays so, whatever part of it is sent to the stream.
 use Rattle.std.proofs.Common.{◌≡◌, ℕ, List, ◌++◌, Option, Some, None, ap, ◌∙◌, [], Result, Ok, Err, sym, subst, append_assoc, rules, ◌+◌, ◌<◌, ◌≤◌, length, get_or, take, drop, take-append-drop, suc, zero, true, false, ◌∷◌, refl, arith, length-take}
 use Rattle.std.proofs.lemmas.Option.{none-some}
 use Rattle.std.specs.Io.KnownBytes.{Appends, Keeps}
@@ -62,7 +62,7 @@ pub cut_assoc : (contents : Option (List ℕ)) (before said text more : List ℕ
     → IsCut contents before (said ++ (text ++ more))
 cut_assoc contents before said text more h = record { sent = h.sent; held = h.held; front = (h.front.0, sym (append_assoc said text more) ∙ h.front.1) }
 
--- nothing more was said
+-- nothing more was written
 pub said_pending : (contents : Option (List ℕ)) (before said pending : List ℕ) → IsSaid contents before said pending → IsSaid contents before (said ++ []) pending
 said_pending contents before said pending h = record { sent = h.sent; held = h.held; splits = append-nil said ∙ h.splits }
 
@@ -85,13 +85,13 @@ said_nothing contents before said text pending e h = record {
   splits = sym (append-nil said) ∙ ap (λ (t : List ℕ). said ++ t) (sym e) ∙ h.splits;
 }
 
--- the same of a text that was said
+-- the same for an equal text
 pub said_as : (contents : Option (List ℕ)) (before said text other pending : List ℕ) → text ≡ other → IsSaid contents before (said ++ text) pending
     → IsSaid contents before (said ++ other) pending
 said_as contents before said text other pending e h =
     let P : List ℕ → Type 0 = λ t. IsSaid contents before (said ++ t) pending in subst P e h
 
--- a front of a text was said
+-- a prefix of a text was written
 pub cut_within : (contents : Option (List ℕ)) (before said text more whole : List ℕ) → text ++ more ≡ whole → IsCut contents before (said ++ text)
     → IsCut contents before (said ++ whole)
 cut_within contents before said text more whole e h = record {
@@ -104,7 +104,7 @@ cut_within contents before said text more whole e h = record {
   );
 }
 
--- ---- A text of a head and a line for each element, said line by line
+-- ---- A text of a head and a line for each element, written line by line
 
 module _ {A : Type 0} (line : A → List ℕ) (head : List ℕ) (xs : List A) where
   pub listed_none : head ≡ head ++ flat_map line (take 0 xs)

@@ -1,4 +1,4 @@
--- Arguments mean what they spell, and spell what they mean.
+-- Arguments parse as what they mean, and print as what was parsed.
 use Rattle.std.specs.Prelude.{◌==◌, nat_le, nat_lt, option_map, slice_range}
 use Rattle.std.proofs.Common.{◌≡◌, ◌≢◌, ℕ, zero, suc, Bool, true, false, cond, ◌+◌, ◌<◌, List, [], ◌∷◌, ◌++◌, length, take, drop, get_or, Option, Some, None, arith, ap, refl, ◌∙◌, add-one, ◌-◌, ◌*◌, ◌/◌, ◌%◌, ◌^◌, ◌≤◌, ◌&&◌, decimal, sym, append_assoc, min, length-take, take-append-drop, drop-cons, Result, Ok, Err, rules}
 use Rattle.std.proofs.lemmas.Bool.{ne_eqb, eqb-true}
@@ -172,7 +172,7 @@ digits_more n (byte ∷ text) k small e =
     let (is, whole) = digits_more m text k bound rest in
     (is, sym (append_assoc (decimal n) (byte ∷ []) text) ∙ ap (λ (t : List ℕ). t ++ text) front ∙ whole)
 
--- a number that is read is spelled so
+-- a word that parses as a number is that number in decimal
 pub number_decimal : (word : List ℕ) (k : ℕ) → number_in word ≡ Some k → IsNumber k × (word ≡ decimal k)
 number_decimal [] k e = cc
 number_decimal (byte ∷ text) k e =
@@ -256,7 +256,7 @@ not_feed b h = grind (arith, nat_tests)
 pub no_feed : (bytes : List ℕ) → ((k : ℕ) → k < length bytes → get_or bytes k 0 ≢ 10) → HasNoFeed bytes
 no_feed bytes h = All-from_get_or (λ b. ends_line b ≡ false) bytes 0 (λ k below. not_feed (get_or bytes k 0) (h k below))
 
--- as much of the bytes as there is room for behind a line
+-- as many of the bytes as there is room for after a line
 pub kept_bytes : (line bytes : List ℕ) (room : ℕ) → room + length line ≡ 201 → line ++ take (min room (length bytes)) bytes ≡ take 201 (line ++ bytes)
 kept_bytes line bytes room e =
     let whole : length line + room ≡ 201 = omega arith in
@@ -275,7 +275,7 @@ pub where_ok : {T E : Type 0} (r : Result T E) (P : Type 0) → IsOk r → OnOk 
 where_ok (Ok x) P ok h = h
 where_ok (Err e) P ok h = absurd (search rules)
 
--- What stands from start to end, with a line feed behind its first bytes, is these bytes and what stands behind the line feed.
+-- The range from start to stop, with a line feed after its first bytes, is these bytes, the line feed and the range after it.
 pub range_at_feed : (block : List ℕ) (start stop count : ℕ) → stop ≤ length block → count < length (slice_range block start stop)
     → get_or (slice_range block start stop) count 0 ≡ 10
     → slice_range block start stop ≡ take count (slice_range block start stop) ++ 10 ∷ slice_range block (start + (count + 1)) stop
@@ -290,7 +290,7 @@ range_at_feed block start stop count within below feed =
     sym (take-append-drop count whole)
     ∙ ap (λ (t : List ℕ). take count whole ++ t) (drop-cons whole count 0 below ∙ ap (λ (b : ℕ). b ∷ drop (suc count) whole) feed ∙ ap (λ (t : List ℕ). 10 ∷ t) behind)
 
--- what stands up to a line feed and with it
+-- the bytes up to a line feed and with it
 pub take_feed : (bytes : List ℕ) (count : ℕ) → count < length bytes → get_or bytes count 0 ≡ 10 → take (count + 1) bytes ≡ ended (take count bytes)
 take_feed bytes count below feed =
     let next : count + 1 ≡ suc count = omega arith in
@@ -301,7 +301,7 @@ pub where_err : {T E : Type 0} (r : Result T E) (P : Type 0) → P → OnErr r P
 where_err (Ok x) P h = tt
 where_err (Err e) P h = h
 
--- what stands behind the first bytes of what stands from start to end, and one more
+-- a range without its first bytes and one more
 pub range_behind : (block : List ℕ) (start stop count : ℕ) → count + 1 ≤ stop - start
     → slice_range block (start + (count + 1)) stop ≡ drop (count + 1) (slice_range block start stop)
 range_behind block start stop count within =

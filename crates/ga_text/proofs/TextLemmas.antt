@@ -98,7 +98,7 @@ name_spelled node =
 
 -- ---- an image as it is read, part by part
 
--- the lines that were read whole, and the part behind them, which begins at start
+-- the lines that were read whole, and the part after them, which begins at start
 pub record Body (text : List ℕ) (start : ℕ) : Type 0 where
   pub lines : List (List ℕ)
   pub part : List ℕ
@@ -134,7 +134,7 @@ line_splits text more start piece b e =
     e ∙ ap (λ (t : List ℕ). t ++ ended piece) b.splits ∙ append_assoc (text_of b.lines) b.part (ended piece)
     ∙ ap (λ (t : List ℕ). text_of b.lines ++ t) (sym (append_assoc b.part piece (10 ∷ [])))
 
--- what stands from its start on is it, with its line feed
+-- the text from a line's start on is the line with its line feed
 pub line_range : (text more : List ℕ) (start : ℕ) (piece : List ℕ) (b : Body text start) → more ≡ text ++ ended piece
     → take (length more - start) (drop start more) ≡ ended (b.part ++ piece)
 line_range text more start piece b e =
@@ -170,7 +170,7 @@ over_piece whole text more piece old new rest e f g =
     e ∙ ap (λ (t : List ℕ). text ++ (t ++ rest)) f ∙ ap (λ (t : List ℕ). text ++ t) (append_assoc piece new rest)
     ∙ sym (append_assoc text piece (new ++ rest)) ∙ ap (λ (t : List ℕ). t ++ (new ++ rest)) (sym g)
 
--- a line feed behind a part
+-- a line feed after a part
 pub ended_piece : (old part new : List ℕ) → old ≡ part ++ 10 ∷ new → old ≡ ended part ++ new
 ended_piece old part new e = e ∙ sym (append_assoc part (10 ∷ []) new)
 

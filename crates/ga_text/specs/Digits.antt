@@ -17,7 +17,7 @@ decimal3_of n = (48 + n / 100) ∷ (48 + n / 10 % 10) ∷ (48 + n % 10) ∷ []
 abbrev pub hex2_of : ℕ → Text
 hex2_of n = hex_digit n 1 ∷ hex_digit n 0 ∷ []
 
--- words of six digits, each behind one space
+-- words of six digits, each after one space
 abbrev pub words_text : List ℕ → Text
 words_text words = flat_map (λ word. 32 ∷ hex6_of word) words
 

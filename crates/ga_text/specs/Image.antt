@@ -14,7 +14,7 @@ pub record IsBodyLine (line : Line) : Type 0 where
   pub no_feed : HasNoFeed line
   pub not_end : line ≢ end_line
 
--- the text goes up to its first line `end`, with that line's line feed
+-- whether the text ends with its first line `end` and that line's line feed
 pub record EndsAtEnd (text : Text) : Type 0 where
   pub lines : List Line
   pub before : AllByRecursion IsBodyLine lines
@@ -28,7 +28,7 @@ pub record HasNoEnd (text : Text) : Type 0 where
   pub no_feed : HasNoFeed part
   pub splits : text ≡ text_of lines ++ part
 
--- so much was taken: the text, with left before it and more behind it
+-- whether this text was taken from the input, where `left` is unread before and `more` after
 pub record TakesText (old : Unread) (left : Bytes) (text : Text) (new : Unread) (more : Bytes) : Type 0 where
   pub splits : old.bytes ++ left ≡ text ++ more
   pub counts : new.taken ≡ old.taken + length text

@@ -24,13 +24,13 @@ IsWithin u = u.taken + length u.bytes ≤ input_limit
 
 -- ---- what the reading of one line does
 
--- the part stands at the front of the whole, more is left, and the first `longest + 1` bytes of the part are in line
+-- whether the whole is the part and more, and the first `longest + 1` bytes of the part are in line
 pub record IsLine (whole line part more : Bytes) : Type 0 where
   pub splits : whole ≡ part ++ more
   pub no_feed : HasNoFeed part
   pub kept : line ≡ take (longest + 1) part
 
--- a line was taken, with the line feed behind it
+-- whether a line was taken, with the line feed after it
 pub record TakesLine (old : Unread) (input : Bytes) (line : Line) (new : Unread) (rest : Bytes) : Type 0 where
   pub part : Bytes
   pub is_line : IsLine (old.bytes ++ input) line part (10 ∷ (new.bytes ++ rest))

@@ -48,7 +48,7 @@ abbrev pub onto_first : ℕ → List Line → List Line
 onto_first b [] = []
 onto_first b (line ∷ lines) = (b ∷ line) ∷ lines
 
--- The lines of a text that are ended by a line feed. What stands after the last line feed is none of them.
+-- The lines of a text that are ended by a line feed. The bytes after the last line feed are none of them.
 abbrev pub ended_lines : Bytes → List Line
 ended_lines [] = []
 ended_lines (b ∷ text) = if ends_line b then [] ∷ ended_lines text else onto_first b (ended_lines text)

@@ -1,4 +1,4 @@
--- What a session says first, and a text that was written in part.
+-- The first output of a session, and a text that was written in part.
 use Rattle.std.specs.Prelude.{◌≡◌, ◌<◌, ◌⊎◌, [], ◌++◌, length, Option, Some, Result, Ok, Err, codes}
 use Rattle.ga_text.specs.Lines.{Bytes, Text}
 use Rattle.ga_text.specs.Input.{input_limit, block_size}
@@ -10,12 +10,12 @@ use Rattle.ga_text.specs.declared.output.Writer.{Writer}
 
 -- ---- what reading a whole input does (docs/REFERENCE.md, "Source"; this project's own)
 
--- The source goes up to its line `end`, and behind that only what the same read brought was read; or it is all of an input in
--- which no line is `end`.
+-- Whether the source ends with its line `end`, and after it only what the same read brought was read; or it is all of an input
+-- in which no line is `end`.
 abbrev pub IsReadWhole : Text → Bytes → Bytes → Type 0
 IsReadWhole source ahead rest = (EndsAtEnd source × (length ahead < block_size)) ⊎ ((ahead ≡ []) × (rest ≡ []) × HasNoEnd source)
 
--- the text is all that is within the bound, and the byte that goes past it was read behind it
+-- whether the text is all that is within the limit, and the next byte was read after it
 abbrev pub IsTooLong : Text → Bytes → Type 0
 IsTooLong text ahead = (length text ≡ input_limit) × (length ahead ≡ 1) × HasNoEnd text
 
@@ -30,7 +30,7 @@ ReadsWhole read rest (TooLong text) = (ahead : Bytes) × (read ≡ text.items ++
 ReadsWhole read rest ReadFailed = HasNoEnd read
 ReadsWhole read rest NoMemory = Unit {0}
 
--- the first that is said after an accepted image
+-- the first output after an accepted image
 abbrev pub ready : Text
 ready = codes "ready\n"
 
@@ -38,19 +38,19 @@ ready = codes "ready\n"
 abbrev pub Begins : Text → Text → Type 0
 Begins text front = (more : Text) × (text ≡ front ++ more)
 
--- Behind what the writer held before, it holds a front of what was said, and the rest is pending.
+-- Whether the stream holds a prefix of the output after what it held before, and the rest of the output is pending.
 pub record IsSaid (contents : Option Bytes) (before said pending : Text) : Type 0 where
   pub sent : Bytes
   pub held : contents ≡ Some (before ++ sent)
   pub splits : said ≡ sent ++ pending
 
--- Behind what the writer held before, it holds a front of what was said, and nothing more is written.
+-- Whether the stream holds a prefix of the output after what it held before, and nothing more is written.
 pub record IsCut (contents : Option Bytes) (before said : Text) : Type 0 where
   pub sent : Bytes
   pub held : contents ≡ Some (before ++ sent)
   pub front : Begins said sent
 
--- by whether the writes succeeded: a text is said, of which the rest is pending, or it is cut short
+-- by whether the writes succeeded: a text is written, of which the rest is pending, or it is cut short
 abbrev pub IsSaidOrCut : {T : Type 0} → Result T WriteFailed → Option Bytes → Bytes → Text → Text → Type 0
 IsSaidOrCut (Ok done) contents before said pending = IsSaid contents before said pending
 IsSaidOrCut (Err failed) contents before said pending = IsCut contents before said
@@ -59,7 +59,7 @@ IsSaidOrCut (Err failed) contents before said pending = IsCut contents before sa
 abbrev pub IsSameStream : {W : Type 0} → Writer W → Writer W → Type 0
 IsSameStream old new = new.stream.ghost_name ≡ old.stream.ghost_name
 
--- Nothing more is said between two states of a writer, but what was said may be written.
+-- Whether the output doesn't grow between two states of a writer; a pending part of it may be sent to the stream.
 abbrev pub SaysNothing : {T W : Type 0} → Result T WriteFailed → (W → Option Bytes) → Writer W → Writer W → Type 0
 SaysNothing result contents old new =
     IsSameStream old new
@@ -67,7 +67,7 @@ SaysNothing result contents old new =
     → IsSaid (contents old.stream.now) before said old.pending.items
     → IsSaidOrCut result (contents new.stream.now) before said new.pending.items)
 
--- This text is said, or cut short by a failed write.
+-- Whether exactly this text is written, or cut short by a failed write.
 abbrev pub SaysExactly : {T W : Type 0} → Result T WriteFailed → Text → (W → Option Bytes) → Writer W → Writer W → Type 0
 SaysExactly result text contents old new =
     IsSameStream old new
@@ -75,7 +75,7 @@ SaysExactly result text contents old new =
     → IsSaid (contents old.stream.now) before said old.pending.items
     → IsSaidOrCut result (contents new.stream.now) before (said ++ text) new.pending.items)
 
--- A text of this kind is said, or cut short by a failed write.
+-- Whether a text of this kind is written, or cut short by a failed write.
 abbrev pub Says : {T W : Type 0} → Result T WriteFailed → (Text → Type 0) → (W → Option Bytes) → Writer W → Writer W → Type 0
 Says result IsText contents old new =
     IsSameStream old new
@@ -87,12 +87,12 @@ Says result IsText contents old new =
 
 -- ---- what a call does with streams that tell their bytes
 
--- Behind what a stream held before, it holds a text of this kind.
+-- Whether a stream holds a text of this kind after what it held before.
 abbrev pub WritesText : (Text → Type 0) → Option Bytes → Option Bytes → Type 0
 WritesText IsText old new = (before : Bytes) → old ≡ Some before → (text : Text) × (new ≡ Some (before ++ text)) × IsText text
 
--- Of an input, of which these bytes were taken ahead, some is read and the rest is left; behind what a stream held before, it holds
--- a text.
+-- Whether some of an input, of which these bytes were taken ahead, is read and the rest is left, and a stream holds a text
+-- after what it held before.
 abbrev pub ReadsOnAndWrites : Bytes → (Bytes → Bytes → Text → Type 0) → Option Bytes → Option Bytes → Option Bytes → Option Bytes → Type 0
 ReadsOnAndWrites ahead Does input left old new =
     (unread before : Bytes)
@@ -104,6 +104,6 @@ ReadsOnAndWrites ahead Does input left old new =
     × (new ≡ Some (before ++ text))
     × Does read rest text
 
--- Of an input some is read and the rest is left; behind what a stream held before, it holds a text.
+-- Whether some of an input is read and the rest is left, and a stream holds a text after what it held before.
 abbrev pub ReadsAndWrites : (Bytes → Bytes → Text → Type 0) → Option Bytes → Option Bytes → Option Bytes → Option Bytes → Type 0
 ReadsAndWrites Does input left old new = ReadsOnAndWrites [] Does input left old new

@@ -13,7 +13,7 @@ abbrev pub in_front : ℕ → Option (Text × Text) → Option (Text × Text)
 in_front b None = None
 in_front b (Some parts) = Some (b ∷ parts.0, parts.1)
 
--- what stands before the first space, and what stands behind it
+-- the text before the first space, and the text after it
 abbrev pub cut : Text → Option (Text × Text)
 cut [] = None
 cut (b ∷ text) = if b == 32 then Some ([], text) else in_front b (cut text)
@@ -28,7 +28,7 @@ node_in word = do
 abbrev pub fitting : ℕ → Option ℕ
 fitting n = if nat_lt n (2 ^ 32) then Some n else None
 
--- a number with one decimal digit more; none behind a leading zero
+-- a number with one decimal digit more; none after a leading zero
 abbrev pub with_digit : ℕ → ℕ → Option ℕ
 with_digit n byte =
     if n == 0 then None

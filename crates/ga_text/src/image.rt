@@ -15,13 +15,13 @@ pub enum ImageEnd {
     EndLine,
     /// The input ended.
     Ended,
-    /// The input goes past its bound.
+    /// The input exceeds its limit.
     Past,
     /// A read failed.
     Failed,
 }
 
-/// Reads an image up to its first line `end`. Want of memory leaves nothing to go on with.
+/// Reads an image up to its first line `end`. If an allocation fails, the reading cannot be continued.
 pub fn read_image<R: Read>(
     input: &mut Input,
     reader: &mut R,

@@ -24,14 +24,14 @@ pub struct Input {
     taken: u32,
 }
 
-/// What a read of more comes to.
+/// The result of a read of more.
 #[derive(Clone, Copy, PartialEq, Eq)]
 pub enum Fill {
     /// There are bytes to take.
     More,
     /// The input ended.
     End,
-    /// The input goes on past its bound.
+    /// The input exceeds its limit.
     Past,
     /// The read failed.
     Failed,
@@ -101,7 +101,7 @@ impl Input {
         &self.block[self.start..self.end]
     }
 
-    /// Takes so many bytes and the line feed behind them.
+    /// Takes `count` bytes and the line feed after them.
     #[inline(always)]
     pub fn skip(&mut self, count: usize)
         requires within { count + 1 ≤ length self.old.bytes }
@@ -114,7 +114,7 @@ impl Input {
         self.taken += count as u32 + 1;
     }
 
-    /// Takes what was read, up to a line feed, and keeps it as far as a line goes. True where a line feed was taken.
+    /// Takes what was read, up to a line feed, and keeps at most 201 bytes of the line. Returns whether a line feed was taken.
     pub(crate) fn take_line(&mut self, line: &mut LineBuffer) -> bool
         ensures takes { (part : Bytes) × TakesPart self.old part self.new result
             × (line.new.items ≡ take 201 (line.old.items ++ part)) }
@@ -163,7 +163,7 @@ impl Input {
     }
 }
 
-/// Where the first line feed stands.
+/// The position of the first line feed.
 #[tactic(auto, using(crate::proofs::Taking::no_feed))]
 pub fn feed_at(bytes: &[u8]) -> Option<usize>
     ensures found { IfSome result (λ count. (count < length bytes.now)

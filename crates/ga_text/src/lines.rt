@@ -19,7 +19,7 @@ pub enum LineEnd {
     Feed,
     /// The input ended. The line may be empty: then there is none.
     Last,
-    /// The line goes past the bound of the input.
+    /// The line exceeds the limit of the input.
     Past,
     /// A read failed within the line.
     ReadFailed,
@@ -28,7 +28,7 @@ pub enum LineEnd {
 /// Reads the next line, without its line feed. What is pending is written before each read of more.
 ///
 /// # Errors
-/// What was said before could not be written.
+/// A write of pending output failed.
 pub fn read_line<R: Read, W: Write>(
     input: &mut Input,
     reader: &mut R,

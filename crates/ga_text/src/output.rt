@@ -1,4 +1,4 @@
-//! What is said to a stream, gathered before it is written.
+//! The output to a stream, buffered before it is written.
 ghost use Rattle.std.specs.Prelude.{◌≡◌, ◌++◌, ◌+◌, ◌≤◌, length, ℕ, List, [], OnOk};
 ghost use Rattle.ga_text.specs.Lines.{Bytes};
 ghost use Rattle.ga_text.specs.Output.{IsSaid, IsSaidOrCut, SaysExactly, SaysNothing, ready};
@@ -15,26 +15,26 @@ pub struct WriteFailed;
 /// What comes of saying something.
 pub type Spoken = Result<(), WriteFailed>;
 
-/// The bytes of a long text that are said at once.
+/// The bytes of a long text that are buffered at once.
 const BLOCK: usize = 4096;
 
 /// How many bytes are dropped at once.
 const CLEARED: usize = 1024;
 
-/// How many bytes can be said and not be written yet.
+/// The number of bytes of the buffer.
 pub const PENDING_ROOM: usize = 65536;
 
-/// A stream, with what was said to it and is not written yet.
+/// A stream, with the output to it that is not written yet.
 #[derive(Drop)]
 pub struct Writer<'w, W: Write> {
-    /// What was said and is not written yet.
+    /// The output that is not written yet.
     pub pending: ArrayVec<u8, PENDING_ROOM>,
-    /// The stream to which what was said is written.
+    /// The stream to which the output is written.
     pub stream: &'w mut W,
 }
 
 impl<'w, W: Write> Writer<'w, W> {
-    /// A writer to which nothing was said.
+    /// A writer without output.
     pub fn new(stream: &'w mut W) -> Self
         ensures same { result.stream.ghost_name ≡ stream.entry.ghost_name }
         ensures stream { result.stream.now ≡ stream.old }
@@ -46,7 +46,7 @@ impl<'w, W: Write> Writer<'w, W> {
         }
     }
 
-    /// A writer to which `ready` was said.
+    /// A writer with `ready` as its output.
     pub fn ready(stream: &'w mut W) -> Self
         ensures same { result.stream.ghost_name ≡ stream.entry.ghost_name }
         ensures stream { result.stream.now ≡ stream.old }
@@ -57,7 +57,7 @@ impl<'w, W: Write> Writer<'w, W> {
         Writer { pending, stream }
     }
 
-    /// Says a text. What is pending is written first, where there is no room for both.
+    /// Adds a text to the output. What is pending is written first, if there is no room for both.
     ///
     /// # Errors
     /// A write failed.
@@ -70,7 +70,7 @@ impl<'w, W: Write> Writer<'w, W> {
         Ok(())
     }
 
-    /// Says a text of any length, block by block.
+    /// Adds a text of any length to the output, block by block.
     ///
     /// # Errors
     /// A write failed.
@@ -86,7 +86,7 @@ impl<'w, W: Write> Writer<'w, W> {
         Ok(())
     }
 
-    /// Writes what is pending, where there is no room for so many bytes more.
+    /// Writes what is pending, if there is no room for `count` bytes more.
     ///
     /// # Errors
     /// A write failed.

@@ -8,12 +8,12 @@ use super::input::Input;
 use std::alloc::Global;
 use std::io::Read;
 
-/// What reading a whole input comes to.
+/// The result of reading a whole input.
 #[derive(Drop)]
 pub enum WholeRead {
     /// The text up to its first line `end`, or to the end of the input.
     Whole(Vec<u8>),
-    /// The input goes past its bound. The text is what is within it.
+    /// The input exceeds its limit. The text is what is within it.
     TooLong(Vec<u8>),
     /// A read failed.
     ReadFailed,
@@ -23,7 +23,7 @@ pub enum WholeRead {
 
 /// Reads an input up to its first line `end`, or to its end.
 pub fn read_whole<R: Read>(alloc: Global, reader: &mut R) -> WholeRead
-    // Where the reader tells its bytes: what was read of them, and what that came to.
+    // For a reader whose bytes contracts see: the bytes read of them, and the result for these.
     ensures { (left : Bytes) → R.remaining reader.old ≡ Some left →
         (read rest : Bytes) × (left ≡ read ++ rest) × (R.remaining reader.new ≡ Some rest) × ReadsWhole read rest result }
 {

@@ -7,7 +7,7 @@ ghost use Rattle.ga_text.specs.Parsing.{cut, node_in, number_in, with_digit};
 
 use ga_grid::{NodeId, decimal_digit};
 
-/// The text before the first space, and the text behind it.
+/// The text before the first space, and the text after it.
 #[tactic(auto, using(crate::proofs::Taking::at_space, crate::proofs::Taking::no_space))]
 pub fn cut(text: &[u8]) -> Option<(&[u8], &[u8])>
     ensures { option_map (λ parts. (parts.0.now, parts.1.now)) result ≡ cut text.now }

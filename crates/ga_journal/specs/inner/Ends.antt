@@ -1,4 +1,4 @@
--- The end of one history: the entry that an own event adds, and the one that is taken back.
+-- The end of one history: the entry that an own event adds, and the one that is undone.
 use Rattle.ga_event.specs.declared.event.Event.TheVariants as event
 use Rattle.ga_journal.specs.declared.entry.Act.TheVariants as act
 use Rattle.ga_event.specs.declared.made.Made.TheVariants as made
@@ -46,9 +46,9 @@ pub record IsGoneBack
   pub part : entry.act ≡ act
   pub node : now ≡ restored_at chip n entry.saved
 
--- ---- what is told of a new event, by the histories alone
+-- ---- a new event as made, by the histories alone
 
--- what is told of an event by the lengths of the histories
+-- an event as made with this outcome, with step numbers by the lengths of the histories
 abbrev pub made_over : List (List Past) → Event → Told → Option Made
 made_over hs (event.Own node) (Did kind) = Some (made.Own node (length (history hs node.number) + 1) kind)
 made_over hs (event.Pass w r side) (Carried word) =
@@ -56,7 +56,7 @@ made_over hs (event.Pass w r side) (Carried word) =
 made_over hs (event.Own node) (Carried word) = None
 made_over hs (event.Pass w r side) (Did kind) = None
 
--- the event was made on the chip and added to the histories, and this is told of it
+-- the event was made on the chip and added to the histories, and this is what was made
 pub record IsAdded
     (hs : List (List Past)) (chip : List NodeState) (stamp : ℕ) (e : Event) (told : Made) (gs : List (List Past)) (now : List NodeState)
     : Type 0 where

@@ -18,7 +18,7 @@ use Rattle.ga_journal.specs.Marks.{GoWithin, AreMatched}
 
 -- ---- histories cut to their first entries, and walking back over the log without taking anything out
 
--- each history cut to its first so many entries
+-- each history cut to its first entries, as many as its number in the list
 abbrev pub cut : List (List Past) → List ℕ → List (List Past)
 cut [] ns = []
 cut (h ∷ hs) [] = h ∷ cut hs []
@@ -28,7 +28,7 @@ cut (h ∷ hs) (n ∷ ns) = take n h ∷ cut hs ns
 abbrev pub IsCutWithin : List (List Past) → List ℕ → Type 0
 IsCutWithin hs lengths = (n : ℕ) → slice_index lengths n ≤ length (history hs n)
 
--- the cut of node n is one entry less, and the entry that is cut off tells this
+-- the cut of node n is one entry less, and the entry that is cut off has this head
 pub record IsShorter (hs : List (List Past)) (lengths : List ℕ) (n : ℕ) (fewer : List ℕ) (head : Head) : Type 0 where
   pub entry : Past
   pub stamp : entry.stamp ≡ head.stamp
@@ -55,7 +55,7 @@ pub record WalksBack (hs : List (List Past)) (lengths : List ℕ) (top : ℕ) (l
   pub fits : IsCutWithin hs lengths
   pub records : Records log (cut hs lengths) top
 
--- the event is the first of the log, with whether it looked and what is told of it
+-- the event is the first of the log, with whether it looked and its outcome
 abbrev pub IsFirst : List Stamped → Cause → Made → Type 0
 IsFirst [] cause told = ⊥
 IsFirst (x ∷ older) cause told =
@@ -66,9 +66,9 @@ abbrev pub IsWalked : List (List Past) → List ℕ → ℕ → List Stamped →
 IsWalked hs lengths top [] = ⊥
 IsWalked hs lengths top (x ∷ older) = WalksBack hs lengths top older
 
--- ---- where a telling of the kept events from the newest back stands
+-- ---- the state of a reading of the history from the newest event back
 
--- the first entries, so many of each node, are those of the events that are not told
+-- the first entries, as many of each node as `lengths` has, are those of the events that are not read yet
 pub record IsUntold (book : Book) (lengths : List ℕ) (top place : ℕ) : Type 0 where
   pub log : List Stamped
   pub records : Records log book.histories book.made
@@ -76,12 +76,12 @@ pub record IsUntold (book : Book) (lengths : List ℕ) (top place : ℕ) : Type 
   pub walks : WalksBack book.histories lengths top (drop (length log - place) log)
   pub size : length lengths ≡ 144
 
--- ---- what is told of the events of a log at places of their list, in which the oldest is at place 0
+-- ---- the events of a log, as made, at places of their list, in which the oldest is at place 0
 
 abbrev pub IsToldAt : List Stamped → ℕ → Made → Type 0
 IsToldAt log place told = (cause : Cause) × IsFirst (drop (length log - place - 1) log) cause told
 
--- each of the places has what is told of the event there
+-- each of these is the event at its place
 abbrev pub AreTold : List Stamped → List ℕ → List Made → Type 0
 AreTold log [] [] = Unit {0}
 AreTold log [] (told ∷ more) = ⊥
@@ -90,14 +90,14 @@ AreTold log (place ∷ places) (told ∷ more) = IsToldAt log place told × AreT
 
 -- ---- one past the newest look, as a history stores it
 
--- one past the position of the newest look among the first entries, as many as the mark says, or 0 where none is a look
+-- one past the position of the newest look among the first `mark` entries, or 0 if none is a look
 abbrev pub IsPastNewest : List Past → ℕ → ℕ → Type 0
 IsPastNewest entries mark zero = HasNoLook entries mark
 IsPastNewest entries mark (suc at) = IsNewestLook entries mark at
 
--- ---- where the nodes that wait stand
+-- ---- the range of the pending nodes
 
--- each flag that is set stands from the first place on and below the end
+-- each set flag is from the first place on and below the end
 pub record IsWindow (flags : List Bool) (first past : ℕ) : Type 0 where
   pub size : length flags ≡ 144
   pub fits : past ≤ 144
@@ -106,8 +106,8 @@ pub record IsWindow (flags : List Bool) (first past : ℕ) : Type 0 where
 
 -- ---- the newest event taken out, by the histories alone
 
--- the event is the newest of whatever log the histories are of, it was taken back on the chip, and the histories left
--- are those of the others
+-- the event is the newest of whatever log the histories are of, it was undone on the chip, and the remaining histories are
+-- those of the others
 pub record IsTakenOut
     (hs : List (List Past)) (chip : List NodeState) (e : Event) (left : List (List Past)) (now : List NodeState)
     : Type 0 where
@@ -174,7 +174,7 @@ pub record IsTopmost (hs : List (List Past)) (n : ℕ) : Type 0 where
 
 -- ---- what each journal keeps at every moment, in a rollback too
 
--- There is a history for each node, its stamps rise below the top, and so many events have an entry left.
+-- There is a history for each node, its stamps rise below the top, and `kept` events have an entry left.
 pub record Keeps (histories : List Held) (top made kept limit : ℕ) : Type 0 where
   pub size : length histories ≡ 144
   pub rise : AllRise (lists_of histories) top
@@ -183,7 +183,7 @@ pub record Keeps (histories : List Held) (top made kept limit : ℕ) : Type 0 wh
   pub within : kept ≤ limit
   pub fits : limit < 2 ^ 32
 
--- What `Keeps` says holds; no more entries are to go than there are, and the entries of passes name each other.
+-- `Keeps` holds; no more entries are to be removed than there are, and the entries of passes name each other.
 pub record IsJournal
     (histories : List Held) (top made kept limit : ℕ) (going : List ℕ) (waiting : List Bool)
     : Type 0 where

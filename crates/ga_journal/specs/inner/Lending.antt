@@ -5,6 +5,6 @@ use Rattle.ga_journal.specs.inner.Histories.{Held, with_held}
 use Rattle.ga_journal.specs.contracts.history.History.{the_row as history_row}
 use Rattle.ga_journal.specs.contracts.histories.Histories.{the_row}
 
--- the histories end with the last value behind the reference at this number
+-- whether the histories end with the reference's last value as the history of this number
 abbrev pub LendsHistory : MutBor (List Held) → ℕ → MutBor Held → Fml
 LendsHistory histories n history = Lends the_row history_row histories history (with_held histories.now n)

@@ -9,9 +9,9 @@ use Rattle.ga_journal.specs.Histories.{Past, Book, history}
 use Rattle.std.specs.List.{sum_by, count_by}
 use Rattle.ga_journal.specs.Marks.{partner_of}
 
--- ---- what the entries of a node tell by themselves
+-- ---- the events of a node's entries, read from these alone
 
--- an entry at a place of a node's history, as it is told
+-- an entry at a place of a node's history, as the event that was made
 abbrev pub entry_made : NodeId → ℕ → Act → Made
 entry_made node i (Own deed) = made.Own node (i + 1) deed.kind
 entry_made node i (Sent to side at word) = made.Pass node (i + 1) to (at + 1) word

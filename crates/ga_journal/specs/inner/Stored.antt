@@ -1,4 +1,4 @@
--- How a history is stored: entries, the passes among them in a list of their own, and where the newest look stands.
+-- How a history is stored: entries, the passes among them in a list of their own, and the position of the newest look.
 use Rattle.std.specs.Prelude.{◌≡◌, ℕ, ◌+◌, ◌<◌, true, false, nat_lt, if◌then◌else◌, List, [], ◌∷◌, ◌++◌, length, map, slice_index_or, Vec, vec_len, vec_capacity}
 use Rattle.std.specs.Global.{Global}
 use Rattle.ga_ports.specs.declared.side.Side.TheVariants.{Right}
@@ -29,7 +29,7 @@ own_part deed = if deed.look then Look deed.kind else Own deed.kind
 abbrev pub no_pass : Pass
 no_pass = record { partner = node_id 0; side = Right; at = 0; looked = 0; word = 0 }
 
--- a node's part in an event, where a pass stands at a place of a list
+-- a node's part in an event; if it is an end of a pass, the pass is at this place of a list
 abbrev pub act_in : List Pass → Part → ℕ → Act
 act_in passes (Own kind) place = act.Own (deed kind false)
 act_in passes (Look kind) place = act.Own (deed kind true)

@@ -33,7 +33,7 @@ impl Bounds for Histories {
     }
 }
 
-/// The first so many entries of each history.
+/// The first entries of each history, as many as `lengths` has for it.
 #[derive(Clone, Copy)]
 pub(super) struct Firsts<'a> {
     pub histories: &'a Histories,

@@ -1,4 +1,4 @@
-//! Walking back over the kept events, from the newest on, without taking anything out.
+//! Walks back over the history, from the newest event on, without removing anything.
 
 ghost use Rattle.std.specs.Prelude.{◌≡◌, ◌++◌, ◌∷◌, [], false, OnOk, IfErr};
 
@@ -13,10 +13,10 @@ use ga_ports::Side;
 use ga_word::Word18;
 use std::alloc::Global;
 
-// For so many causes room is made at first, so that a short walk makes one growth.
+// The number of causes for which memory is reserved at first, so that a short walk allocates once.
 const FIRST_ROOM: usize = 64;
 
-/// A node's own event, with what is told of it.
+/// A node's own event, as a cause and as made.
 #[inline(always)]
 fn own(node: NodeId, step: u32, deed: Deed) -> (Cause, Made)
     ensures { result ≡ (record { event = Event.Own node; look = deed.look }, Made.Own node step deed.kind) }
@@ -26,7 +26,7 @@ fn own(node: NodeId, step: u32, deed: Deed) -> (Cause, Made)
     (Cause { event, look }, Made::Own { node, step, kind })
 }
 
-/// A pass, which looks at nothing, with what is told of it.
+/// A pass, which looks at nothing, as a cause and as made.
 #[inline(always)]
 pub(super) fn passed(
     ends: (NodeId, NodeId),
@@ -79,7 +79,7 @@ impl Histories {
         lengths
     }
 
-    /// What the last of a node's first entries tells. The first entries of the node are one fewer from now on.
+    /// Returns the head of the last of a node's first entries, and makes them one fewer.
     #[inline(always)]
     fn back_at(&self, lengths: &mut [u32; 144], node: NodeId) -> Head
         requires fits { IsCutWithin (lists_of self.now) lengths.old }
@@ -93,7 +93,7 @@ impl Histories {
         history.head(len as usize)
     }
 
-    /// Walks back over the newest event so far, and tells of it.
+    /// Walks back over the newest event so far, and returns it.
     pub(crate) fn back(
         &self,
         lengths: &mut [u32; 144],
@@ -139,7 +139,7 @@ impl Histories {
         }
     }
 
-    /// Walks back over so many events, and tells of the last of them.
+    /// Walks back over `count` events, and returns the last of them.
     fn back_over(
         &self,
         lengths: &mut [u32; 144],
@@ -164,7 +164,7 @@ impl Histories {
         self.back(lengths, top, hint)
     }
 
-    /// The event so many from the newest one on, counted from 1, with what is told of it.
+    /// The event number `back_by` from the newest one on, counted from 1.
     pub(crate) fn recall(&self, top: u64, hint: NodeId, back_by: u32) -> (Cause, Made)
         requires fits { (n : ℕ) → length (history (lists_of self.now) n) < 2 ^ 32 }
         requires some { 0 < back_by }
@@ -180,7 +180,7 @@ impl Histories {
         self.back_over(&mut lengths, &mut top, &mut hint, back_by)
     }
 
-    /// What is told of the events at these places of a log of this length, the oldest at place 0, in one walk back.
+    /// The events at these places of a log of this length, the oldest at place 0, in one walk back.
     pub(crate) fn recall_all(
         &self,
         top: u64,
@@ -244,7 +244,7 @@ impl Histories {
         Ok(list)
     }
 
-    /// Walks back over a log of this length, down to a step that stands, and tells what it passed.
+    /// Walks back over a log of this length, down to a step that exists, and returns the events that it passed.
     pub(crate) fn walk_down(
         &self,
         top: u64,

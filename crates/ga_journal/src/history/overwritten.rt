@@ -6,7 +6,7 @@ ghost use Rattle.ga_journal.specs.Walked.{held_before, among};
 use super::History;
 use ga_node::{Place, Saved};
 
-/// The old value of a place, where this is the place that is asked for.
+/// The old value of a place, if this is the wanted place `what`.
 fn over(what: Place, place: Place, old: u32) -> Option<u32>
     ensures { result ≡ held_before what place old None }
 {
@@ -20,7 +20,7 @@ fn over(what: Place, place: Place, old: u32) -> Option<u32>
     }
 }
 
-/// The old value of the place that is asked for, among the old values of an entry.
+/// The old value of the wanted place among the old values of an entry.
 fn among(what: Place, saved: &Saved) -> Option<u32>
     ensures { result ≡ among what saved.now }
 {

@@ -3,7 +3,7 @@
 use super::History;
 use ga_node::{Gathered, Node};
 
-/// From so many entries on a walk back takes less where it gathers their values first.
+/// The number of entries from which on a walk back is faster if it gathers their values first.
 const FAR: usize = 512;
 
 impl History {

@@ -1,18 +1,18 @@
-//! The kept events, told one by one from the newest back.
+//! The events of the history, read one by one from the newest back.
 
 use super::Journal;
 use ga_event::Made;
 use ga_grid::NodeId;
 use std::marker::Model;
 
-/// The kept events of a journal, to be told one by one from the newest back. A contract sees the journal, and how many of its kept
-/// events are not told yet.
+/// A reader of a journal's history, one event at a time from the newest back. A contract sees the journal, and how many of the
+/// events are not read yet.
 #[derive(Drop)]
 pub struct BackwardEvents<'j> {
     journal: &'j Journal,
-    // How many of the first entries of each node are not told.
+    // How many of the first entries of each node are not read yet.
     lengths: [u32; 144],
-    // A number above the stamps of the entries that are not told.
+    // A number above the stamps of the entries that are not read yet.
     top: u64,
     hint: NodeId,
     place: u32,
@@ -35,7 +35,7 @@ impl<'j> BackwardEvents<'j> {
     ghost use Rattle.ga_journal.specs.Events.{kept_of, events_of};
     ghost use Rattle.ga_journal.specs.Histories.{untold};
 
-    /// How many kept events are not told yet: the place of the one that was told last.
+    /// The number of events that are not read yet: the place of the one that was read last.
     pub fn place(&self) -> u32
         ensures value { result ≡ self.now.place }
         ensures within { result ≤ length (kept_of self.now.book) }
@@ -43,14 +43,14 @@ impl<'j> BackwardEvents<'j> {
         self.place
     }
 
-    /// How many steps of a node are not told yet.
+    /// The number of steps of a node that are not read yet.
     pub fn steps(&self, node: NodeId) -> u32
         ensures { result ≡ steps_of node.number (take self.now.place (events_of self.now.book)) }
     {
         self.lengths[node.index()]
     }
 
-    /// What is told of the newest event that is not told yet, which is told from then on; none where none is left.
+    /// Reads the newest event that is not read yet, and returns it as made; none if all are read.
     pub fn back(&mut self) -> Option<Made>
         ensures some { IfSome result (λ made. made_in (kept_of self.old.book) (self.old.place - 1) ≡ Some made) }
         ensures none { IsNone result ↔ (self.old.place ≡ 0) }
@@ -74,7 +74,7 @@ impl Journal {
     ghost use Rattle.ga_journal.specs.Logs.{IsWhole};
     ghost use Rattle.ga_journal.specs.Histories.{untold};
 
-    /// The kept events, none of which is told yet.
+    /// A reader of the history, which has read no event yet.
     pub(crate) fn backward(&self) -> BackwardEvents<'_>
         requires { IsWhole self.now.histories self.now.made }
         ensures { result ≡ untold self.now (length (kept_of self.now)) }

@@ -1,4 +1,4 @@
-//! What a journal tells of the kept events. No tick counts the entries that are read for it.
+//! The calls that read the events of the history. No tick counts the entries that they read.
 
 use super::Journal;
 use crate::fault::JournalFault;
@@ -19,7 +19,7 @@ impl Journal {
     ghost use Rattle.ga_event.specs.Told.{steps_of, mades_of, made_in};
     ghost use Rattle.ga_journal.specs.Logs.{IsWhole, IsSince};
 
-    /// What is told of the kept events that touch a node, in order.
+    /// The events of the history that touch a node, in order, each with its step numbers and outcome.
     ///
     /// # Errors
     /// `Memory` alone.
@@ -31,7 +31,7 @@ impl Journal {
         self.histories.mades(node)
     }
 
-    /// What is told of the event at a place of those that touch a node, from 0 on; none past their end.
+    /// The event at a place of those that touch a node, from 0 on; none past their end.
     pub(crate) fn told(&self, node: NodeId, place: u32) -> Option<Made>
         requires { IsWhole self.now.histories self.now.made }
         ensures { result ≡ slice_get (mades_of (kept_of self.now) node.number) place }
@@ -59,7 +59,7 @@ impl Journal {
         history.walk_back(now, from as usize, to as usize);
     }
 
-    // The kept event at a place of their list, from 0 on, and what is told of it; none past its end.
+    // The event at a place of the history, from 0 on, as a cause and as made; none past the end.
     #[inline]
     fn recalled(&self, place: u32) -> Option<(Cause, Made)>
         requires { IsWhole self.now.histories self.now.made }
@@ -85,8 +85,8 @@ impl Journal {
         Some(cause.event)
     }
 
-    /// What is told of the kept event at a place of their list, from 0 on; none past its end. It walks back from the
-    /// newest.
+    /// The event at a place of the history, from 0 on, with its step numbers and outcome; none past the end. Walks back from
+    /// the newest.
     pub(crate) fn made_at(&self, place: u32) -> Option<Made>
         requires { IsWhole self.now.histories self.now.made }
         ensures value { result ≡ made_in (kept_of self.now) place }
@@ -96,8 +96,8 @@ impl Journal {
         Some(made)
     }
 
-    /// What is told of the kept events at these places of their list, each above the one before. It walks back once, from the
-    /// newest to the first of them, and takes memory for what it tells alone.
+    /// The events at these places of the history, each above the one before, with their step numbers and outcomes. Walks back
+    /// once, from the newest to the first of them, and takes memory only for the returned list.
     ///
     /// # Errors
     /// `Memory` alone.
@@ -112,7 +112,7 @@ impl Journal {
             .recall_all(self.top, self.hint, self.kept, places)
     }
 
-    /// The kept events in order, each with whether it looked.
+    /// The events of the history in order, each with whether it looked.
     ///
     /// # Errors
     /// `Memory` alone.
@@ -124,8 +124,8 @@ impl Journal {
         self.histories.all_causes(self.top, self.hint, self.kept)
     }
 
-    /// The kept events from a node's step on, and what stands before them. It walks back from the newest down to the step, and
-    /// takes memory for what it passes alone.
+    /// The events of the history from a node's step on, and the number of those before them. Walks back from the newest down to
+    /// the step, and takes memory only for the events that it passes.
     ///
     /// # Errors
     /// `Memory` alone.

@@ -1,4 +1,4 @@
-//! What a rollback asks of a journal: marks, the nodes that wait, and entries taken back, each in one tick.
+//! The calls that a rollback makes: marks, the pending nodes, and undone entries, each in one tick.
 
 use super::Journal;
 use crate::ticks::Ticks;
@@ -92,8 +92,8 @@ impl Journal {
         self.waiting.add(node);
     }
 
-    /// Raises a node's mark by one: the first of its entries that were to go is to stay again. It says whether an event is
-    /// counted by that entry, as an own event is, and a pass by its writer's. One tick.
+    /// Raises a node's mark by one: the first of its entries to be removed is to stay again. Returns whether that entry counts
+    /// an event, as an own event's entry does, and of a pass the writer's. One tick.
     pub fn raise(&mut self, node: NodeId) -> bool
         requires going { mark_of self.old node.number < length (history self.old.histories node.number) }
         requires fits { self.old.ticks.count + 1 < 2 ^ 64 }

@@ -4,7 +4,7 @@ use Rattle.ga_journal.specs.inner.Histories.{lists_of, WalksBack, AreTold}
 use Rattle.ga_journal.specs.Logs.{Stamped, Records}
 use Rattle.ga_journal.proofs.histories.Histories.recall_all.Given as goal
 
--- so many events are left, and of the places above them it is told
+-- `left` events are not walked back yet, and the events at the places above them are in the list
 abbrev pub invariant-loop-at : goal.invariant-loop-at
 invariant-loop-at l =
     ((log : List Stamped) → l.kept ≡ length log → Records log (lists_of l.self) l.fn.top →

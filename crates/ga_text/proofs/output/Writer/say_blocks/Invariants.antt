@@ -2,7 +2,7 @@ use Rattle.std.proofs.Common.{ℕ, ◌≡◌, List, ◌++◌, length}
 use Rattle.ga_text.specs.Output.{IsSaid}
 use Rattle.ga_text.proofs.output.Writer.say_blocks.Given as goal
 
--- what was said so far is a front of the text
+-- what was written so far is a prefix of the text
 abbrev pub invariant-pieces : goal.invariant-pieces
 invariant-pieces g l = (l.self.stream.ghost_name ≡ l.fn.self.stream.ghost_name)
     × ((before said : List ℕ) → IsSaid (g.W.Write.contents l.fn.self.stream.now) before said l.fn.self.pending.items
