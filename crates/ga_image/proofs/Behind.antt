@@ -1,4 +1,4 @@
--- The state behind one line more.
+-- The state after one line more.
 use Rattle.std.specs.Bool.{Decides}
 use Rattle.std.specs.Prelude.{nat_lt, nat_eq, ◌==◌, ◌-◌}
 use Rattle.std.specs.List.{AllByRecursion}
@@ -169,7 +169,7 @@ numbered : (field : Field) (ws : List (Field × ℕ)) → HasCell field → AllB
 numbered field [] cell cells = (λ e. cc, λ none. absurd none)
 numbered field (w ∷ ws) cell cells = Decides-or _ _ (is_numbered w.0 field cells.0 cell) (numbered field ws cell cells.1)
 
--- ---- the state behind a line without fault
+-- ---- the state after a line without fault
 
 not_ended : (st : Stage) (f : Form) (before : List (List ℕ)) → st ≢ stage.Header → StandsAt st before → is_misplaced st (Some f) ≡ false → ¬ OneOf IsEnd before
 not_ended stage.Header f before behind stands placed = absurd (behind refl)
@@ -177,7 +177,7 @@ not_ended stage.Open f before behind stands placed = stands.1
 not_ended (stage.Block node) f before behind stands placed = stands.1
 not_ended stage.Ended f before behind stands placed = cc
 
--- blocks stay what they are behind a line that begins none
+-- the blocks are unchanged after a line that begins none
 blocks_kept : (progress : Progress) (before : List (List ℕ)) (line : List ℕ) → IsAfter progress before → ((yxx : ℕ) → ¬ BeginsBlockOf yxx line)
     → (yxx n : ℕ) → node_of yxx ≡ Some n → Decides (get_or progress.blocks n false) (OneOf (BeginsBlockOf yxx) (before ++ line ∷ []))
 blocks_kept progress before line after other yxx n is =
@@ -349,7 +349,7 @@ header_line stage.Open progress line is none = cc
 header_line (stage.Block node) progress line is none = cc
 header_line stage.Ended progress line is none = cc
 
--- a line without fault leads to the state behind it
+-- a line without fault leads to the state after it
 pub after_one : (progress : Progress) (before : List (List ℕ)) (line : List ℕ) → IsAfter progress before → fault_of progress line ≡ None → IsAfter (after_line progress line) (before ++ line ∷ [])
 after_one progress before line after none =
     let Q : Progress → Type 0 = λ p. IsAfter p (before ++ line ∷ []) in

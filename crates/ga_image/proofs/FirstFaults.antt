@@ -173,7 +173,7 @@ either_refused : (found : Option ImageCause) (number : ℕ) (others : Result (Li
 either_refused None number others fault e = inr (refl, e)
 either_refused (Some c) number others fault e = let same : record { line = number; cause = c } ≡ fault = cc in inl (c, refl, same)
 
--- a fault that reading finds behind these lines is the first of the whole text
+-- a fault that reading finds after these lines is the first of the whole text
 found_behind : (lines : List (List ℕ)) (progress : Progress) (before : List (List ℕ)) (fault : ImageFault) → IsAfter progress before → AreFaultless [] before
     → reading progress (length before + 1) lines ≡ Err fault → IsFirstFault (before ++ lines) fault
 unfolding reading

@@ -138,7 +138,7 @@ yxx_of_node y n e =
     let low : n % 18 ≡ y % 100 = omega arith in
     (omega arith, omega arith)
 
--- behind the header and before the end
+-- after the header and before the end
 abbrev pub IsOpened : Progress → Type 0
 IsOpened progress = (progress.stage ≡ stage.Open) ⊎ ((node : ℕ) × (progress.stage ≡ stage.Block node))
 
@@ -159,7 +159,7 @@ cut : (progress : Progress) (line : ℕ) (chip : List NodeState) → IsOpened pr
 cut progress line chip (inl is) e = let never : at_end stage.Open progress.chip line ≡ Ok chip = subst (λ (s : Stage). at_end s progress.chip line ≡ Ok chip) is e in cc
 cut progress line chip (inr (node, is)) e = let never : at_end (stage.Block node) progress.chip line ≡ Ok chip = subst (λ (s : Stage). at_end s progress.chip line ≡ Ok chip) is e in cc
 
--- nothing stands behind the end
+-- nothing comes after the end
 last : (forms : List Form) (progress : Progress) (line : ℕ) (chip : List NodeState) → reads (record progress { stage = stage.Ended }) line forms ≡ Ok chip → (forms ≡ []) × (chip ≡ progress.chip)
 last [] progress line chip e = let same : chip ≡ progress.chip = cc in (refl, same)
 last (f ∷ forms) progress line chip e = cc
@@ -179,7 +179,7 @@ pub held-append : (held : Held) (xs ys : List (Field × ℕ)) → held_after hel
 held-append held [] ys = refl
 held-append held (x ∷ xs) ys = held-append (with_held held x) xs ys
 
--- a block that ends without fault can stand
+-- a block that ends without fault is consistent
 ended_steady : (st : Stage) (held : Held) (node : ℕ) → ends_unsteady st held (Some End) ≡ false → st ≡ stage.Block node → is_unsteady held ≡ false
 ended_steady st held node e is = ap (λ s. ends_unsteady s held (Some End)) (sym is) ∙ e
 
@@ -308,9 +308,9 @@ image_found (text ∷ lines) chip e =
           ∙ ap (λ c. loaded c rest.blocks) ready.2;
     }
 
--- ---- what a reading says of the grammar
+-- ---- what a reading implies for the grammar
 
--- a call that meets no want of memory
+-- a call in which no allocation fails
 pub gives_by : (result read : Result (List NodeState) ImageFault) → result ≡ read → Gives result read
 gives_by (Ok chip) read same = sym same
 gives_by (Err fault) read same = inr (sym same)

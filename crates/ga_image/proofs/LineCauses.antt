@@ -42,7 +42,7 @@ has_cell (Return k) count some fits = grind (arith, nat_tests)
 has_cell (Ram cell) count some fits = grind (arith, nat_tests)
 has_cell (Rom cell) count some fits = grind (arith, nat_tests)
 
--- and the others fit behind it
+-- and the others fit after it
 pub next_fits : (field : Field) (count less : ℕ) → count ≡ less + 1 → goes_past field count ≡ false → goes_past (next_field field) less ≡ false
 next_fits A count less e fits = refl
 next_fits B count less e fits = refl
@@ -88,7 +88,7 @@ next_greatest (Return k) = return_greatest (k + 1) ∙ sym (return_greatest k)
 next_greatest (Ram cell) = refl
 next_greatest (Rom cell) = refl
 
--- the words from index i on are the word there and those behind it
+-- the words from index i on are the word there and those after it
 pub one_write : (field : Field) (words : List ℕ) (i : ℕ) → i < length words → writes field (drop i words) ≡ (field, get_or words i 0) ∷ writes (next_field field) (drop (i + 1) words)
 one_write field words i within = ap (writes field) (drop_more words i 0 within)
 

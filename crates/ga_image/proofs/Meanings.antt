@@ -23,14 +23,14 @@ use Rattle.ga_image.specs.declared.field.Format.TheVariants.{One, Two}
 use Rattle.ga_image.specs.Reading as stage
 use Rattle.ga_text.proofs.Taking.{node_of_yxx}
 
--- ---- flags against lists in which nothing stands twice
+-- ---- flags against lists without repetition
 
 -- neither of two tests holds
 pub or_false : (x y : Bool) → (x || y) ≡ false → (x ≡ false) × (y ≡ false)
 or_false true y e = cc
 or_false false y e = (refl, e)
 
--- a number is flagged, or stands there twice
+-- a number is flagged, or is in the list twice
 abbrev pub seen_twice : List Bool → List ℕ → Bool
 seen_twice flags [] = false
 seen_twice flags (n ∷ ns) = get_or flags n false || seen_twice (set flags n true) ns
@@ -49,14 +49,14 @@ still_free flags n (m ∷ ns) free other =
     let apart : m ≢ n = λ e. eqb-false n m other.0 (sym e) in
     (get_or-set_other flags n m true false apart ∙ free.0, still_free flags n ns free.1 other.1)
 
--- numbers that stand once and are not flagged
+-- numbers that are in the list once and are not flagged
 pub apart_once : (flags : List Bool) (ns : List ℕ) → AreBelow (length flags) ns → AreFree flags ns → IsDistinct nat_eq ns → seen_twice flags ns ≡ false
 apart_once flags [] below free apart = refl
 apart_once flags (n ∷ ns) below free apart =
     let kept : AreBelow (length (set flags n true)) ns = rw (length-set flags n true) below.1 in
     rw free.0 (apart_once (set flags n true) ns kept (still_free flags n ns free.1 (IsDistinct-head nat_eq n ns apart)) (IsDistinct-tail nat_eq n ns apart))
 
--- what is free behind a flag that was set is another number, and was free
+-- what is not flagged after a flag was set is another number, and was not flagged before
 freed : (flags : List Bool) (n : ℕ) (ns : List ℕ) → n < length flags → AreFree (set flags n true) ns → AreFree flags ns × AllByRecursion (λ m. nat_eq n m ≡ false) ns
 freed flags n [] below free = (tt, tt)
 freed flags n (m ∷ ns) below free =
@@ -106,13 +106,13 @@ begun : (progress : Progress) (node : Option ℕ) → progress.stage ≢ Header 
 begun progress None later = later
 begun progress (Some node) later = λ e. cc
 
--- behind the header no line leads back to it
+-- after the header no line leads back to it
 pub still_later : (progress : Progress) (f : Form) → progress.stage ≢ Header → (after_form progress (Some f)).stage ≢ Header
 still_later progress (Node yxx) later = begun progress (node_of yxx) later
 still_later progress (Words field words) later = rw (stage_kept progress (writes field words)) later
 still_later progress End later = λ e. cc
 
--- behind the header a line is read by its form
+-- after the header a line is read by its form
 pub line_later : (stage : Stage) (progress : Progress) (text : List ℕ) → stage ≢ Header → line_fault stage progress text ≡ later_fault progress (form_in progress.format text)
 line_later Header progress text later = absurd (later refl)
 line_later Open progress text later = refl
@@ -126,7 +126,7 @@ past_later Open progress text later = refl
 past_later (stage.Block node) progress text later = refl
 past_later Ended progress text later = refl
 
--- a line no longer than 200 bytes, behind the first
+-- a line no longer than 200 bytes
 pub short_fault : (progress : Progress) (text : List ℕ) → length text ≤ 200 → fault_of progress text ≡ line_fault progress.stage progress text
 unfolding fault_of
 short_fault progress text small = let no : nat_lt 200 (length text) ≡ false = grind (arith, nat_tests) in rw no refl
@@ -136,7 +136,7 @@ pub short_past : (progress : Progress) (text : List ℕ) → after_line progress
 unfolding after_line
 short_past progress text = refl
 
--- behind the header the format stays
+-- after the header the format is unchanged
 words_format : (progress : Progress) (ws : List (Field × ℕ)) → (with_writes progress ws).format ≡ progress.format
 words_format progress [] = refl
 words_format progress (w ∷ ws) = words_format (with_write progress w) ws
@@ -265,12 +265,12 @@ pub fields_below : (field_lines : List (Field × List ℕ)) → AllByRecursion I
 fields_below [] each = tt
 fields_below (field_line ∷ field_lines) each = below-append (writes field_line.0 field_line.1) (all_writes field_lines) (field_below field_line.0 field_line.1 each.0.0) (fields_below field_lines each.1)
 
--- what words come to that are written one after the other
+-- the state after words that are written one after the other
 pub all_written : (progress : Progress) (ws : List (Field × ℕ)) → with_writes progress ws ≡ record progress { given = marked progress.given ws; held = held_after progress.held ws; chip = chip_with_words (node_of_stage progress.stage) progress.chip ws }
 all_written progress [] = refl
 all_written progress (w ∷ ws) = all_written (with_write progress w) ws
 
--- a block or the end may come, and the block before can stand
+-- a block or the end may come, and the block before is consistent
 abbrev pub IsReady : Progress → Type 0
 IsReady progress = (progress.stage ≡ stage.Open) ⊎ ((node : ℕ) × (progress.stage ≡ stage.Block node) × (is_unsteady progress.held ≡ false))
 
@@ -308,7 +308,7 @@ pub nodes_below : (blocks : List Block) → AllByRecursion IsBlock blocks → Ar
 nodes_below [] each = tt
 nodes_below (block ∷ blocks) each = (each.0.node, nodes_below blocks each.1)
 
--- behind the header
+-- the state after the header
 abbrev pub opened : Format → Progress
 opened format = record start { format = format; stage = stage.Open }
 
@@ -317,7 +317,7 @@ unfolding reading fault_of after_line start
 header_passes One lines = refl
 header_passes Two lines = refl
 
--- what stands there
+-- the fields of that state
 pub opened_ready : (format : Format) → ((opened format).stage ≡ stage.Open) × (length (opened format).blocks ≡ 144) × ((opened format).chip ≡ default_chip) × ((opened format).blocks ≡ replicate 144 false)
 unfolding start
 opened_ready format = (refl, refl, refl, refl)

@@ -1,4 +1,4 @@
--- Texts that grow piece by piece, and what the lines that are printed spell.
+-- Texts that grow piece by piece, and the forms that the printed lines parse as.
 use Rattle.std.specs.Prelude.{◌==◌, codes, nat_lt, slice_index, ◌-◌, not}
 use Rattle.std.specs.List.{list_all, AllByRecursion}
 use Rattle.std.proofs.Common.{◌≡◌, ◌≢◌, ℕ, zero, suc, ◌+◌, ◌*◌, ◌^◌, ◌<◌, ◌≤◌, true, false, List, [], ◌∷◌, ◌++◌, length, map, flat_map, take, drop, get_or, refl, sym, ◌∙◌, ap, arith, append_assoc, below_more, length-append, ◌/◌, ◌%◌, Bool, cond, ◌&&◌, Some, None, lit<}
@@ -25,7 +25,7 @@ use Rattle.ga_text.specs.Lines.{lines_of, with_byte}
 use Rattle.ga_text.proofs.Numbers.{digit_spelled, past_byte}
 use Rattle.ga_image.proofs.Spelled.{AreSix}
 
--- one piece behind another
+-- one piece after another
 pub grown : (old mid new a b : List ℕ) → mid ≡ old ++ a → new ≡ mid ++ b → new ≡ old ++ (a ++ b)
 grown old mid new a b p q = q ∙ ap (λ xs. xs ++ b) p ∙ append_assoc old a b
 
@@ -48,7 +48,7 @@ words_push (first ∷ words) word small last = (small.0, words_push words word s
 pub fields_append : (xs ys : List (Field × List ℕ)) → fields_text (xs ++ ys) ≡ fields_text xs ++ fields_text ys
 fields_append xs ys = ap lines_text (map-append (λ line. field_text line.0 line.1) xs ys) ∙ flat_map-append (λ line. line ++ 10 ∷ []) (map (λ line. field_text line.0 line.1) xs) (map (λ line. field_text line.0 line.1) ys)
 
--- some lines behind others
+-- some lines after others
 pub lines_grown : (old mid new : List ℕ) (xs ys : List (Field × List ℕ)) → mid ≡ old ++ fields_text xs → new ≡ mid ++ fields_text ys → new ≡ old ++ fields_text (xs ++ ys)
 lines_grown old mid new xs ys p q = grown old mid new (fields_text xs) (fields_text ys) p q ∙ ap (λ zs. old ++ zs) (sym (fields_append xs ys))
 
@@ -136,7 +136,7 @@ blocks_append xs ys =
     ∙ ap lines_text (map-append line_text (flat_map block_forms xs) (flat_map block_forms ys))
     ∙ flat_map-append (λ line. line ++ 10 ∷ []) (map line_text (flat_map block_forms xs)) (map line_text (flat_map block_forms ys))
 
--- the blocks of the nodes from a number on are the block of that node and those behind it
+-- the blocks of the nodes from a number on are the block of that node and those after it
 pub blocks_more : (nodes : List NodeRecord) (i : ℕ) (d : NodeRecord) → i < length nodes
     → blocks_text (blocks_from i (drop i nodes)) ≡ blocks_text (block_unless i (lines_at i (get_or nodes i d))) ++ blocks_text (blocks_from (i + 1) (drop (i + 1) nodes))
 unfolding blocks_from
@@ -144,7 +144,7 @@ blocks_more nodes i d within =
     ap (λ left. blocks_text (blocks_from i left)) (drop_more nodes i d within)
     ∙ blocks_append (block_unless i (lines_at i (get_or nodes i d))) (blocks_from (i + 1) (drop (i + 1) nodes))
 
--- behind the last node there are none
+-- after the last node there are none
 pub blocks_end : (nodes : List NodeRecord) (i : ℕ) → length nodes ≤ i → blocks_text (blocks_from i (drop i nodes)) ≡ []
 unfolding blocks_from
 blocks_end nodes i past = ap (λ left. blocks_text (blocks_from i left)) (drop_all i nodes past)
@@ -157,7 +157,7 @@ whole nodes =
     ap (λ texts. codes "ga144 2\n" ++ lines_text texts) (map-append line_text forms (End ∷ []))
     ∙ ap (λ text. codes "ga144 2\n" ++ text) (flat_map-append (λ line. line ++ 10 ∷ []) (map line_text forms) (codes "end" ∷ []))
 
--- the text of a block behind others, where it has lines
+-- the text of a block after others, if it has lines
 block_written : (old t1 t2 t3 t4 : List ℕ) (number : ℕ) (lines : List (Field × List ℕ)) → t1 ≡ old ++ codes "node " → t2 ≡ t1 ++ decimal3_of (yxx_of number) → t3 ≡ t2 ++ 10 ∷ [] → t4 ≡ t3 ++ fields_text lines
     → t4 ≡ old ++ (block_head number ++ fields_text lines)
 block_written old t1 t2 t3 t4 number lines first second third fourth =
@@ -190,7 +190,7 @@ next_block nodes i d text new all within before piece =
     let left = blocks_text (blocks_from (i + 1) (drop (i + 1) nodes)) in
     ap (λ xs. xs ++ left) piece ∙ append_assoc text block left ∙ ap (λ xs. text ++ xs) (sym (blocks_more nodes i d within)) ∙ before
 
--- the end behind the last
+-- the end after the last
 pub finished : (nodes : List NodeRecord) (i : ℕ) (text new : List ℕ) → length nodes ≤ i → text ++ blocks_text (blocks_from i (drop i nodes)) ≡ codes "ga144 2\n" ++ blocks_text (blocks_from 0 nodes)
     → new ≡ text ++ codes "end\n" → new ≡ printed nodes
 finished nodes i text new past before last =
@@ -289,7 +289,7 @@ form_printed (Node yxx) is = ((is, refl), tt)
 form_printed (Words field words) is = (field_spelled field words is, refl)
 form_printed End is = (refl, tt)
 
--- the printed lines spell the forms
+-- the printed lines parse as the forms
 pub forms_printed : (forms : List Form) → AllByRecursion IsPrintable forms → Spell Two (map line_text forms) forms
 forms_printed [] each = tt
 forms_printed (form ∷ forms) each = (form_printed form each.0, forms_printed forms each.1)

@@ -54,7 +54,7 @@ held_plain held (Return k) (w ∷ words) plain = held_plain held (Return (k + 1)
 held_plain held (Ram k) (w ∷ words) plain = held_plain held (Ram (k + 1)) words plain
 held_plain held (Rom k) (w ∷ words) plain = held_plain held (Rom (k + 1)) words plain
 
--- what is said of a node's wait, stop and slot before some lines, and behind them
+-- a block's wait, stop and slot before some lines, and after them
 record Holds (first : Held) (lines : List (Field × List ℕ)) (last : Held) : Type 0 where
   holds : held_after first (all_writes lines) ≡ last
 
@@ -114,7 +114,7 @@ lines_hold p node =
     (memory_held last Rom node.rom (λ _. tt)))) in
     all.holds
 
--- they stand together in a steady node
+-- they are consistent in a steady node
 steady_held : (wait : NodeWait) (slot stop : ℕ) → HasSides wait → FitsWait wait slot stop → is_unsteady (record { wait = wait_code wait; stop = stop; slot = slot }) ≡ false
 steady_held Nothing slot stop sides fits = refl
 steady_held (Fetch s) slot stop sides fits = let low : nat_lt (16 + s) 32 ≡ true = let small = sides.1 in grind (arith, nat_tests) in let due : (slot == 4) ≡ true = rw (fits.0) refl in rw (fits.1, low, due) (grind (arith, nat_tests))

@@ -44,7 +44,7 @@ lines_given {first = first} {middle = middle} {last = last} {xs = xs} {ys = ys} 
 then_same : {first middle last : NodeState} {lines : List (Field × List ℕ)} → Gives first lines middle → middle ≡ last → Gives first lines last
 then_same p q = record { gives = p.gives ∙ q }
 
--- a line that is written only where it says something
+-- a line that is written only if a word differs from its value at load
 unless_given : (before after : NodeState) (at_load : ℕ) (field : Field) (words : List ℕ) → (list_all (λ word. word == at_load) words ≡ true → before ≡ after)
     → (list_all (λ word. word == at_load) words ≡ false → given before (writes field words) ≡ after) → Gives before (line_unless at_load field words) after
 unless_given before after at_load field words none some = record { gives = either (list_all (λ word. word == at_load) words) refl } where
@@ -198,7 +198,7 @@ memory_given state field is memory size =
     (lines_given (row 48 8 (omega arith))
     (lines_given (row 56 0 (omega arith)) none)))))))
 
--- ---- what the lines of a node come to
+-- ---- the node that the lines of a block give
 
 -- the node that they make of the node at load
 abbrev pub made_of : NodeRecord → NodeState

@@ -22,7 +22,7 @@ use Rattle.ga_image.specs.Grammar.{Block, IsBlock, all_writes, with_field, loade
 use Rattle.ga_image.proofs.PrintedStates.{given}
 use Rattle.ga_image.proofs.PrintedBack.{written_given}
 
--- a node holds what a block says of its wait, stop and slot, but for what a later word took back
+-- a node has its block's wait, stop and slot, except for a wait or a stop that a later word cleared
 record IsTied (node : NodeState) (held : Held) : Type 0 where
   slot : node.slot ≡ held.slot
   wait : (node.wait ≡ Nothing) ⊎ (node.wait ≡ wait_of held.wait)

@@ -73,7 +73,7 @@ pub record IsSized (progress : Progress) : Type 0 where
   pub blocks : length progress.blocks ≡ 144
   pub given : length progress.given ≡ 156
 
--- a line behind another, without fault and of less room behind it
+-- the next state leaves room for fewer lines, and has a flag for each node and each field
 abbrev pub IsLess : Progress → Progress → Type 0
 IsLess progress next = (room next < room progress) × IsSized next
 
@@ -206,7 +206,7 @@ pub reads_cut : (progress : Progress) (line : ℕ) → progress.stage ≢ Ended 
 unfolding reading
 reads_cut progress line other = truncated progress.stage progress.chip line other
 
--- the end was not met
+-- the line `end` was not read
 pub still_open : (stage : Expects) → stage ≢ expects.Ended → stage_of stage ≢ Ended
 still_open expects.Header other = λ e. cc
 still_open expects.Open other = λ e. cc

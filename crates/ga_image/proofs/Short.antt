@@ -127,7 +127,7 @@ some_spelled text field ws is = (counted field (length ws) (count_spelled text f
 
 -- ---- steps of the reading of words
 
--- what the words of a text behind those seen so far come to
+-- the words seen so far and those of a text, if there are at most 16
 unfoldable pub words_after : List ℕ → List ℕ → Option (List ℕ)
 words_after seen text = spaced_words text >>= λ found. few (seen ++ found)
 
@@ -170,7 +170,7 @@ pub too_short : (seen text : List ℕ) → 0 < length text → length text < 7 �
 unfolding words_after
 too_short seen text some few = rw (short text some few) refl
 
--- nor where no space stands in front
+-- nor if there is no space in front
 pub no_space : (seen text : List ℕ) → 7 ≤ length text → has_space text ≡ false → words_after seen text ≡ None
 unfolding words_after
 no_space seen text many other = rw (long text many, other) refl

@@ -1,5 +1,4 @@
--- The letters of a set of sides, and the set that they give.
--- A line spells what it means.
+-- The letters of a set of sides, and the set that they give. A line that parses as a form is a text of it.
 use Rattle.std.specs.Prelude.{◌==◌, nat_eq, nat_le, nat_lt, codes, ◌-◌}
 use Rattle.std.proofs.lemmas.Bool.{eqb-true}
 use Rattle.std.proofs.Common.{◌≡◌, ℕ, zero, suc, ◌+◌, ◌*◌, ◌/◌, ◌%◌, ◌<◌, ◌≤◌, inl, inr, true, false, List, [], ◌∷◌, Option, Some, None, refl, ◌∙◌, ap, arith, ◌^◌, Bool, cond, ◌&&◌, ◌++◌, length, take, drop, sym, subst, append_assoc}
@@ -21,7 +20,7 @@ use Rattle.ga_node.specs.State.{IsWaitCode}
 use Rattle.ga_grid.specs.Grid.{node_number}
 use Rattle.ga_text.specs.Digits.{byte_in, hex2_of, words_text}
 
--- a side that is read stands in the set, or doesn't
+-- a side that is read is in the set, or isn't
 side_spelled : (name value c v : ℕ) → side_value name value c ≡ Some v → (bit : ℕ) × (bit ≤ 1) × (v ≡ value * bit) × (c ≡ letter name bit)
 side_spelled name value c v e =
     elim (chosen (c == name) value v _ e) [
@@ -90,7 +89,7 @@ set_read n small =
     let whole : 8 * (n / 8 % 2) + 4 * (n / 4 % 2) + 2 * (n / 2 % 2) + 1 * (n % 2) ≡ n = omega arith in
     rw (right_read (n / 8 % 2) (omega arith), down_read (n / 4 % 2) (omega arith), left_read (n / 2 % 2) (omega arith), up_read (n % 2) (omega arith)) (ap (λ (k : ℕ). Some k) whole)
 
--- ---- a line spells what it means
+-- ---- a line is a text of the form that it parses as
 
 -- the first step gave something
 first_step : {A B : Type 0} (o : Option A) (f : A → Option B) (y : B) → (o >>= f) ≡ Some y → (x : A) × (o ≡ Some x) × (f x ≡ Some y)
@@ -133,7 +132,7 @@ both_true : (x y : Bool) → (x && y) ≡ true → (x ≡ true) × (y ≡ true)
 both_true true y e = (refl, e)
 both_true false y e = cc
 
--- words that are read are spelled so
+-- a text that parses as words is their text
 words_spelled : (text ws : List ℕ) → spaced_words text ≡ Some ws → AreSix ws × (str_to_ascii_lowercase text ≡ words_text ws)
 unfolding spaced_words
 words_spelled [] ws e = let none : ws ≡ [] = cc in rw none (tt, refl)
@@ -177,7 +176,7 @@ few_is found ws e =
     let (some, few) = both_true (nat_le 1 (length found)) (nat_le (length found) 16) test in
     rw (← same) (refl, grind (arith, nat_tests), grind (arith, nat_tests))
 
--- 1 to 16 words that are read are spelled so
+-- a text that parses as 1 to 16 words is their text
 row_spelled : (text ws : List ℕ) → words_in_row text ≡ Some ws → AreSix ws × (str_to_ascii_lowercase text ≡ words_text ws) × (1 ≤ length ws) × (length ws ≤ 16)
 unfolding words_in_row
 row_spelled text ws e =
@@ -379,7 +378,7 @@ state_spelled text f =
     code_spelled text Stop code f same (least, most) (begun text (codes "stop ") b ∙ ap (λ xs. codes "stop " ++ xs) is) (λ words is. is))
     (wide_spelled text f))))
 
--- a line spells what it means
+-- a line is a text of the form that it parses as
 pub form_spelled : (text : List ℕ) (f : Form) → form text ≡ Some f → Spells text f
 unfolding form
 form_spelled text f =

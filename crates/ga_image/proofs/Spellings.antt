@@ -1,4 +1,4 @@
--- A line means what it spells, in each format.
+-- A text of a form parses as the form, in each format.
 use Rattle.ga_image.specs.declared.parser.Stage.TheVariants as expects
 use Rattle.std.proofs.Common.{◌≢◌, refl, ◌≡◌, ℕ, ◌+◌, inl, inr, ◌<◌, ◌≤◌, true, false, ◌&&◌, List, [], ◌∷◌, ◌++◌, length, map, Option, Some, None, sym, ◌∙◌, ap, subst, arith}
 use Rattle.ga_image.specs.declared.parser.Stage.{Stage as Expects}
@@ -21,9 +21,9 @@ use Rattle.ga_image.specs.Grammar.{Spell}
 use Rattle.ga_text.proofs.Numbers.{word_read, cell_read, node_read}
 use Rattle.ga_image.proofs.Spelled.{set_read, AreSix, guarded, lower_space, row_read, fetch_text, read_text, write_text, form_spelled}
 
--- ---- where a parser stands
+-- ---- the stage of a parser
 
--- neither before the header nor behind the end
+-- neither before the header nor after the end
 pub behind : (stage : Expects) → stage ≢ expects.Header → stage ≢ expects.Ended → IsBehindHeader (stage_of stage)
 behind expects.Header begun unended = absurd (begun refl)
 behind expects.Open begun unended = tt
@@ -35,7 +35,7 @@ one_word [] one = absurd (omega arith)
 one_word (w ∷ []) one = (w, refl)
 one_word (w ∷ v ∷ ws) one = absurd (omega arith)
 
--- the numbers behind the name of a register
+-- the numbers after the name of a register
 register_numbers : (numbers ws : List ℕ) → length ws ≡ 1 → AreSix ws → str_to_ascii_lowercase numbers ≡ words_text ws
     → (digits : List ℕ) × (w : ℕ) × (ws ≡ w ∷ []) × (numbers ≡ 32 ∷ digits) × (read6_of digits ≡ Some w)
 register_numbers [] [] one six is = absurd (omega arith)
@@ -47,7 +47,7 @@ register_numbers (s ∷ digits) (w ∷ []) one six is =
     let lower : str_to_ascii_lowercase digits ≡ hex6_of w = cc in
     (digits, w, refl, ap (λ c. c ∷ digits) (lower_space s space), word_read digits w six.0 lower)
 
--- the numbers behind the name of a memory
+-- the numbers after the name of a memory
 cells_read : (field : ℕ → Field) (cell : ℕ) (numbers ws : List ℕ) → cell < 256 → AreSix ws → str_to_ascii_lowercase numbers ≡ hex2_of cell ++ words_text ws → 1 ≤ length ws → length ws ≤ 16
     → cells_form field numbers ≡ Some (Words (field cell) ws)
 unfolding cells_form
@@ -206,7 +206,7 @@ end_line_read : form (codes "end") ≡ Some End
 unfolding form state_form wide_form
 end_line_read = refl
 
--- a line means what it spells
+-- a text of a form parses as the form
 pub form_read : (text : List ℕ) (f : Form) → Spells text f → form text ≡ Some f
 form_read text (Node yxx) is = node_line_read text yxx is.0 is.1
 form_read text (Words field ws) is = words_line_read text field ws is
@@ -220,7 +220,7 @@ kept_parts format (Some (Words field ws)) f e =
     let (test, same) = guarded (has_field format field) (Words field ws) f e in
     (ap (λ g. Some g) same, subst (IsFormOf format) same test)
 
--- a line of a format spells what it means
+-- a line that parses as a form in a format is a text of it in the format
 pub kept_spelled : (format : Format) (text : List ℕ) (f : Form) → form_in format text ≡ Some f → SpellsIn format text f
 kept_spelled format text f e = let (found, has) = kept_parts format (form text) f e in (form_spelled text f found, has)
 
@@ -229,7 +229,7 @@ kept format (Node yxx) has = refl
 kept format (Words field ws) has = rw has refl
 kept format End has = refl
 
--- and means what it spells
+-- and the other way
 pub kept_read : (format : Format) (text : List ℕ) (f : Form) → SpellsIn format text f → form_in format text ≡ Some f
 kept_read format text f is = ap (kept_in format) (form_read text f is.0) ∙ kept format f is.1
 
@@ -253,7 +253,7 @@ codes_spelled text (Return k) ws is = each_code (Return k) ws (λ w. tt)
 codes_spelled text (Ram cell) ws is = each_code (Ram cell) ws (λ w. tt)
 codes_spelled text (Rom cell) ws is = each_code (Rom cell) ws (λ w. tt)
 
--- lines spell what they mean, and mean what they spell
+-- lines that parse as forms are texts of them
 pub forms_spelled : (format : Format) (texts : List (List ℕ)) (forms : List Form) → map (form_in format) texts ≡ map (λ f. Some f) forms → Spell format texts forms
 forms_spelled format [] [] e = tt
 forms_spelled format [] (f ∷ forms) e = cc
@@ -263,7 +263,7 @@ forms_spelled format (text ∷ texts) (f ∷ forms) e =
     let others : map (form_in format) texts ≡ map (λ f. Some f) forms = cc in
     (kept_spelled format text f first, forms_spelled format texts forms others)
 
--- and mean what they spell
+-- and the other way
 pub forms_read : (format : Format) (texts : List (List ℕ)) (forms : List Form) → Spell format texts forms → map (form_in format) texts ≡ map (λ f. Some f) forms
 forms_read format [] [] is = refl
 forms_read format [] (f ∷ forms) is = absurd is

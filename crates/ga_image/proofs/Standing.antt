@@ -1,4 +1,4 @@
--- What the lines so far come to, and lines that may not stand behind them.
+-- The state after the lines so far, and lines that are not allowed after them.
 use Rattle.std.specs.Bool.{Decides}
 use Rattle.std.proofs.Common.{◌≡◌, ◌≢◌, ℕ, ◌⊎◌, inl, inr, Bool, true, false, cond, List, [], ◌∷◌, get_or, Option, Some, None, refl, sym, ◌∙◌, ap, subst}
 use Rattle.std.proofs.lemmas.Bool.Decides.{not_from_Decides}
@@ -25,7 +25,7 @@ abbrev pub Tells : List (List ℕ) → List ℕ → List ImageCause → Option I
 Tells before line left None = HasNone before line left
 Tells before line left (Some first) = IsFirstCause before line left first
 
--- the causes behind the first, behind the second and so on
+-- the causes after the first, after the second and so on
 abbrev pub after_word : List ImageCause
 after_word = cause.Repeated ∷ []
 
@@ -86,7 +86,7 @@ header_form Two = refl
 pub header_formless : (line : List ℕ) (format : Format) → line ≡ header format → (f : Form) → ¬ Spells line f
 header_formless line format is = λ f spelled. absurd (let clash : Some f ≡ None = sym (form_read line f spelled) ∙ ap form is ∙ header_form format in let never : true ≡ false = cc in cc)
 
--- ---- the state behind lines
+-- ---- the state after lines
 
 -- what may come next, by the lines so far
 abbrev pub StandsAt : Stage → List (List ℕ) → Type 0
@@ -95,7 +95,7 @@ StandsAt stage.Open before = (before ≢ []) × (¬ OneOf IsEnd before) × (¬ O
 StandsAt (stage.Block node) before = (before ≢ []) × (¬ OneOf IsEnd before) × OneOf BeginsBlock before
 StandsAt stage.Ended before = (before ≢ []) × OneOf IsEnd before
 
--- a state holds what the lines so far come to
+-- the state is that after the lines so far
 pub record IsAfter (progress : Progress) (before : List (List ℕ)) : Type 0 where
   pub stands : StandsAt progress.stage before
   pub sized : IsSized progress
@@ -104,7 +104,7 @@ pub record IsAfter (progress : Progress) (before : List (List ℕ)) : Type 0 whe
   pub blocks : (yxx n : ℕ) → node_of yxx ≡ Some n → Decides (get_or progress.blocks n false) (OneOf (BeginsBlockOf yxx) before)
   pub given : (node : ℕ) → progress.stage ≡ stage.Block node → (field : Field) → HasCell field → Decides (get_or progress.given (number_of field) false) (WasGiven before field)
 
--- ---- a line behind the header that may not stand there
+-- ---- a line after the header that is not allowed there
 
 pub later : (st : Stage) (before : List (List ℕ)) → st ≢ stage.Header → StandsAt st before → before ≢ []
 later stage.Header before behind stands = absurd (behind refl)
@@ -168,7 +168,7 @@ fields_begin_none (line ∷ lines) (f ∷ fs) gs spelled = λ gives. elim gives 
 joined : (f g : Field) (ws vs : List ℕ) (fs gs : List (Field × List ℕ)) → f ≡ g → ws ≡ vs → fs ≡ gs → (f, ws) ∷ fs ≡ (g, vs) ∷ gs
 joined f g ws vs fs gs p q r = rw (p, q, r) refl
 
--- lines spell one list of field lines
+-- lines are texts of one list of field lines only
 fields_same : (lines : List (List ℕ)) (fs gs : List (Field × List ℕ)) → SpellFields lines fs → SpellFields lines gs → fs ≡ gs
 fields_same [] [] [] first second = refl
 fields_same [] [] (g ∷ gs) first second = absurd second

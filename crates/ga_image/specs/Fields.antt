@@ -1,5 +1,5 @@
--- The fields of a block, where the words of a field line go, and which wait, stop and slot can stand together
--- (docs/REFERENCE.md, "Images"; this project's own).
+-- The fields of a block, the places of a field line's words, and which wait, stop and slot are consistent (docs/REFERENCE.md,
+-- "Images"; this project's own).
 use Rattle.std.specs.Prelude.{ℕ, ◌+◌, ◌-◌, ◌==◌, ◌||◌, nat_lt, if◌then◌else◌, Bool, true, false, List, [], ◌∷◌, slice_index_or, slice_set, ◌&&◌, not}
 use Rattle.std.specs.List.{list_any}
 use Rattle.ga_node.specs.declared.place.Place.{Place}
@@ -21,8 +21,8 @@ has_field One (Ram cell) = true
 has_field One (Rom cell) = true
 has_field One _ = false
 
--- The place of a node that a field stands for. A node at load has the newest of its stacks' cells at 0, and the older ones
--- follow: so the words of the data stack stand in T, S and the cells from 0 on, and those of the return stack in R and the cells.
+-- The place of a node that a field names. A node at load has the newest of its stacks' cells at 0, and the older ones follow:
+-- the words of the data stack are in T, S and the cells from 0 on, and those of the return stack in R and the cells.
 abbrev pub field_place : Field → Place
 field_place A = place.A
 field_place B = place.B
@@ -58,7 +58,7 @@ number_of (Return k) = 19 + k
 number_of (Ram cell) = 28 + cell
 number_of (Rom cell) = 92 + cell
 
--- where the next word of a line goes
+-- the field of the next word of a line
 abbrev pub next_field : Field → Field
 next_field (Data k) = Data (k + 1)
 next_field (Return k) = Return (k + 1)
@@ -71,7 +71,7 @@ abbrev pub writes : Field → List ℕ → List (Field × ℕ)
 writes field [] = []
 writes field (word ∷ words) = (field, word) ∷ writes (next_field field) words
 
--- so many words go past the last word of a stack or the last cell of a memory
+-- whether `count` words exceed the last word of a stack or the last cell of a memory
 abbrev pub goes_past : Field → ℕ → Bool
 goes_past (Data k) count = nat_lt 10 (k + count)
 goes_past (Return k) count = nat_lt 9 (k + count)
@@ -92,30 +92,31 @@ abbrev pub repeats : List Bool → List (Field × ℕ) → Bool
 repeats given [] = false
 repeats given (w ∷ ws) = slice_index_or given (number_of w.0) false || repeats (slice_set given (number_of w.0) true) ws
 
--- ---- what a block says of a node's wait, stop and slot, and which of these can stand together
+-- ---- a block's wait, stop and slot, and which of these are consistent
 
 -- at load a node neither waits nor is stopped, and a fetch is due
 abbrev pub held_at_load : Held
 held_at_load = record { wait = 0; stop = 0; slot = 4 }
 
--- what is said of a wait, a stop and a slot, with a word for a field
+-- a block's wait, stop and slot, with a word for a field
 abbrev pub with_code : Held → Field → ℕ → Held
 with_code held Wait word = record held { wait = word }
 with_code held Stop word = record held { stop = word }
 with_code held Slot word = record held { slot = word }
 with_code held _ word = held
 
--- what is said of a wait, a stop and a slot, with one word more
+-- a block's wait, stop and slot, with one word more
 abbrev pub with_held : Held → Field × ℕ → Held
 with_held held w = with_code held w.0 w.1
 
--- what is said of a wait, a stop and a slot behind words, one after the other
+-- a block's wait, stop and slot after words, one after the other
 abbrev pub held_after : Held → List (Field × ℕ) → Held
 held_after held [] = held
 held_after held (w ∷ ws) = held_after (with_held held w) ws
 
--- A node doesn't stand so: it waits and is stopped, or it waits for an instruction word where none is due, or for another word
--- where an instruction word is due. The numbers of waits for an instruction word are below 32.
+-- Whether a block's wait, stop and slot are inconsistent: the node waits and is stopped, or it waits for an instruction word
+-- where none is due, or for another word where an instruction word is due. The numbers of waits for an instruction word are
+-- below 32.
 abbrev pub is_unsteady : Held → Bool
 is_unsteady held =
     not (held.wait == 0)

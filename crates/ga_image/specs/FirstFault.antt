@@ -1,6 +1,6 @@
 -- The causes of a refusal, with the number and the word by which each is reported, and the first fault of a text that is no
--- image, told by its lines (docs/REFERENCE.md, "Images"; this project's own). What is wrong with a line is said of that line
--- and of the lines before it.
+-- image, by its lines (docs/REFERENCE.md, "Images"; this project's own). A fault of a line is defined by that line and the
+-- lines before it.
 use Rattle.std.specs.Prelude.{ℕ, codes, ◌≡◌, ◌≢◌, ◌+◌, ◌<◌, ◌⊎◌, true, List, [], ◌∷◌, ◌++◌, length, None}
 use Rattle.ga_text.specs.Lines.{Text, Line, longest}
 use Rattle.ga_image.specs.declared.fault.ImageCause.{ImageCause}
@@ -41,11 +41,11 @@ cause_word cause.Long = codes "long"
 cause_word cause.Memory = codes "memory"
 cause_word cause.State = codes "state"
 
--- want of memory, which is met before the first line
+-- out of memory, which is reported before the first line
 abbrev pub no_memory : ImageFault
 no_memory = record { line = 0; cause = cause.Memory }
 
--- ---- the first fault of a text that is no image, told by its lines
+-- ---- the first fault of a text that is no image, by its lines
 
 -- P holds of one of some values
 abbrev pub OneOf : {X : Type 0} → (X → Type 0) → List X → Type 0
@@ -73,7 +73,7 @@ GivesWords line = (field : Field) × (words : List ℕ) × Spells line (Words fi
 abbrev pub GivesField : Field → Line → Type 0
 GivesField field line = (first : Field) × (words : List ℕ) × Spells line (Words first words) × OneOf (λ w. w.0 ≡ field) (writes first words)
 
--- One of these lines gives the field, and behind it no block begins.
+-- Whether one of these lines gives the field, and no block begins after it.
 abbrev pub WasGiven : List Line → Field → Type 0
 WasGiven [] field = ⊥
 WasGiven (line ∷ lines) field = WasGiven lines field ⊎ (GivesField field line × ¬ OneOf BeginsBlock lines)
@@ -94,7 +94,7 @@ abbrev pub format_in : List Line → Format
 format_in [] = One
 format_in (line ∷ lines) = format_of line
 
--- ---- what may be wrong with a line, behind the lines before it
+-- ---- the faults of a line after the lines before it
 
 -- a line has more than 200 bytes
 abbrev pub IsLong : Line → Type 0
@@ -112,11 +112,11 @@ HasNoForm format line = (form : Form) → ¬ SpellsIn format line form
 abbrev pub IsBeforeBlocks : List Line → Line → Type 0
 IsBeforeBlocks before line = GivesWords line × ¬ OneOf BeginsBlock before
 
--- a line behind the header has no form, or may not stand there
+-- whether a line after the header has no form, or is not allowed there
 abbrev pub IsNoLine : List Line → Line → Type 0
 IsNoLine before line = (before ≢ []) × (HasNoForm (format_in before) line ⊎ IsBeforeBlocks before line ⊎ OneOf IsEnd before)
 
--- a line ends a block whose wait, stop and slot can't stand together
+-- whether a line ends a block whose wait, stop and slot are inconsistent
 abbrev pub EndsUnsteady : List Line → Line → Type 0
 EndsUnsteady before line =
     (BeginsBlock line ⊎ IsEnd line)
@@ -146,7 +146,7 @@ RepeatsField before line = (field : Field) × GivesField field line × WasGiven 
 
 -- ---- the first fault
 
--- a line has this cause of refusal, behind the lines before it
+-- whether a line has this cause of refusal, after the lines before it
 abbrev pub HasCause : List Line → Line → ImageCause → Type 0
 HasCause before line cause.Long = IsLong line
 HasCause before line cause.Header = IsOtherHeader before line
@@ -173,7 +173,7 @@ IsFirstCause before line (cause ∷ others) first = ((first ≡ cause) × HasCau
 abbrev pub HasNone : List Line → Line → List ImageCause → Type 0
 HasNone before line others = AllByRecursion (λ cause. ¬ HasCause before line cause) others
 
--- none of these lines has a cause, each behind those before it
+-- whether none of these lines has a cause, each after those before it
 abbrev pub AreFaultless : List Line → List Line → Type 0
 AreFaultless before [] = Unit {0}
 AreFaultless before (line ∷ lines) = HasNone before line causes × AreFaultless (before ++ line ∷ []) lines

@@ -45,7 +45,7 @@ block_forms block = Node (yxx_of block.node) ∷ map field_line_form block.field
 abbrev pub all_writes : List (Field × List ℕ) → List (Field × ℕ)
 all_writes field_lines = flat_map (λ line. writes line.0 line.1) field_lines
 
--- so many words from a field on stay within its stack or memory
+-- whether `count` words from a field on stay within its stack or memory
 abbrev pub Fits : Field → ℕ → Type 0
 Fits (Data k) count = k + count ≤ 10
 Fits (Return k) count = k + count ≤ 9
@@ -63,7 +63,7 @@ pub record IsBlock (block : Block) : Type 0 where
   pub field_lines : AllByRecursion IsFieldLine block.field_lines
   -- no field is given twice
   pub apart : IsDistinct nat_eq (map (λ w. number_of w.0) (all_writes block.field_lines))
-  -- the wait, stop and slot that the block gives can stand together
+  -- the wait, stop and slot that the block gives are consistent
   pub steady : is_unsteady (held_after held_at_load (all_writes block.field_lines)) ≡ false
 
 -- A node with another word in a field. A node that waits isn't stopped, and one that is stopped doesn't wait.
@@ -86,7 +86,7 @@ abbrev pub loaded : List NodeState → List Block → List NodeState
 loaded chip [] = chip
 loaded chip (block ∷ blocks) = loaded (chip_with_words block.node chip (all_writes block.field_lines)) blocks
 
--- lines of the format spell these forms, one each
+-- whether the lines are texts of these forms in the format, one each
 abbrev pub Spell : Format → List Line → List Form → Type 0
 Spell format [] [] = Unit {0}
 Spell format (text ∷ texts) (form ∷ forms) = SpellsIn format text form × Spell format texts forms

@@ -1,5 +1,5 @@
--- The text of a chip in format 2, a format of this project's own: for each node what it holds beside its values at load.
--- A text that describes a chip, and the chips that a text in format 2, a format of this project's own, can describe.
+-- The text of a chip in format 2, a format of this project's own: for each node the values that differ from those at load. A
+-- text that describes a chip, and the chips that a text in format 2 can describe.
 use Rattle.std.specs.Prelude.{ℕ, ◌+◌, ◌^◌, ◌<◌, ◌==◌, if◌then◌else◌, List, [], ◌∷◌, ◌++◌, take, drop, slice_index, codes, map, flat_map, ◌≡◌, ◌≤◌, length}
 use Rattle.std.specs.List.{AllByRecursion, list_all}
 use Rattle.std.specs.Int.{from_bool}
@@ -28,7 +28,7 @@ field_text Wait words = field_name Wait ++ code_text Wait (slice_index words 0)
 field_text Stop words = field_name Stop ++ code_text Stop (slice_index words 0)
 field_text field words = field_name field ++ numbers_of field words
 
--- any line behind the header
+-- the text of a line after the header
 abbrev pub line_text : Form → Line
 line_text (Node yxx) = codes "node " ++ decimal3_of yxx
 line_text (Words field words) = field_text field words
@@ -106,7 +106,7 @@ unfoldable pub blocks_from : ℕ → List NodeRecord → List Block
 blocks_from number [] = []
 blocks_from number (node ∷ nodes) = block_unless number (lines_at number node) ++ blocks_from (number + 1) nodes
 
--- the lines behind the header
+-- the forms of the lines after the header
 abbrev pub forms_of : List NodeRecord → List Form
 forms_of nodes = flat_map block_forms (blocks_from 0 nodes) ++ End ∷ []
 
@@ -123,7 +123,7 @@ HasSides (Fetch sides) = (0 < sides) × (sides < 16)
 HasSides (Read sides) = (0 < sides) × (sides < 16)
 HasSides (Write side) = Unit {0}
 
--- a stack or a memory that holds so many words
+-- whether these are the words of a stack or a memory of this size
 abbrev pub HoldsWords : ℕ → List ℕ → Type 0
 HoldsWords size words = AreWords words × (length words ≡ size)
 

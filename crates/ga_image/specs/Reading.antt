@@ -1,4 +1,4 @@
--- Reading an image line by line, with the first fault that is met (docs/REFERENCE.md, "Images"; this project's own).
+-- Reading an image line by line, up to the first fault (docs/REFERENCE.md, "Images"; this project's own).
 use Rattle.ga_image.specs.declared.fault.ImageCause.TheVariants as cause
 use Rattle.std.specs.Prelude.{ℕ, Bool, List, ◌≡◌, ◌+◌, ◌⊎◌, nat_lt, true, false, ◌||◌, if◌then◌else◌, [], ◌∷◌, length, replicate, slice_index_or, slice_set, is_none, Option, Some, None, Result, Ok, Err}
 use Rattle.ga_node.specs.Record.{NodeState}
@@ -15,7 +15,7 @@ use Rattle.ga_text.specs.Lines.{Line, longest}
 use Rattle.ga_image.specs.Grammar.{is_header_of, format_of, with_word}
 use Rattle.ga_image.specs.FirstFault.{no_memory}
 
--- ---- what the lines of an image come to, one after the other
+-- ---- the state after the lines of an image, one after the other
 
 -- What may come next: the header, a block or the end, a field of this node's block as well, or nothing.
 pub data Stage : Type 0 where
@@ -24,7 +24,7 @@ pub data Stage : Type 0 where
   Block : ℕ → Stage
   Ended : Stage
 
--- what the lines so far come to
+-- the state after the lines so far
 pub record Progress : Type 0 where
   -- the format that the header names
   pub format : Format
@@ -33,7 +33,7 @@ pub record Progress : Type 0 where
   pub blocks : List Bool
   -- for each field by its number, whether the last block gave it
   pub given : List Bool
-  -- what the last block says of its node's wait, stop and slot
+  -- the wait, stop and slot of the last block's node
   pub held : Held
   pub chip : List NodeState
 
@@ -64,7 +64,7 @@ kept_in format other = other
 abbrev pub form_in : Format → Line → Option Form
 form_in format text = kept_in format (form text)
 
--- the line has no form, or is a field line before the first block, or stands behind the end
+-- whether the line has no form, is a field line before the first block, or comes after the end
 abbrev pub is_misplaced : Stage → Option Form → Bool
 is_misplaced Open (Some (Node yxx)) = false
 is_misplaced Open (Some End) = false
@@ -96,19 +96,19 @@ words_fault progress field words = first_of (
     ∷ (cause.Repeated, repeats progress.given (writes field words))
     ∷ [])
 
--- The line ends a block whose wait, stop and slot can't stand together.
+-- Whether the line ends a block whose wait, stop and slot are inconsistent.
 abbrev pub ends_unsteady : Stage → Held → Option Form → Bool
 ends_unsteady (Block node) held (Some (Node yxx)) = is_unsteady held
 ends_unsteady (Block node) held (Some End) = is_unsteady held
 ends_unsteady _ held _ = false
 
--- what may be wrong with a line that may stand there, by its form
+-- the fault of a line that is allowed there, by its form
 abbrev pub form_fault : Progress → Option Form → Option ImageCause
 form_fault progress (Some (Node yxx)) = node_fault progress yxx
 form_fault progress (Some (Words field words)) = words_fault progress field words
 form_fault progress _ = None
 
--- what may be wrong with a line behind the first, in the order in which it is answered
+-- the fault of a line after the first: the first of its faults in the order in which they are reported
 abbrev pub later_fault : Progress → Option Form → Option ImageCause
 later_fault progress form =
     if is_misplaced progress.stage form then Some cause.Line
@@ -152,7 +152,7 @@ with_block progress (Some node) = record progress {
 }
 with_block progress None = progress
 
--- what is known after a line of a form that may stand there
+-- the state after a line of a form that is allowed there
 abbrev pub after_form : Progress → Option Form → Progress
 after_form progress (Some (Node yxx)) = with_block progress (node_of yxx)
 after_form progress (Some (Words field words)) = with_writes progress (writes field words)

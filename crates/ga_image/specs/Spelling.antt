@@ -1,5 +1,5 @@
--- The forms of a line, and how each is spelled (docs/REFERENCE.md, "Images"; both formats are this project's own).
--- Reading a line: the form that it spells.
+-- The forms of a line, and the texts of each (docs/REFERENCE.md, "Images"; both formats are this project's own). Reading a
+-- line: the form that it parses as.
 use Rattle.std.specs.Prelude.{◌≡◌, ◌≢◌, ℕ, ◌+◌, ◌-◌, ◌/◌, ◌%◌, ◌^◌, ◌<◌, ◌≤◌, ◌==◌, nat_lt, if◌then◌else◌, true, ◌++◌, List, [], ◌∷◌, length, codes, ◌&&◌, nat_eq, nat_le, Bool, take, drop, Option, Some, None}
 use Rattle.std.specs.List.{AllByRecursion}
 use Rattle.std.specs.Str.{str_to_ascii_lowercase}
@@ -16,8 +16,8 @@ use Rattle.ga_ports.specs.Address.{is_single, set_number}
 use Rattle.ga_ports.specs.Steps.{◌>>=◌}
 use Rattle.ga_grid.specs.Grid.{node_number}
 
--- A line behind the header: a block of the node with this row and column begins; words for a field and for those
--- after it; or the end.
+-- A line after the header: a block of the node with this row and column begins; words for a field and for those after it; or
+-- the end.
 pub data Form : Type 0 where
   Node : ℕ → Form
   Words : Field → List ℕ → Form
@@ -54,7 +54,7 @@ field_name (Return k) = codes "r"
 field_name (Ram cell) = codes "ram "
 field_name (Rom cell) = codes "rom "
 
--- the numbers that follow in a field line behind what it begins with
+-- the numbers of a field line after its name
 abbrev pub numbers_of : Field → List ℕ → List ℕ
 numbers_of (Ram cell) words = hex2_of cell ++ words_text words
 numbers_of (Rom cell) words = hex2_of cell ++ words_text words
@@ -85,7 +85,7 @@ IsCode Wait code = IsWaitCode code × (code ≢ 0)
 IsCode Stop code = (1 ≤ code) × (code ≤ 3)
 IsCode _ code = ⊥
 
--- how the number of a carry, a slot, a wait or a stop is spelled: one decimal digit, or what the node waits for
+-- the text of the number of a carry, a slot, a wait or a stop: one decimal digit, or what the node waits for
 abbrev pub code_text : Field → ℕ → Text
 code_text Wait code = wait_text code
 code_text _ code = (48 + code) ∷ []
@@ -105,7 +105,7 @@ SpellsField text Wait words = SpellsCode text Wait words
 SpellsField text Stop words = SpellsCode text Stop words
 SpellsField text field words = SpellsWords text field words
 
--- the text of a line behind the header
+-- whether the text is that of a line of this form after the header
 abbrev pub Spells : Line → Form → Type 0
 Spells text (Node yxx) = (yxx < 1000) × (text ≡ codes "node " ++ decimal3_of yxx)
 Spells text (Words field words) = SpellsField text field words
@@ -120,9 +120,9 @@ IsFormOf format _ = Unit {0}
 abbrev pub SpellsIn : Format → Line → Form → Type 0
 SpellsIn format text form = Spells text form × IsFormOf format form
 
--- ---- reading a line: the form that it spells
+-- ---- reading a line: the form that it parses as
 
--- numbers of six digits, each behind one space
+-- numbers of six digits, each after one space
 unfoldable pub spaced_words : Text → Option (List ℕ)
 spaced_words [] = Some []
 spaced_words (space ∷ a ∷ b ∷ c ∷ d ∷ e ∷ f ∷ text) =

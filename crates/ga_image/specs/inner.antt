@@ -29,7 +29,7 @@ HasCell (Ram cell) = cell < 64
 HasCell (Rom cell) = cell < 64
 HasCell register = Unit {0}
 
--- ---- words that may stand for a field
+-- ---- valid words for a field
 
 -- a word for a field, which for a wait is the number of one
 abbrev pub HoldsCode : Field → ℕ → Type 0

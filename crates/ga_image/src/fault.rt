@@ -11,7 +11,7 @@ pub enum ImageCause {
     /// The first line is not the header.
     #[error("the first line is not the header")]
     Header,
-    /// The line has none of the forms, or may not stand here.
+    /// The line has none of the forms, or is not allowed here.
     #[error("the line has none of the forms, or may not stand here")]
     Line,
     /// No node has this row and column.
@@ -35,7 +35,7 @@ pub enum ImageCause {
     /// Memory was refused.
     #[error("out of memory")]
     Memory,
-    /// The wait, the stop and the slot of the block before can't stand together.
+    /// The wait, the stop and the slot of the block before are inconsistent.
     #[error("the wait, the stop and the slot of the block before can't stand together")]
     State,
 }

@@ -1,4 +1,4 @@
-//! The fields of a block, and what it says of its node's wait, stop and slot.
+//! The fields of a block, and its node's wait, stop and slot.
 
 ghost use Rattle.std.specs.Prelude.{◌≡◌, ◌<◌, ◌≤◌, length};
 ghost use Rattle.ga_image.specs.Spelling.{field_name};
@@ -77,7 +77,7 @@ impl Format {
 }
 
 impl Field {
-    /// The place of a node at load that the field stands for.
+    /// The place of a node at load that the field names.
     pub(crate) fn place(self) -> Place
         ensures { result ≡ field_place self }
     {
@@ -145,7 +145,7 @@ impl Field {
         }
     }
 
-    /// Where the next word of the line goes.
+    /// The field of the next word of the line.
     pub(crate) fn next(self) -> Field
         requires { HasCell self }
         ensures { result ≡ next_field self }
@@ -159,7 +159,7 @@ impl Field {
         }
     }
 
-    /// Whether so many words go past the last word of the stack or the last cell of the memory.
+    /// Whether `count` words exceed the last word of the stack or the last cell of the memory.
     pub(crate) fn goes_past(self, count: usize) -> bool
         requires { count ≤ 16 }
         ensures { result ≡ goes_past self count }
@@ -181,7 +181,7 @@ impl Field {
     }
 }
 
-/// What a block says of its node's wait, stop and slot.
+/// A block's wait, stop and slot of its node.
 #[derive(Clone, Copy)]
 pub(crate) struct Held {
     /// The number of the wait, or 0.
@@ -204,7 +204,7 @@ impl Held {
         }
     }
 
-    /// What is said of a wait, a stop and a slot, with a word for a field.
+    /// The wait, stop and slot with a word for a field.
     pub(crate) fn with(self, field: Field, word: u32) -> Held
         ensures { result ≡ with_code self field word }
     {
@@ -216,7 +216,8 @@ impl Held {
         }
     }
 
-    /// Whether no node stands so: it both waits and is stopped, or waits for another word than the slot says.
+    /// Whether the block's wait, stop and slot are inconsistent: its node both waits and is stopped, or waits to fetch where no
+    /// fetch is due, or for another word where a fetch is due.
     pub(crate) fn is_unsteady(self) -> bool
         ensures { result ≡ is_unsteady self }
     {

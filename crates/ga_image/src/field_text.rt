@@ -14,7 +14,7 @@ use ga_grid::NodeId;
 use ga_word::Word18;
 use std::alloc::AllocError;
 
-/// Adds words, each as six digits behind a space.
+/// Adds words, each as six digits after a space.
 fn push_words(text: &mut Vec<u8>, words: &[u32]) -> Result<(), AllocError>
     requires { AreWords words.now }
     ensures { OnOk result (text.new.items ≡ text.old.items ++ words_text words.now) }

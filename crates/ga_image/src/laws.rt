@@ -24,14 +24,14 @@ pub fn reading_tells()
         IsFirstFault texts fault ↔ (reading start 1 texts ≡ Err fault) }
 {}
 
-/// What is printed of a chip is an image of a chip with the same records, where in each node the wait, the slot and the stop
-/// stand together. So reading it gives the chip back, unless memory is refused.
+/// The printed text of a chip is an image of a chip with the same records, if in each node the wait, the slot and the stop are
+/// consistent. Reading it gives the chip back, unless an allocation fails.
 #[tactic(auto, using(crate::proofs::PrintedBack::prints_back))]
 pub fn prints_back()
     ensures { (nodes : List NodeRecord) → AreSound nodes → AreSteady nodes → Describes (lines_of (printed nodes)) nodes }
 {}
 
-/// The wait, the slot and the stop stand together in each node of a chip that an image describes.
+/// The wait, the slot and the stop are consistent in each node of a chip that an image describes.
 pub fn images_are_steady()
     ensures { (texts : List (List ℕ)) (chip : List NodeState) → IsImage texts chip → AreSteady (records_of chip) }
 {}

@@ -1,5 +1,5 @@
-//! Chip images: a text that gives the words with which the nodes of a chip are loaded. docs/REFERENCE.md, "Images", tells both
-//! formats line by line; `parse` reads either, `print` writes the second.
+//! Chip images: a text that gives the words with which the nodes of a chip are loaded. docs/REFERENCE.md, "Images", describes
+//! both formats line by line; `parse` reads either, `print` writes the second.
 #![tactic(auto)]
 
 mod fault;

@@ -12,7 +12,7 @@ use ga_ports::set_number;
 use ga_text::byte_of;
 use ga_word::Word18;
 
-/// A line behind the header.
+/// A line after the header.
 #[derive(Drop)]
 pub(crate) enum Line {
     /// The block of the node with this row and column begins.
@@ -22,7 +22,7 @@ pub(crate) enum Line {
     End,
 }
 
-/// Reads 1 to 16 numbers of six digits, each behind one space.
+/// Reads 1 to 16 numbers of six digits, each after one space.
 fn read_words(text: &[u8]) -> Option<ArrayVec<u32, 16>>
     ensures { option_map (λ found. found.items) result ≡ words_in_row text.now }
 {

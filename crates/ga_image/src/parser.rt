@@ -46,7 +46,7 @@ pub(crate) enum Stage {
     Ended,
 }
 
-/// What the lines so far come to.
+/// The state after the lines so far.
 #[derive(Drop)]
 pub(crate) struct Parser {
     pub format: Format,
@@ -55,7 +55,7 @@ pub(crate) struct Parser {
     pub blocks: [bool; NODES],
     /// For each field by its number, whether the last block gave it.
     pub given: [bool; FIELDS],
-    /// What the last block says of its node's wait, stop and slot.
+    /// The wait, stop and slot of the last block's node.
     pub held: Held,
     pub chip: Chip,
 }
@@ -77,7 +77,7 @@ impl Parser {
         }
     }
 
-    /// Reads the next line. After a fault nothing is said of what the parser holds.
+    /// Reads the next line. After a fault the parser's state is unspecified.
     #[tactic(auto, unfolding(crate::specs::Reading::fault_of, crate::specs::Reading::after_line, crate::specs::Reading::words_fault, crate::specs::Reading::node_fault))]
     pub fn read_line(&mut self, text: &[u8]) -> Result<(), ImageCause>
         ensures fault { result_err result ≡ fault_of (progress_of self.old) text.now }
@@ -119,7 +119,7 @@ impl Parser {
         Ok(())
     }
 
-    /// Whether the wait, the stop and the slot of the block that ends here can't stand together.
+    /// Whether the wait, the stop and the slot of the block that ends here are inconsistent.
     fn is_unsteady(&self) -> bool
         ensures { result ≡ ends_unsteady (stage_of self.now.stage) self.now.held (Some End) }
     {

@@ -19,7 +19,7 @@ use ga_stacks::FRESH_WORD;
 use std::alloc::{AllocError, Global};
 
 /// The most bytes of a block: its first line, those of the registers, the carry and the slot, those of the stacks, that of a
-/// wait, which is longer than that of a stop and never stands beside one, and eight for each memory.
+/// wait, which is longer than that of a stop and never occurs with one, and eight for each memory.
 const BLOCK_ROOM: usize = b"node 717\n".len()
     + 4 * b"a 03ffff\n".len()
     + b"io 03ffff\n".len()
@@ -57,7 +57,7 @@ pub fn print(alloc: Global, chip: &Chip) -> Result<Vec<u8>, ImageFault>
     // The text is the one that the records determine.
     ensures text { IfOk result (λ text. text.items ≡ printed (records_of chip.now)) }
 
-    // It is an image of a chip with the same records, where in each node the wait, the slot and the stop stand together.
+    // It is an image of a chip with the same records, where in each node the wait, the slot and the stop are consistent.
     ensures back { IfOk result (λ text. AreSteady (records_of chip.now) → Describes (lines_of text.items) (records_of chip.now)) }
 
     // Nothing is refused but memory.

@@ -56,7 +56,7 @@ equivalent_steps n c xs ys (joined {ys = zs} h k) = equivalent_steps n c xs zs h
 alike_chip : (s : State) (ys : List Event) → AreEquivalent s.load s.kept ys → chip_of s ≡ chip_of (with_kept s ys)
 alike_chip s ys h = ap (λ o. unwrap_or o []) (replay_equivalent s.load s.kept ys h)
 
--- what is told
+-- the history of a node
 alike_history : (s : State) (ys : List Event) → IsSome (replay s.load s.kept) → AreEquivalent s.load s.kept ys → (n : ℕ) → history_of s n ≡ history_of (with_kept s ys) n
 alike_history s ys some h n =
     let r = runs_of s some in
@@ -164,7 +164,8 @@ same_rewind s z n k some a =
     subst (λ x. (rewind_answer s n k ≡ rewind_answer x n k) × AreEquivalentStates (rewound s n k) (rewound x n k)) (alike_is s z a)
     (rewind_alike s z.kept n k some a.kept, rewound_alike s z.kept n k some a.kept)
 
--- Whatever led to two machines with one load, where each node has the same account, they keep the same but for the order.
+-- Whatever led to two machines with one load, if each node has the same local history, they keep the same events except for the
+-- order.
 abbrev pub KeepTheSame : List NodeRecord → State → State → Type 0
 KeepTheSame load s z = AreEquivalent load s.kept z.kept × (chip_of s ≡ chip_of z) × ((n : ℕ) → history_of s n ≡ history_of z n)
 

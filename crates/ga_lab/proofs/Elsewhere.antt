@@ -39,7 +39,7 @@ same_count : (b : Bool) (x y : ℕ) → b ≡ false → x ≡ cond b 1 0 + y →
 same_count true x y f h = absurd (cc)
 same_count false x y f h = omega arith
 
--- the events that are left run, and where no step of node m is left out, it stands at the end as it stood
+-- the remaining events run, and if no step of node m is left out, the node is the same at the end
 record Elsewhere (b last : List NodeRecord) (m : ℕ) (es : List Event) : Type 0 where
   pub now : List NodeRecord
   pub told : List (Cause × Told)

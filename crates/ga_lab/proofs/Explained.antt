@@ -23,7 +23,7 @@ use Rattle.ga_lab.proofs.Called.{with_kept, causes_is, runs_some}
 use Rattle.ga_lab.proofs.Reasoned.{replayed, takes_what_it_explains}
 use Rattle.ga_lab.proofs.Explaining.{no_cause, no_effect}
 
--- a step stands in both or in neither
+-- a step exists in both or in neither
 stands_alike : (s z : State) (n k : ℕ) → AreEquivalentStates s z → stands s n k ≡ stands z n k
 stands_alike s z n k a = ap (λ (x : ℕ). nat_le 1 k && nat_le k x) (equivalent_steps n s.load s.kept z.kept a.kept)
 
@@ -31,7 +31,7 @@ alike_runs : (s z : State) → IsSome (replay s.load s.kept) → AreEquivalentSt
 alike_runs s z some a =
     subst (λ (x : State). IsSome (replay x.load x.kept)) (alike_is s z a) (runs_some (with_kept s z.kept) ((both_run s z.kept some a.kept).there))
 
--- `why` refuses where one of the two steps doesn't stand
+-- `why` refuses if one of the two steps doesn't exist
 abbrev why : Bool → Bool → Result (Option (List Link)) LabFault → Type 0
 why a b answer = ((a && b) ≡ false) → answer ≡ Err NoStep
 
@@ -68,7 +68,7 @@ same_none s z n k m j some a = ⊎_elim
     left : stands (rewound s n k) m j ≡ stands (rewound z n k) m j
     left = stands_alike (rewound s n k) (rewound z n k) m j ((same_rewind s z n k some a).1)
 
--- a chain that is told is one
+-- a chain that is returned is a chain
 chain_told : (es : List Cause) (n k m j : ℕ) (links : List Link) → why_between es (place_of es n k) (place_of es m j) ≡ Ok (Some links) → IsChain es links
 chain_told es n k m j links h = go (place_of es n k) (place_of es m j) (λ i is. (touching es n k i is).0) h
   where

@@ -1,4 +1,4 @@
--- A chain of causes, told.
+-- A chain of causes, as the events of its links.
 use Rattle.std.proofs.Common.{◌≡◌, ℕ, zero, suc, ◌+◌, ◌<◌, List, [], ◌∷◌, length, map, All, Some, None, Ok, Err, refl, sym, ◌∙◌, ap, subst, arith, ◌⊎◌, inl, inr, ◌≤◌, true, false, ◌&&◌, ◌↔◌, ⊎_elim, ◌-◌, ◌++◌, drop, length-drop}
 use Rattle.std.specs.Prelude.{Option, slice_index, IsOk, Result, is_some, is_ok, nat_le, nat_lt}
 use Rattle.std.specs.List.Sorted.{IsStrictlyIncreasing}
@@ -50,7 +50,7 @@ pub chain_within : (es : List Cause) (links : List Link) → IsChain es links �
 chain_within es [] h = absurd h
 chain_within es (first ∷ links) h = All-cons (λ (place : ℕ). place < length es) first.place (places links) h.0 (linked_within es first.place links h.2)
 
--- what is told of its places
+-- the events at its places
 told_places : (told : List (Cause × Told)) (links : List Link) → map (made_in told) (places links) ≡ map (λ (link : Link). made_in told link.place) links
 told_places told [] = refl
 told_places told (x ∷ xs) = ap (λ z. made_in told x.place ∷ z) (told_places told xs)
@@ -76,7 +76,7 @@ pub answered : (es : List Cause) (n k m j : ℕ) (links : List Link)
 answered es n k m j links (inl h) = answered_chain es n k m j links h
 answered es n k m j links (inr h) = absurd (let bad = h.0 in cc)
 
--- as many causes are told as events are kept
+-- there are as many causes as events of the history
 pub kept_long : (chip : List NodeState) (book : Book) (s : State) → IsTied chip book → state_of chip book ≡ s → length (causes_of s) ≡ length (kept_of book)
 kept_long chip book s tied is =
     ap (λ (z : State). length (causes_of z)) (sym is) ∙ ap length (causes_tied chip book tied) ∙ length-map (kept_of book) (λ (x : Cause × Told). x.0)
@@ -89,7 +89,7 @@ told_links chip book s links tied is =
 
 -- ---- why a step came about
 
--- a step stands exactly where it has a place
+-- a step exists exactly if it has a place
 stands_suc : (n k steps : ℕ) → nat_lt k steps ≡ (nat_le 1 (suc k) && nat_le (suc k) steps)
 stands_suc n k steps = ⊎_elim
     (λ l. lt-ltb k steps l ∙ sym (and_from (nat_le 1 (suc k)) (nat_le (suc k) steps) (le-leb 1 (suc k) (omega arith)) (le-leb (suc k) steps (omega arith))))
@@ -115,7 +115,7 @@ unfolding state_of
 stands_read chip book n k steps some is =
     ap (nat_le k) is ∙ ap (λ z. z && nat_le k (steps_of n (events_of book))) (sym (le-leb 1 k some))
 
--- where one of the steps doesn't stand
+-- if one of the steps doesn't exist
 pub no_cause : (s : State) (n k m j : ℕ) → IsReplayed s → stands s n k ≡ false → why_answer s n k m j ≡ Err NoStep
 no_cause s n k m j same h = ap (λ (o : Option ℕ). why_between (causes_of s) o (place_of (causes_of s) m j)) (place_none s n k same h)
 
@@ -127,7 +127,7 @@ pub no_effect : (s : State) (n k m j : ℕ) → IsReplayed s → stands s m j �
 no_effect s n k m j same h =
     ap (why_between (causes_of s) (place_of (causes_of s) n k)) (place_none s m j same h) ∙ to_none (causes_of s) (place_of (causes_of s) n k)
 
--- where both stand
+-- if both exist
 ok_between : (causes : List Cause) (a b : Option ℕ) → is_some a ≡ true → is_some b ≡ true → IsOk (why_between causes a b)
 ok_between causes None b h k = absurd (cc)
 ok_between causes (Some i) None h k = absurd (cc)
@@ -162,7 +162,7 @@ why_refused s n k m j result same h = (
   λ f. refuses s n k m j result same h f,
 )
 
--- a step that stands is counted from 1 on, and its node has made so many
+-- a step that exists is counted from 1 on, and its node has made at least this number of steps
 pub stands_counted : (s : State) (n k : ℕ) → stands s n k ≡ true → 0 < k
 stands_counted s n k h = leb-true 1 k (and_parts (nat_le 1 k) (nat_le k (steps_of n s.kept)) h).0
 
@@ -197,14 +197,14 @@ cause_place all n k m causes before steps s =
     numbered : (a b : ℕ) → a + 1 ≡ b → suc a ≡ b
     numbered a b h = omega arith
 
--- a step that stands among the last events
+-- a step that is among the last events
 effect_later : (all : List Cause) (n k m j : ℕ) (causes : List Cause) (before steps : ℕ) → IsSince all n k m causes before steps → steps < j → place_of all m j ≡ on_by before (place_of causes m (j - steps))
 effect_later all n k m j causes before steps s l =
     let t : touching m s.earlier ≡ steps = touching_in m s.earlier ∙ s.others in
     ap (λ z. place_of z m j) (sym s.parts) ∙ place_later m j s.earlier causes (subst (λ (z : ℕ). z < j) (sym t) l)
     ∙ ap (λ (z : ℕ). on_by (length s.earlier) (place_of causes m (j - z))) t ∙ ap (λ (z : ℕ). on_by z (place_of causes m (j - steps))) s.count
 
--- one that stands before them
+-- one that comes before them
 record IsEarlier (all : List Cause) (m j before : ℕ) : Type 0 where
   place : ℕ
   is : place_of all m j ≡ Some place

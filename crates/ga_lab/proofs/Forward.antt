@@ -165,7 +165,7 @@ before load (x ∷ xs) e h =
       can = b.can;
     }
 
--- a machine with another list, of which so many were made
+-- a machine with another list, and with `made` events made
 abbrev pub keeping : State → List Event → ℕ → State
 keeping s xs made = record s { kept = xs; made = made }
 

@@ -27,12 +27,12 @@ use Rattle.ga_causal.proofs.Shuffles.{touched_of}
 use Rattle.ga_event.specs.declared.event.Event.TheVariants as event
 use Rattle.ga_event.specs.declared.made.Made.TheVariants as made
 
--- the event of which this is told, but for the side of a pass, which shows in neither of its nodes
+-- the event that was made, except for the side of a pass, which shows in neither of its nodes
 abbrev pub event_in : Made → Event
 event_in (made.Own node k kind) = event.Own node
 event_in (made.Pass w k r j word) = event.Pass w r Right
 
--- its word: what is told of a pass, or the first of the words that looks read, where it is a look
+-- its word: that of a pass, or the first of the words that looks read, if it is a look
 abbrev pub Takes : Made → List ℕ → Option ℕ → List ℕ → Type 0
 Takes (made.Own node k kind) ws word vs = ws ≡ option_to_list word ++ vs
 Takes (made.Pass w k r j told) ws word vs = (word ≡ Some told) × (ws ≡ vs)
@@ -71,7 +71,7 @@ traced_one n x (m ∷ ms) ws y z (u, word, vs, b, t, l) (v, other, us, c, w, k) 
     let at : u ≡ v = becomes_one n x (event_in m) other u v (subst (λ o. Becomes n x (event_in m) o u) same.0 b) c in
     traced_one n v ms us y z (subst (λ o. Traced n v ms o y) same.1 (subst (λ o. Traced n o ms vs y) at l)) k
 
--- an event that was made, told and with its word
+-- an event as made, with its word
 made_traced : (n : ℕ) (c mid : List NodeRecord) (e : Event) (before : List Event) (y : NodeRecord) (ms : List Made) (ws : List ℕ)
     → Becomes n (record_at c n) e (word_of c e) (record_at mid n) → Traced n (record_at mid n) ms ws y
     → Traced n (record_at c n) (option_to_list (made_after before e (after c e).1) ++ ms) (look_word e (word_of c e) ++ ws) y
@@ -100,7 +100,7 @@ traced n c last (e ∷ es) ts before l h =
     (sym (ap (λ z. z.0) (after_is c m.mid e m.told m.first)))
     (traced_more n c m.mid e m.told before (record_at last n) (mades_after (before ++ e ∷ []) m.others n) (account_read n m.mid es) l m.first later (touches e n) refl))
 
--- machines with one load, of which the same is told of a node and in which its looks read the same words
+-- machines with one load, in which a node has the same history and its looks read the same words
 node_alike : (s z : State) (n : ℕ) → Runs s → Runs z → s.load ≡ z.load → history_of s n ≡ history_of z n → words_read n s.load s.kept ≡ words_read n z.load z.kept
     → record_at (chip_of s) n ≡ record_at (chip_of z) n
 node_alike s z n r q load told words =
@@ -144,9 +144,9 @@ same_chip load limit bound calls others told words =
     let there : length load ≡ length (chip_of z) = ap length (sym (calls_load (first load bound) others)) ∙ same_size z.load q.last z.kept q.told q.run_is ∙ ap length (sym (chip_is z q)) in
     ext_get_or (record_of nowhere) (chip_of s) (chip_of z) (sym here ∙ there) (λ n l. same_node load limit bound calls others n (told n) (words n))
 
--- ---- where no event of a machine looks, none does in another of which the same is told
+-- ---- if no event of a machine looks, none does in another with the same histories
 
--- where the same history goes with no words, no words go with it
+-- if the same history has no words in one machine, it has none in the other
 Silent : Option ℕ → Option ℕ → List ℕ → List ℕ → List ℕ → Type 0
 Silent word other vs ws us = (word ≡ other) × (vs ≡ []) × (ws ≡ us)
 

@@ -177,7 +177,7 @@ walked_left now h k value what l is held = ⊎_elim
 
 -- ---- of a node of a lab
 
--- a node where it had made so many steps
+-- the record of a node after `at` of its steps
 there : (chip : List NodeState) (book : Book) (n at place : ℕ) → IsTied chip book → steps_of n (take place (state_of chip book).kept) ≡ at
     → record_of (walked (node_at chip n) (drop at (history book.histories n))) ≡ record_at (chip_of (earlier (state_of chip book) place)) n
 there chip book n at place tied so_many = peeked chip book n place at (walked (node_at chip n) (drop at (history book.histories n))) tied so_many refl

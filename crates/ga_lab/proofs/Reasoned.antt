@@ -101,7 +101,7 @@ takes_what_it_explains s n k m j some h g =
     (ap (λ (o : Option ℕ). why_between (causes_of s) o (place_of (causes_of s) m j)) a.is ∙ ap (λ (o : Option ℕ). why_between (causes_of s) (Some a.at) o) b.is)
     (sym (stands_place (rewound s n k) m j (rewound_replayed s n k a.at some a.is)) ∙ ap (λ z. is_some (place_of z m j)) (rewound_causes s n k a.at some a.is))
 
--- the causes after a rollback, whether the step stands or not
+-- the causes after a rollback, whether the step exists or not
 pub rewound_list_causes : (s : State) (n k : ℕ) → IsSome (replay s.load s.kept) → causes_of (rewound s n k) ≡ rewound_list (causes_of s) n k
 rewound_list_causes s n k some = go (place_of (causes_of s) n k) refl
   where

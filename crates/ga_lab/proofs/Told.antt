@@ -1,4 +1,4 @@
--- A node's history is told by its account.
+-- A node's history is determined by its local history (`account`).
 use Rattle.std.proofs.Common.{◌≡◌, ℕ, ◌+◌, Bool, true, false, cond, List, [], ◌∷◌, ◌++◌, map, Some, None, refl, sym, ◌∙◌, ap, arith, get_or}
 use Rattle.std.specs.Prelude.{Option, option_to_list}
 use Rattle.std.specs.List.{filter, flat_map}
@@ -18,7 +18,7 @@ use Rattle.ga_event.specs.declared.made.Made.{Made}
 use Rattle.ga_event.specs.declared.made.Made.TheVariants as made
 use Rattle.ga_event.specs.Told.{steps_of, made_after, mades_after, mades_of}
 
--- what is told of an event, by its numbers
+-- an event as made, by its step numbers and its outcome
 abbrev made_by : Event → List ℕ → Told → Option Made
 made_by (event.Own node) ns (Did kind) = Some (made.Own node (get_or ns 0 0) kind)
 made_by (event.Pass w r side) ns (Carried word) = Some (made.Pass w (get_or ns 0 0) r (get_or ns 1 0) word)
@@ -58,7 +58,7 @@ mades_accounted n before s (x ∷ xs) h =
     (ap option_to_list (made_numbered before s h x.0 x.1))
     (mades_accounted n (before ++ x.0.event ∷ []) (counted s x.0) xs (one_more before s h x.0))
 
--- the history of a node is told by its account
+-- a node's history is made of its local history with outcomes
 pub history_accounted : (told : List (Cause × Told)) (n : ℕ) → mades_of told n ≡ flat_map made_of (account_told n told)
 history_accounted told n = mades_accounted n [] (λ m. 0) told (λ m. refl)
 

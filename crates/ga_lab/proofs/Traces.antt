@@ -1,4 +1,4 @@
--- Where no kept event looks, the histories tell the kept events.
+-- If no event of the history looks, the nodes' histories determine it.
 use Rattle.std.proofs.Common.{◌≡◌, ℕ, ◌+◌, Bool, true, false, cond, List, [], ◌∷◌, ◌++◌, map, Some, None, refl, sym, ◌∙◌, ap, subst, arith, append-nil, eqb-true}
 use Rattle.std.specs.Prelude.{Option}
 use Rattle.std.specs.List.{filter, flat_map}
@@ -34,7 +34,7 @@ use Rattle.ga_lab.proofs.Called.{Runs, told_is, causes_is, first_runs, calls_loa
 use Rattle.ga_lab.proofs.Alike.{consistent}
 use Rattle.ga_lab.proofs.Heard.{none_looks}
 
--- the side on which a neighbour stands
+-- the side on which a neighbour is
 side_of : ℕ → ℕ → Side
 side_of w r = cond (is_number (neighbour_of w Right) r) Right (cond (is_number (neighbour_of w Down) r) Down (cond (is_number (neighbour_of w Left) r) Left Up))
 
@@ -82,12 +82,12 @@ side_is w r Up h =
 blind : Event → Cause
 blind e = record { event = e; look = false }
 
--- the event of which this is told
+-- the event and outcome of an event as made
 decoded : Made → (Cause × List ℕ) × Told
 decoded (made.Own node k kind) = ((blind (event.Own node), k ∷ []), Did kind)
 decoded (made.Pass w k r j word) = ((blind (event.Pass w r (side_of w.number r.number)), k ∷ j ∷ []), Carried word)
 
--- what is told of it tells it
+-- it can be decoded from its form as made
 IsTellable : (Cause × List ℕ) × Told → Type 0
 IsTellable x = (m : Made) × (made_of x ≡ m ∷ []) × (decoded m ≡ x)
 
@@ -178,7 +178,7 @@ told_back (x ∷ xs) h = one h.0 (told_back xs h.1)
     one : IsTellable x → map decoded (flat_map made_of xs) ≡ xs → map decoded (made_of x ++ flat_map made_of xs) ≡ x ∷ xs
     one (m, p, q) k = ap (λ z. map decoded (z ++ flat_map made_of xs)) p ∙ ap (λ z. z ∷ map decoded (flat_map made_of xs)) q ∙ ap (λ z. x ∷ z) k
 
--- the account of a node, out of the account with what was told
+-- the local history of a node, out of the one with outcomes
 untold : (n : ℕ) (s : ℕ → ℕ) (ts : List (Cause × Told)) → filter (λ (x : Cause × List ℕ). cause_touches x.0 n) (entries s (causes ts)) ≡ map (λ x. x.0) (filter (λ (x : (Cause × List ℕ) × Told). cause_touches x.0.0 n) (told_after s ts))
 untold n s [] = refl
 untold n s (x ∷ ts) = go (cause_touches x.0 n) _ _ (untold n (counted s x.0) ts)

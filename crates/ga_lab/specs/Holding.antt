@@ -1,11 +1,13 @@
--- What a node holds at a place, of those whose old values can be asked for alone (F18A Technology Reference DB001, registers and memory).
+-- The value of a node at a place, for the places whose old values can be queried alone (F18A Technology Reference DB001,
+-- registers and memory).
 use Rattle.std.specs.Prelude.{ℕ, ◌≡◌, slice_index}
 use Rattle.ga_node.specs.Record.{NodeRecord}
 use Rattle.ga_node.specs.State.{wait_of}
 use Rattle.ga_node.specs.declared.place.Place.{Place}
 use Rattle.ga_node.specs.declared.place.Place.TheVariants.{P, A, B, Ram, Wait}
 
--- a node holds this value at a place: in P, in A, in B or in a cell of RAM, or as the number of its wait; of other places nothing is said
+-- whether a node has this value at a place: in P, in A, in B or in a cell of RAM, or as the number of its wait; true for other
+-- places
 abbrev pub Holds : NodeRecord → Place → ℕ → Type 0
 Holds node P value = node.p ≡ value
 Holds node A value = node.a ≡ value

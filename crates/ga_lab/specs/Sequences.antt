@@ -20,7 +20,7 @@ AllNamed (step n ∷ calls) = AllNamed calls
 AllNamed (undo ∷ calls) = ⊥
 AllNamed (rewind n k ∷ calls) = AllNamed calls
 
--- so many undos
+-- a number of undos
 abbrev pub undos : ℕ → List MachineCall
 undos zero = []
 undos (suc most) = undo ∷ undos most
@@ -40,7 +40,7 @@ pub data AreCausal : State → List MachineCall → List MachineCall → Type 0 
   chained : {s : State} {xs ys zs : List MachineCall} → AreCausal s xs ys → AreCausal s ys zs → AreCausal s xs zs
   -- one call more at the beginning of both sequences
   before : {s : State} {call : MachineCall} {xs ys : List MachineCall} → AreCausal (called s call) xs ys → AreCausal s (call ∷ xs) (call ∷ ys)
-  -- the same calls more at the end of both sequences: none is an undo, or (in `onward`) both sequences lead to the same kept events
+  -- the same calls more at the end of both sequences: none is an undo, or (in `onward`) both sequences lead to the same history
   more : {s : State} (xs ys zs : List MachineCall) → AllNamed zs → CanCountAll s (xs ++ zs) → CanCountAll s (ys ++ zs)
       → AreCausal s xs ys → AreCausal s (xs ++ zs) (ys ++ zs)
   onward : {s : State} (xs ys zs : List MachineCall) → (called_all s xs).kept ≡ (called_all s ys).kept

@@ -1,6 +1,6 @@
-//! Laws over the machine, each the contract of a function that does no work. Where one is of machines that are reached (`IsReached`),
-//! it is of each to which steps, undos and rollbacks lead from a load. Of others it isn't said: what they keep need not have been
-//! made, and then they have no chip.
+//! Laws of the machine, each the contract of a function that does no work. Those of reached machines (`IsReached`) hold of each
+//! machine to which steps, undos and rollbacks lead from a load. They needn't hold of others: the events of their list need not
+//! have been made, and then they have no chip.
 
 ghost use Rattle.std.specs.Prelude.{◌≡◌, ◌<◌, ◌≤◌, ◌^◌, ◌↔◌, ℕ, true, List, [], ◌∷◌, ◌++◌, ◌+◌, ◌-◌, length, map, Some, None, Ok, IsSome};
 ghost use Rattle.ga_event.specs.declared.event.Event.{Event};
@@ -32,14 +32,14 @@ pub fn machine_stays_steady()
     laws::stays_steady();
 }
 
-/// What a step answers is told of it later, at the place behind the events that were kept before.
+/// The event that a step returns is the one that the history has later, at the place after the events before it.
 #[tactic(auto, using(crate::proofs::Stepping::told_later))]
 pub fn told_later()
     ensures { (s : State) (n : NodeId) (told : Made) → IsSome (replay s.load s.kept) →
         step_answer s n ≡ Ok told → made_in (told_of_kept (stepped s n)) (length s.kept) ≡ Some told }
 {}
 
-/// Whatever is called, the kept events can be replayed from the load.
+/// After any calls, the history can be replayed from the load.
 #[tactic(auto, using(crate::proofs::Called::reached))]
 pub fn reached()
     ensures { (load : List NodeRecord) (limit : ℕ) (calls : List MachineCall) →
@@ -69,9 +69,9 @@ pub fn undone_rewound()
         s.kept ≡ events ++ event ∷ [] → touches event n ≡ true → undone s ≡ rewound s n (steps_of n s.kept) }
 {}
 
-/// Causal consistency of the machine (Danos and Krivine): whatever steps, undos and rollbacks led to two machines from
-/// one load, if each node has the same account in both, then they keep the same events but for the order of independent ones, their
-/// chips are the same, and so is each history. `order_unseen` says the other direction.
+/// Causal consistency of the machine (Danos and Krivine): whatever steps, undos and rollbacks led to two machines from one
+/// load, if each node has the same local history in both, then they keep the same events except for the order of independent
+/// ones, their chips are the same, and so is each node's `trace`. `order_unseen` is the other direction.
 pub fn same_accounts()
     ensures { (load : List NodeRecord) (limit bound : ℕ) (calls others : List MachineCall) →
         let s = called_all (first load limit) calls in
@@ -80,11 +80,11 @@ pub fn same_accounts()
         AreEquivalent load s.kept z.kept × (chip_of s ≡ chip_of z) × ((n : ℕ) → history_of s n ≡ history_of z n) }
 {}
 
-/// Causal consistency of sequences of calls (Danos and Krivine): two sequences from one load are causally equivalent, which is that
-/// a step followed by its undo is nothing and independent steps swap, exactly where they end alike. That they end alike holds of
-/// all, from any machine that is reached. The other direction is of sequences from the load, and wants that no rollback takes a
-/// look, since what a neighbour did after the look stays, and then the rollback is no undos (`examples/look_again`). It goes over as
-/// many steps and undos again, which have to be counted: so less than half of 2^64 calls.
+/// Causal consistency of sequences of calls (Danos and Krivine): two sequences from one load are causally equivalent, which is
+/// that a step followed by its undo cancels and independent steps swap, exactly if they end alike. Equivalent sequences from
+/// any reached machine end alike. The other direction is for sequences from the load, and requires that no rollback removes a
+/// look: what a neighbour did after the look stays, and then the rollback is no sequence of undos (`examples/look_again`). It
+/// makes as many steps and undos again, which have to be counted: hence less than half of 2^64 calls.
 #[tactic(auto, using(crate::proofs::Sequences::sound, crate::proofs::Again::runs_reached, crate::proofs::Causal::related))]
 pub fn causal_calls()
     ensures ends { (s : State) (calls others : List MachineCall) → IsReached s → AreCausal s calls others →
@@ -96,8 +96,8 @@ pub fn causal_calls()
         AreCausal (first load limit) calls others }
 {}
 
-/// The order of independent events shows in no chip, in no account or history, and in no answer to a step or a rollback, nor later.
-/// (An undo shows it: it drops the newest event.)
+/// The order of independent events shows in no chip, in no local history or `trace`, and in no answer to a step or a rollback,
+/// nor later. (An undo shows it: it removes the newest event.)
 pub fn order_unseen()
     ensures chip { (s z : State) → AreEquivalentStates s z → chip_of s ≡ chip_of z }
     ensures account { (s z : State) (n : ℕ) → IsReached s → AreEquivalentStates s z →
@@ -109,10 +109,10 @@ pub fn order_unseen()
         (rewind_answer s n k ≡ rewind_answer z n k) × AreEquivalentStates (rewound s n k) (rewound z n k) }
 {}
 
-/// `why` finds a chain in both of two machines that differ by the order of independent events, or in neither, and each chain that it
-/// tells of the one is a chain of the other: the same steps, each of which depends directly on the one before by the same rule. (It
-/// need not be the one that is told there: where several of the events on which a step depends directly lead back to the first, the
-/// one that was made first is told.)
+/// `why` finds a chain in both of two machines that differ by the order of independent events, or in neither, and each chain
+/// that it returns for the one is a chain of the other: the same steps, each of which depends directly on the one before by the
+/// same rule. (It need not be the one that is returned there: where several of the events on which a step depends directly lead
+/// back to the first, the one that was made first is in the chain.)
 #[tactic(auto, using(crate::proofs::Explained::same_none, crate::proofs::Again::some_reached, crate::proofs::Explained::same_chain))]
 pub fn why_unseen()
     ensures none { (s z : State) (n k m j : ℕ) → IsReached s → AreEquivalentStates s z →
@@ -122,9 +122,9 @@ pub fn why_unseen()
         (chain : List Link) × IsChain (causes_of z) chain × (links_by_events (causes_of s) links ≡ links_by_events (causes_of z) chain) }
 {}
 
-/// Where no kept event of one of two machines looks, the histories of the nodes, which are what `trace` prints, tell the kept events
-/// but for the order of independent ones, and with them the chip: another with the same histories has no look either. (Where one
-/// looks they don't: it reads another word where a neighbour made a step before it, and is told alike.)
+/// If no event of one of two machines looks, the histories of the nodes, which are what `trace` prints, determine all events
+/// except for the order of independent ones, and with them the chip: another machine with the same histories has no look
+/// either. (If one looks they don't: it reads another word if a neighbour made a step before it, and prints alike.)
 pub fn traces_tell()
     ensures { (load : List NodeRecord) (limit bound : ℕ) (calls others : List MachineCall) →
         let s = called_all (first load limit) calls in
@@ -133,11 +133,12 @@ pub fn traces_tell()
         AreEquivalent load s.kept z.kept × (chip_of s ≡ chip_of z) }
 {}
 
-/// The histories of the nodes, together with the words that their looks read, tell the chip, whoever looks: a node of which `trace`
-/// tells the same, and whose looks read the same words, is the same, whatever else differs. So the account of a node with the words
-/// that came to it determines it (after Danos and Krivine, whose processes stand beside the memory of what they received). Whose
-/// looks differ, or were not told, may differ (`traces_tell`). The order of the kept events isn't told: a look may have read a word
-/// before or after a step of a neighbour that shows no wait, and a rollback of that step takes it or leaves it.
+/// The histories of the nodes, together with the words that their looks read, determine the chip, whoever looks: a node with
+/// the same `trace`, whose looks read the same words, is the same, whatever else differs. The local history of a node with the
+/// words that it received thus determines it (after Danos and Krivine, who pair a process with the memory of what it received).
+/// If its looks read other words, it may differ (`traces_tell`). The order of all events is not determined: a look may have
+/// read a word before or after a step of a neighbour that shows no wait, and a rollback of that step removes the look or keeps
+/// it.
 #[tactic(auto, using(crate::proofs::Heard::same_node, crate::proofs::Heard::same_chip))]
 pub fn words_tell()
     ensures node { (load : List NodeRecord) (limit bound : ℕ) (calls others : List MachineCall) (n : ℕ) →
@@ -152,16 +153,16 @@ pub fn words_tell()
         chip_of s ≡ chip_of z }
 {}
 
-/// Whatever was taken back, the machine stands where steps alone lead from the load: one step for each kept event, in their order,
-/// of a pass one of its writer.
+/// Whatever was undone, the machine is where steps alone lead from the load: one step for each event of the history, in order,
+/// for a pass one of its writer.
 #[tactic(auto, using(crate::proofs::Forward::reached_forward, crate::proofs::Again::some_reached, crate::proofs::Again::kept_reached, crate::proofs::Again::count_reached))]
 pub fn reached_forward()
     ensures { (s : State) → IsReached s →
         stepped_all (first s.load s.limit) (map actor_of s.kept) ≡ record s { made = length s.kept } }
 {}
 
-/// `why` finds no chain from a step to another exactly where a rollback of the first leaves the other standing. Both must stand:
-/// `why` refuses a step that doesn't.
+/// `why` finds no chain from a step to another exactly if a rollback of the first keeps the other. Both must exist: `why`
+/// refuses a step that doesn't.
 #[tactic(auto, using(crate::proofs::Reasoned::takes_what_it_explains, crate::proofs::Again::some_reached))]
 pub fn takes_what_it_explains()
     ensures { (s : State) (n k m j : ℕ) → IsReached s → stands s n k ≡ true → stands s m j ≡ true →
@@ -194,7 +195,7 @@ pub fn remade()
         AreEquivalent s.load s.kept z.kept × (chip_of z ≡ chip_of s) }
 {}
 
-/// A node that keeps all its steps stands after a rollback as it stood before. Another stands where its first steps left it.
+/// A node that keeps all its steps is the same after a rollback as before.
 #[tactic(auto, using(crate::proofs::Elsewhere::stays_elsewhere, crate::proofs::Again::some_reached))]
 pub fn stays_elsewhere()
     ensures { (s : State) (n k m : ℕ) → IsReached s → steps_of m (rewound s n k).kept ≡ steps_of m s.kept →

@@ -28,6 +28,6 @@ pub record IsWalk (chip : List NodeState) (book : Book) (id : NodeId) (step : �
   pub within : step ≤ length (history book.histories id.number)
   pub walked_to : node ≡ walked (node_at chip id.number) (drop step (history book.histories id.number))
 
--- the kept events that are not told yet, of the machine
+-- a reading of the journal's history as one of the machine's
 abbrev pub telling_of : List NodeState → Untold → Telling
 telling_of chip walk = telling (state_of chip walk.book) walk.place

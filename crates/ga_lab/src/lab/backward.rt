@@ -1,12 +1,12 @@
-//! The kept events of a lab, told one by one from the newest back.
+//! The history of a lab, read one event at a time from the newest back.
 
 use super::Lab;
 use ga_event::Made;
 use ga_grid::{Chip, NodeId};
 use std::marker::Model;
 
-/// The kept events of a lab, to be told one by one from the newest back. Of the lab nothing is taken back. A contract sees the lab's
-/// machine, and how many of its kept events are not told yet.
+/// A reader of a lab's history, one event at a time from the newest back. Nothing of the lab is undone. A contract sees the
+/// lab's machine, and how many events of the history are not read yet.
 #[derive(Drop)]
 pub struct Backward<'l> {
     chip: &'l Chip,
@@ -30,7 +30,7 @@ impl<'l> Backward<'l> {
     ghost use Rattle.ga_event.specs.Told.{steps_of};
     ghost use Rattle.ga_lab.specs.Machine.{told_before};
 
-    /// How many of the kept events are not told yet: the place of the one that was told last.
+    /// The number of events that are not read yet: the place of the one that was read last.
     pub fn place(&self) -> u32
         ensures value { result ≡ self.now.place }
         ensures within { result ≤ length self.now.machine.kept }
@@ -38,15 +38,15 @@ impl<'l> Backward<'l> {
         self.walk.place()
     }
 
-    /// How many steps a node had made in the events that are not told yet.
+    /// The number of steps of a node in the events that are not read yet.
     pub fn steps(&self, node: NodeId) -> u32
         ensures { result ≡ steps_of node.number (take self.now.place self.now.machine.kept) }
     {
         self.walk.steps(node)
     }
 
-    /// What is told of the event right before the place, which is the place from then on; none where no event is left. Takes no memory,
-    /// and as long whatever is kept.
+    /// Reads the event right before the place, which becomes the place, and returns it as made; none if no event is left. Takes
+    /// no memory, and the same time whatever the history is.
     pub fn back(&mut self) -> Option<Made>
         ensures told { result ≡ told_before self.old.machine self.old.place }
         ensures none { IsNone result ↔ (self.old.place ≡ 0) }
@@ -60,7 +60,7 @@ impl Lab {
     ghost use Rattle.std.specs.Prelude.{◌≡◌, length};
     ghost use Rattle.ga_lab.specs.Machine.{telling};
 
-    /// The kept events, to be told one by one from the newest back. Takes no memory.
+    /// A reader of the history, one event at a time from the newest back. Takes no memory.
     pub fn backward(&self) -> Backward<'_>
         ensures { result ≡ telling self.now (length self.now.kept) }
     {

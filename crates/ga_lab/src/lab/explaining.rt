@@ -1,4 +1,4 @@
-//! A chain of causes, told.
+//! A chain of causes, as the events of its links.
 
 use super::Lab;
 use crate::fault::LabFault;
@@ -13,9 +13,9 @@ impl Lab {
     ghost use Rattle.ga_event.specs.Told.{made_in};
     ghost use Rattle.ga_lab.specs.Machine.{told_of_kept, causes_of, stands, why_answer};
 
-    /// The chain that `why` answers, told: of each link, in their order, what `made_at` tells of its place. None where the second
-    /// step does not depend on the first. It walks back twice to the first step, however long the chain is, and takes memory by
-    /// what came after that step.
+    /// The chain that `why` returns, as events: of each link, in their order, what `made_at` returns for its place. None if the
+    /// second step does not depend on the first. Walks back twice to the first step, however long the chain is, and takes
+    /// memory linear in the number of events after that step.
     ///
     /// # Errors
     /// `NoStep`, where a node has no such step; then `Memory`.
@@ -42,7 +42,7 @@ impl Lab {
         }
     }
 
-    // What is told of the links of a chain, in one walk.
+    // The events of the links of a chain, in one walk.
     fn tell(&self, chain: &Chain) -> Result<Vec<Made>, LabFault>
         requires { IsChain (causes_of self.now) chain.now }
         ensures ok { IfOk result (λ list.

@@ -1,4 +1,4 @@
-//! The kept events of a lab with their causes, as one list.
+//! The history of a lab with its causes, as one list.
 
 use super::Lab;
 use crate::fault::LabFault;
@@ -9,8 +9,8 @@ impl Lab {
     ghost use Rattle.ga_causal.specs.Dependence.{place_of};
     ghost use Rattle.ga_lab.specs.Machine.{causes_of, stands};
 
-    /// The kept events in order, each with whether it looked at the neighbours of its node. A step stands exactly where it has a
-    /// place in this list.
+    /// The events of the history in order, each with whether it looked at the neighbours of its node. A step exists exactly if
+    /// it has a place in this list.
     ///
     /// # Errors
     /// `Memory` alone.

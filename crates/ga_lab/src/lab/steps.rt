@@ -1,4 +1,4 @@
-//! A lab asked by the steps of one node.
+//! Queries of a lab by the steps of one node.
 
 use super::Lab;
 use crate::fault::LabFault;
@@ -20,8 +20,8 @@ impl Lab {
         self.chronicle.journal.steps_of(node)
     }
 
-    /// What is told of a node's step, the first of which is at place 0; none past its steps. Takes no memory, and as long whatever
-    /// is kept.
+    /// A node's step as made, the first of which is at place 0; none past its steps. Takes no memory, and the same time
+    /// whatever the history is.
     #[tactic(auto, using(crate::proofs::Replays::told_tied))]
     pub fn told(&self, node: NodeId, place: u32) -> Option<Made>
         ensures { result ≡ slice_get (history_of self.now node.number) place }
@@ -29,8 +29,8 @@ impl Lab {
         self.chronicle.told(node, place)
     }
 
-    /// What `rewind` would take: so many events, and of each node so many steps. Nothing is taken back. Takes no memory, and time by
-    /// how many steps would go, whatever else is kept.
+    /// What `rewind` would remove: the number of events, and the number of steps of each node. Nothing is removed. Takes no
+    /// memory, and time linear in the number of steps that would be removed, whatever the rest of the history is.
     ///
     /// # Errors
     /// `NoStep`, where the node has no such step.

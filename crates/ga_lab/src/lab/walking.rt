@@ -6,7 +6,7 @@ use ga_journal::Chronicle;
 use ga_node::{Node, Place};
 use std::marker::Model;
 
-/// A copy of a node as it was right after one of its steps, which goes back step by step. Of the lab nothing is taken back. A
+/// A copy of a node as it was right after one of its steps, which is walked back step by step. Nothing of the lab is undone. A
 /// contract sees the lab's machine, the node, and how many steps it had made.
 #[derive(Drop)]
 pub struct Walk<'l> {
@@ -35,7 +35,7 @@ impl<'l> Walk<'l> {
     ghost use Rattle.ga_event.specs.Told.{steps_of};
     ghost use Rattle.ga_lab.specs.Machine.{chip_of, earlier};
 
-    /// How many steps the node had made where the walk stands.
+    /// The number of steps that the node had made at this point of the walk.
     pub fn step(&self) -> u32
         ensures value { result ≡ self.now.step }
         ensures within { result ≤ steps_of self.now.node.number self.now.machine.kept }
@@ -43,8 +43,8 @@ impl<'l> Walk<'l> {
         self.step
     }
 
-    /// The node as it was where the walk stands: at each place of the list of kept events at which it had made so many steps, it is the
-    /// node to which replaying the events before the place leads.
+    /// The node as it was at this point of the walk: at each place of the history at which it had made this number of steps, it
+    /// is the node to which replaying the events before the place leads.
     pub fn node(&self) -> &Node
         ensures { (place : ℕ) → steps_of self.now.node.number (take place self.now.machine.kept) ≡ self.now.step
             → record_of result.now ≡ record_at (chip_of (earlier self.now.machine place)) self.now.node.number }
@@ -65,7 +65,7 @@ impl<'l> Walk<'l> {
         }
     }
 
-    /// Goes back by a step. Takes no memory, and as long whatever is kept.
+    /// Walks back by a step. Takes no memory, and the same time whatever the history is.
     pub fn back(&mut self)
         requires { 0 < self.old.step }
         ensures { self.new ≡ record self.old { step = self.old.step - 1 } }
@@ -73,7 +73,7 @@ impl<'l> Walk<'l> {
         self.back_to(self.step - 1);
     }
 
-    /// Goes back to an earlier step. Takes no memory, and time by how many steps lie between.
+    /// Walks back to an earlier step. Takes no memory, and time linear in the number of steps between.
     pub fn back_to(&mut self, step: u32)
         requires { step ≤ self.old.step }
         ensures { self.new ≡ record self.old { step = step } }
@@ -110,9 +110,10 @@ impl Lab {
         }
     }
 
-    /// What a place of a node held right before its step, the one at a position from 0 on, where the step wrote there: P, A, B, the
-    /// number of the wait, or a cell of RAM. What is kept of the step says it, with no walk. None where the step didn't write there, past
-    /// the node's steps, and for each other place. Takes no memory, and as long whatever is kept.
+    /// The value of a place of a node right before its step, the one at a position from 0 on, if the step wrote there: P, A, B,
+    /// the number of the wait, or a cell of RAM. It is read from the step's entry, without a walk. None if the step didn't
+    /// write there, past the node's steps, and for each other place. Takes no memory, and the same time whatever the history
+    /// is.
     pub fn overwritten(&self, node: NodeId, at: u32, what: Place) -> Option<u32>
         ensures value { IfSome result (λ old. (place : ℕ) → steps_of node.number (take place self.now.kept) ≡ at
             → Holds (record_at (chip_of (earlier self.now place)) node.number) what old) }
