@@ -21,7 +21,7 @@ six_pieces old a b c d e f u v w x y z p q r s t k =
     piece_more old e f ((((u ++ v) ++ w) ++ x) ++ y) z
     (piece_more old d e (((u ++ v) ++ w) ++ x) y (four_pieces old a b c d u v w x p q r s) t) k
 
--- the first so many words of a stack
+-- the first `count` words of a stack
 abbrev pub first_words : ℕ → List ℕ → List ℕ
 first_words count words = map (λ place. slice_index words place) (range_with_len 0 count)
 

@@ -36,13 +36,13 @@ kind_text (kind.Run code) = codes " run " ++ hex2_of code
 kind_text kind.Wait = codes " wait"
 kind_text (kind.Stop number) = codes " stop " ++ decimal number
 
--- a node's own event, or a word that went from its writer to its reader
+-- a node's own event, or a word that was transferred from its writer to its reader
 abbrev pub made_text : Made → Text
 made_text (Own node step kind) = step_text node step ++ kind_text kind ++ codes "\n"
 made_text (Pass writer writer_step reader reader_step word) =
     codes "pass " ++ step_text writer writer_step ++ codes " " ++ step_text reader reader_step ++ codes " " ++ hex6_of word ++ codes "\n"
 
--- ---- the list of kept events
+-- ---- the counts of the history
 
 -- how many events were removed, and how many are kept
 abbrev pub removed_text : ℕ → ℕ → Text
@@ -51,11 +51,11 @@ removed_text removed kept = codes "removed " ++ decimal removed ++ codes " kept 
 abbrev pub counts_text : ℕ → ℕ → ℕ → Text
 counts_text kept made limit = codes "kept " ++ decimal kept ++ codes " made " ++ decimal made ++ codes " limit " ++ decimal limit ++ codes "\n"
 
--- what stands before the texts of a node's steps
+-- the line before the texts of a node's steps
 abbrev pub trace_text : NodeId → ℕ → Text
 trace_text node count = codes "trace " ++ name_of_node node ++ codes " " ++ decimal count ++ codes "\n"
 
--- what stands before the texts of a chain's events
+-- the line before the texts of a chain's events
 abbrev pub chain_text : ℕ → Text
 chain_text count = codes "chain " ++ decimal count ++ codes "\n"
 
@@ -65,7 +65,7 @@ independent = codes "independent\n"
 
 -- ---- a node
 
--- the side's letter, where the set has it
+-- the side's letter, if the set has it, else a hyphen
 abbrev pub side_text : ℕ → Side → Text → Text
 side_text sides side letter = if has_side sides side then letter else codes "-"
 
@@ -145,7 +145,7 @@ abbrev pub refused_text : Wording → LabFault → Text
 refused_text Brief why = refusal_text why
 refused_text Advised why = advised_text why
 
--- the line spells no command
+-- the line parses as no command
 abbrev pub no_syntax : Text
 no_syntax = codes "no 31 syntax\n"
 
@@ -153,7 +153,7 @@ no_syntax = codes "no 31 syntax\n"
 abbrev pub no_long : Text
 no_long = codes "no 32 long\n"
 
--- the input goes past its bound
+-- the input exceeds its limit
 abbrev pub no_input : Text
 no_input = codes "no 33 input\n"
 

@@ -14,7 +14,7 @@ use ga_text::{
 };
 use ga_word::Word18;
 
-/// What a fetch is told as, and the end of its line.
+/// The text of a fetch, and the end of its line.
 static FETCH: [u8; 7] = *b" fetch\n";
 
 /// The most bytes of what an event of a node's own was, with its line feed.
@@ -44,7 +44,7 @@ pub fn push_made<const ROOM: usize>(out: &mut ArrayVec<u8, ROOM>, made: Made)
     }
 }
 
-/// Adds the text of an event of a node's own, whose number has at most eight digits: it goes without a call.
+/// Adds the text of an event of a node's own, whose number has at most eight digits: without a call.
 #[inline(always)]
 fn push_near<const ROOM: usize>(out: &mut ArrayVec<u8, ROOM>, node: NodeId, step: u32, kind: Kind)
     requires small { step < 100000000 }
@@ -100,7 +100,7 @@ fn push_kind<const ROOM: usize>(out: &mut ArrayVec<u8, ROOM>, kind: Kind)
     }
 }
 
-/// What a fetch is told as, and the end of its line, by value, which is copied without a look whether it overlaps.
+/// The text of a fetch, and the end of its line, by value, which is copied without a check for overlap.
 #[inline(always)]
 fn fetch() -> [u8; 7]
     ensures { result ≡ codes " fetch\n" }

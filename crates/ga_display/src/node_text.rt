@@ -38,15 +38,15 @@ const REGISTERS_ROOM: usize = 4 * REGISTER_ROOM;
 /// The bytes of the slot, the carry and `io`.
 const FLAGS_ROOM: usize = b" slot 4 carry 1 io ".len() + WORD_ROOM;
 
-/// The bytes of the words of each stack, each behind a space.
+/// The bytes of the words of each stack, each after a space.
 const DATA_ROOM: usize = 10 * (1 + WORD_ROOM);
 
 const RETURNS_ROOM: usize = 9 * (1 + WORD_ROOM);
 
-/// The bytes of both stacks, each behind its name.
+/// The bytes of both stacks, each after its name.
 const STACKS_ROOM: usize = b" d".len() + DATA_ROOM + b" r".len() + RETURNS_ROOM;
 
-/// Says the text of a node, as `say` does.
+/// Writes the text of a node, as `say` does.
 ///
 /// # Errors
 /// A write failed.
@@ -72,7 +72,7 @@ fn push_node_line<const ROOM: usize>(out: &mut ArrayVec<u8, ROOM>, node: NodeId,
     push_text(out, b"\n");
 }
 
-/// Says the word at an address of a node's memory, as `say` does.
+/// Writes the word at an address of a node's memory, as `say` does.
 ///
 /// # Errors
 /// A write failed.

@@ -1,4 +1,4 @@
-//! The texts of answers, said to the output.
+//! The texts of answers, written to the output.
 ghost use Rattle.std.specs.Prelude.{◌≡◌, ◌+◌, ◌≤◌, ◌++◌};
 ghost use Rattle.arrayvec.specs.ArrayVec.{array_vec_len};
 ghost use Rattle.ga_text.specs.Lines.{Bytes};
@@ -12,7 +12,7 @@ use ga_lab::{Counts, Made};
 use ga_text::{LINE_ROOM, Spoken, Writer, push_node_spaced, push_number, push_text};
 use std::io::Write;
 
-/// Says how many events were removed and how many are kept, as `say` does.
+/// Writes how many events were removed and how many are kept, as `say` does.
 ///
 /// # Errors
 /// A write failed.
@@ -36,7 +36,7 @@ fn push_removed<const ROOM: usize>(out: &mut ArrayVec<u8, ROOM>, removed: u32, k
     push_text(out, b"\n");
 }
 
-/// Says the text of an event, as `say` does.
+/// Writes the text of an event, as `say` does.
 ///
 /// # Errors
 /// A write failed.
@@ -49,7 +49,7 @@ pub fn say_made<W: Write>(writer: &mut Writer<'_, W>, made: Made) -> Spoken
     Ok(())
 }
 
-/// Says how many events are kept, were ever made and may be kept, as `say` does.
+/// Writes how many events are kept, were ever made and may be kept, as `say` does.
 ///
 /// # Errors
 /// A write failed.
@@ -68,7 +68,7 @@ pub fn say_counts<W: Write>(writer: &mut Writer<'_, W>, counts: Counts) -> Spoke
     Ok(())
 }
 
-/// Says the line before so many steps of a node, as `say` does.
+/// Writes the line before `count` steps of a node, as `say` does.
 ///
 /// # Errors
 /// A write failed.
@@ -84,7 +84,7 @@ pub fn say_trace<W: Write>(writer: &mut Writer<'_, W>, node: NodeId, count: usiz
     Ok(())
 }
 
-/// Says the line before a chain of so many events, as `say` does.
+/// Writes the line before a chain of `count` events, as `say` does.
 ///
 /// # Errors
 /// A write failed.

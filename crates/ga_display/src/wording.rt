@@ -29,7 +29,7 @@ impl Wording {
     }
 }
 
-/// The text of a refused call in a session of exploring: where there is no room, it says what to do.
+/// The text of a refused call in a session of `explore`: if the history is full, it adds what to do.
 pub fn advised_text(fault: LabFault) -> &'static [u8]
     ensures text { result.now ≡ advised_text fault }
     ensures len { length result.now ≤ LINE_ROOM }

@@ -1,4 +1,4 @@
--- What stands first in some bytes.
+-- The front of some bytes: a message, a part of one, or neither.
 use Rattle.std.proofs.Common.{◌≡◌, ◌<◌, ◌∙◌, ℕ, Bool, true, false, inl, inr, arith, ◌≤◌, ◌+◌, ◌-◌, ◌++◌, suc, zero, List, [], ◌∷◌, length, take, drop, min, replicate, get_or, refl, sym, ap, subst, append_assoc, length-append, length-drop}
 use Rattle.std.specs.Bool.{◌==◌}
 use Rattle.std.proofs.lemmas.Bool.Decides.{eqb_tells}
@@ -11,7 +11,7 @@ use Rattle.ga_protocol.specs.declared.broken.Broken.TheVariants.{NoDigit, TooLon
 use Rattle.ga_protocol.specs.Framing.{content_limit, digit_limit, field, header_end, header_part, IsDigit, value_from, IsLength, BeginsOne, BeginsNone, OneBeginsOther, Finds}
 use Rattle.ga_protocol.proofs.Unique.{right_of, no_digit_first, run, grows, value_more}
 
--- ---- what a test of a length says
+-- ---- what a test of a length implies
 
 pub is_zero : (n : ℕ) (b : Bool) → b ≡ (n == 0) → b ≡ true → n ≡ 0
 is_zero n b e t = elim (eqb_tells n 0) as (λ w. n ≡ 0) [
@@ -44,7 +44,7 @@ front_is xs ys le h =
     let same : xs ≡ take (length xs) ys = sym (take_all (length xs) xs (omega arith)) ∙ t in
     ap (λ z. z ++ drop (length xs) ys) same ∙ take-append-drop (length xs) ys
 
--- ---- no message stands first
+-- ---- the bytes begin with no message
 
 parts : (f d r g b c m s : List ℕ) → ((f ++ d) ++ r) ++ m ≡ (((f ++ g) ++ b) ++ c) ++ s → d ++ (r ++ m) ≡ g ++ (b ++ (c ++ s))
 parts f d r g b c m s e = append_cancel_left f (d ++ (r ++ m)) (g ++ (b ++ (c ++ s))) (simp append_assoc at e)
@@ -78,7 +78,7 @@ many_digits digits rest all past = λ content text more after m e.
     let most : length m.0 ≤ digit_limit = m.1.1 in
     omega arith
 
--- where something else stands behind digits, a message has no further ones
+-- if another byte follows digits, a message has no further ones
 no_more : (digits : List ℕ) (byte : ℕ) (rest content text more after gs : List ℕ) → All IsDigit digits → (IsDigit byte → ⊥) → All IsDigit gs →
     text ≡ header_part gs ++ content → (field ++ digits ++ (byte ∷ rest)) ++ more ≡ text ++ after →
     (gs ≡ digits) × ((byte ∷ rest) ++ more ≡ header_end ++ (content ++ after))
@@ -199,7 +199,7 @@ whole bytes digits rest n e is long h =
     ∙ ap (λ z. header_part digits ++ z) (ap (take n) behind ∙ sym content) in
     (omega arith, omega arith, (digits, subst (IsLength digits) (sym (ap length content ∙ size)) is, text))
 
--- ---- what stands first where the field's name does
+-- ---- the front of bytes that begin with the field's name
 
 pub three : (bytes : List ℕ) (n : ℕ) → take 16 bytes ≡ field → bytes ≡ field ++ take n (drop 16 bytes) ++ drop n (drop 16 bytes)
 three bytes n name =
@@ -229,7 +229,7 @@ pub is_name : (rest : List ℕ) → length rest ≡ 0 → Finds (field ++ rest) 
 is_name [] none = part_of_value
 is_name (r ∷ rest) none = absurd (omega arith)
 
--- where there is no digit, what comes behind stands right behind the name
+-- if there is no digit, the rest comes directly after the name
 pub no_digits : (bytes digits rest : List ℕ) → length digits ≡ 0 → bytes ≡ field ++ digits ++ rest → field ++ rest ≡ bytes
 no_digits bytes [] rest none e = sym e
 no_digits bytes (d ∷ digits) rest none e = absurd (omega arith)

@@ -7,7 +7,7 @@ use Rattle.std.proofs.lemmas.List.Elements.{All-append}
 use Rattle.std.proofs.lemmas.Fmt.{decimal_by_steps, length-decimal-le, decimal_nonempty}
 use Rattle.ga_protocol.specs.declared.framing.Front.TheVariants.{Message}
 
--- ---- runs of digits, and the numbers that they spell
+-- ---- runs of digits, and their numbers
 
 pub head_of : (P : ℕ → Type 0) (x : ℕ) (xs : List ℕ) → All P (x ∷ xs) → P x
 head_of P x xs h = h 0 0 (omega arith)
@@ -26,7 +26,7 @@ no_digit_first byte (x ∷ es) rest more not_one all e =
     let same : x ≡ byte = cc in
     absurd (not_one (subst IsDigit same (head_of IsDigit x es all)))
 
--- digits that stand before a carriage return go on where others of the same text end
+-- digits that come before a carriage return are longer than others of the same text by digits
 pub run : (ds es xs zs : List ℕ) → All IsDigit ds → All IsDigit es → ds ++ xs ≡ es ++ (13 ∷ zs) → (fs : List ℕ) × (es ≡ ds ++ fs) × (xs ≡ fs ++ (13 ∷ zs))
 run [] es xs zs h g e = (es, refl, e)
 run (d ∷ ds) [] xs zs h g e =

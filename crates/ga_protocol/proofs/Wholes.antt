@@ -1,4 +1,4 @@
--- What is told of the first bytes of an input holds of the whole.
+-- What holds of the first bytes of an input holds of the whole.
 use Rattle.std.proofs.Common.{◌≡◌, ◌≤◌, ◌+◌, ◌++◌, ◌∙◌, ℕ, List, [], ◌∷◌, length, take, drop, min, sym, ap, subst, arith, append_assoc, length-append}
 use Rattle.std.proofs.lemmas.List.{take-append-le, take-append-drop, take-take, append-nil, nil_from_length}
 use Rattle.ga_protocol.specs.declared.broken.Broken.{Broken}

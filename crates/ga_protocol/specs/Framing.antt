@@ -1,4 +1,5 @@
--- How messages are framed: the Debug Adapter Protocol's "Base protocol". A header part, whose one field `Content-Length` says how many bytes the content part has, and the content part.
+-- How messages are framed: the Debug Adapter Protocol's "Base protocol". A header part, whose one field `Content-Length` has
+-- the number of bytes of the content part, and the content part.
 use Rattle.std.specs.Prelude.{◌≡◌, ◌≤◌, ◌<◌, ◌+◌, ◌*◌, ◌-◌, ◌++◌, ℕ, List, [], ◌∷◌, length, take, drop, min, codes, decimal}
 use Rattle.std.specs.List.{All}
 use Rattle.ga_protocol.specs.declared.broken.Broken.{Broken}
@@ -14,7 +15,7 @@ content_limit = 131072
 abbrev pub digit_limit : ℕ
 digit_limit = 7
 
--- the field's name, and what stands between it and its value
+-- the field's name, and the separator before its value
 abbrev pub field : List ℕ
 field = codes "Content-Length: "
 
@@ -29,12 +30,12 @@ header_part digits = field ++ digits ++ header_end
 abbrev pub IsDigit : ℕ → Type 0
 IsDigit byte = (48 ≤ byte) × (byte ≤ 57)
 
--- the number that digits spell behind one that was read
+-- the number of digits that follow those of a number
 abbrev pub value_from : ℕ → List ℕ → ℕ
 value_from n [] = n
 value_from n (byte ∷ rest) = value_from (10 * n + (byte - 48)) rest
 
--- digits that spell the length of a content part
+-- whether the digits are those of the length of a content part
 abbrev pub IsLength : List ℕ → ℕ → Type 0
 IsLength digits n = (1 ≤ length digits) × (length digits ≤ digit_limit) × All IsDigit digits × (value_from 0 digits ≡ n) × (n ≤ content_limit)
 
@@ -50,7 +51,7 @@ framed content = header_part (decimal (length content)) ++ content
 abbrev pub BeginsOne : List ℕ → Type 0
 BeginsOne bytes = (content more : List ℕ) × (1 ≤ length more) × IsMessage content (bytes ++ more)
 
--- whatever comes behind some bytes, no message stands first
+-- whether no message is first, whatever follows these bytes
 abbrev pub BeginsNone : List ℕ → Type 0
 BeginsNone bytes = (content text more after : List ℕ) → IsMessage content text → bytes ++ more ≡ text ++ after → ⊥
 
@@ -58,11 +59,11 @@ BeginsNone bytes = (content text more after : List ℕ) → IsMessage content te
 abbrev pub OneBeginsOther : List ℕ → List ℕ → Type 0
 OneBeginsOther xs ys = take (min (length xs) (length ys)) xs ≡ take (min (length xs) (length ys)) ys
 
--- bytes are the field's name, digits, and what comes behind them
+-- whether bytes are the field's name, digits, and the rest after them
 abbrev pub Reads : List ℕ → List ℕ → List ℕ → Type 0
 Reads bytes digits rest = (bytes ≡ field ++ digits ++ rest) × All IsDigit digits
 
--- why no message stands first
+-- why the bytes begin with no message
 abbrev pub Shows : Broken → List ℕ → Type 0
 Shows Field bytes = OneBeginsOther bytes field → ⊥
 Shows NoDigit bytes = (byte : ℕ) × (rest : List ℕ) × Reads bytes [] (byte ∷ rest) × (IsDigit byte → ⊥)
@@ -71,7 +72,7 @@ Shows ManyDigits bytes = (digits rest : List ℕ) × Reads bytes digits rest × 
 Shows HeaderEnd bytes = (digits : List ℕ) × (byte : ℕ) × (rest : List ℕ) × Reads bytes digits (byte ∷ rest) × IsLength digits (value_from 0 digits) × (IsDigit byte → ⊥) × (OneBeginsOther (byte ∷ rest) header_end → ⊥)
 Shows Cut bytes = ⊥
 
--- what stands first in some bytes: a message, up to its end, with its content part from a place on; the beginning of one; or neither
+-- the front of some bytes: a message, up to its end, with its content part from a place on; the beginning of one; or neither
 abbrev pub Finds : List ℕ → Front → Type 0
 Finds bytes (Message start end) = (start ≤ end) × (end ≤ length bytes) × IsMessage (drop start (take end bytes)) (take end bytes)
 Finds bytes Part = BeginsOne bytes

@@ -1,4 +1,5 @@
--- The protocol's messages as JSON ("Base protocol": `ProtocolMessage`, `Request`, `Event`, `Response`). An object's members stand in the order of their keys.
+-- The protocol's messages as JSON ("Base protocol": `ProtocolMessage`, `Request`, `Event`, `Response`). An object's members are
+-- in the order of their keys.
 use Rattle.std.specs.Prelude.{◌≡◌, ◌≢◌, ℕ, List, codes, true, false, Option, Some, None, option_and_then, unwrap_or, IsUtf8}
 use Rattle.serde_json.specs.Data.{Data, null, boolean, number, string, object, unsigned, member, no_members}
 use Rattle.serde_json.specs.Find.{get, as_str, as_number, as_u64}

@@ -2,13 +2,13 @@
 
 use thiserror::Error;
 
-/// What is wrong with a frame. Behind it no message can be found again.
+/// What is wrong with a frame. No message can be found after it.
 #[derive(Clone, Copy, PartialEq, Eq, Debug, Error)]
 pub enum Broken {
     /// The header does not begin with the field `Content-Length`, a colon and a blank.
     #[error("the header does not begin with `Content-Length: `")]
     Field,
-    /// No digit stands behind the field's name.
+    /// No digit follows the field's name.
     #[error("`Content-Length` is no number")]
     NoDigit,
     /// The content would have more than 131072 bytes.

@@ -1,4 +1,4 @@
-//! The base protocol: a header part that says how many bytes the content part has, and the content part.
+//! The base protocol: a header part with the number of bytes of the content part, and the content part.
 
 ghost use Rattle.std.specs.Prelude.{◌≡◌, ◌≢◌, ◌≤◌, ◌<◌, ◌+◌, ◌++◌, ◌↔◌, [], length, take, drop, min, slice_index, IsTrue, IfSome, IfNone, OnOk, OnErr};
 ghost use Rattle.std.specs.List.{All};
@@ -10,7 +10,7 @@ use std::alloc::{AllocError, Global};
 /// The most bytes of a content part, 128 KiB. Its values take up to 130 times as much memory as its text.
 pub const CONTENT_LIMIT: usize = 131_072;
 
-/// The field's name, and what stands between it and its value.
+/// The field's name, and the separator before its value.
 const FIELD: &[u8; 16] = b"Content-Length: ";
 
 /// The end of the field, and that of the header part.
@@ -19,7 +19,7 @@ const HEADER_END: &[u8; 4] = b"\r\n\r\n";
 /// The most digits of a length.
 const DIGIT_LIMIT: usize = 7;
 
-/// What stands first in some bytes.
+/// The front of some bytes.
 #[derive(Clone, Copy, PartialEq, Eq, Debug)]
 pub enum Front {
     /// A whole message, up to `end`, with its content part from `start` on.
@@ -38,7 +38,7 @@ fn agree(bytes: &[u8], text: &[u8]) -> bool
     bytes[..count] == text[..count]
 }
 
-/// How many digits stand first, at most one more than a length may have.
+/// The number of digits at the front, at most one more than a length may have.
 fn digits_in(bytes: &[u8]) -> usize
     ensures within { result ≤ length bytes.now }
     ensures most { result ≤ digit_limit + 1 }
@@ -55,7 +55,7 @@ fn digits_in(bytes: &[u8]) -> usize
     count
 }
 
-/// The number that digits spell, where a content part may be so long.
+/// The number of some digits, if a content part may have this length.
 fn length_of(digits: &[u8]) -> Option<usize>
     requires { All IsDigit digits.now }
     ensures value { IfSome result (λ n. n ≡ value_from 0 digits.now) }
@@ -72,7 +72,7 @@ fn length_of(digits: &[u8]) -> Option<usize>
     Some(number)
 }
 
-/// What stands first in some bytes. Takes no memory, and time by the header alone.
+/// Returns the front of some bytes. Takes no memory, and time by the header alone.
 pub fn front_of(bytes: &[u8]) -> Front
     ensures { Finds bytes.now result }
 {
@@ -85,7 +85,7 @@ pub fn front_of(bytes: &[u8]) -> Front
     front_behind(bytes)
 }
 
-/// The digits behind the field's name, at most one more than a length may have, and what comes behind them.
+/// The digits after the field's name, at most one more than a length may have, and the rest after them.
 fn value_behind(bytes: &[u8]) -> (&[u8], &[u8])
     requires long { 16 ≤ length bytes.now }
     requires name { take 16 bytes.now ≡ field }
@@ -98,7 +98,7 @@ fn value_behind(bytes: &[u8]) -> (&[u8], &[u8])
     behind.split_at(count)
 }
 
-/// What stands first in some bytes, where the field's name does.
+/// The front of bytes that begin with the field's name.
 fn front_behind(bytes: &[u8]) -> Front
     requires long { 16 ≤ length bytes.now }
     requires name { take 16 bytes.now ≡ field }
@@ -127,7 +127,7 @@ fn front_behind(bytes: &[u8]) -> Front
     }
 }
 
-/// What stands first in some bytes, where no digit stands behind the field's name.
+/// The front of bytes in which no digit follows the field's name.
 fn without_digit(rest: &[u8]) -> Front
     requires { 0 < length rest.now → IsDigit (slice_index rest.now 0) → ⊥ }
     ensures { Finds (field ++ rest.now) result }

@@ -22,7 +22,7 @@ pub enum Next {
     Failed,
 }
 
-/// How one read went.
+/// The result of one read.
 #[derive(Clone, Copy, PartialEq, Eq)]
 enum Fill {
     More,
@@ -60,7 +60,8 @@ impl Inbox {
         }
     }
 
-    /// Whether the next message, or that there is none, can be told without a read. Takes no memory, and time by the header alone.
+    /// Whether `next` needs no read to return the next message, or that there is none. Takes no memory, and time by the header
+    /// alone.
     pub fn has_next(&self) -> bool
         ensures { IsTrue result ↔ (BeginsOne self.now → ⊥) }
     {
@@ -118,11 +119,11 @@ impl Inbox {
         }
     }
 
-    /// Takes the next message, and reads on as long as it isn't whole. Takes memory for the content part and for what is read, some 3 MB at most.
-    /// That a read failed is told too where 2^64 reads brought no message.
+    /// Takes the next message, and reads as long as it isn't whole. Takes memory for the content part and for what is read,
+    /// some 3 MB at most. Also returns `Failed` if 2^64 reads brought no message.
     ///
     /// # Errors
-    /// Memory was refused. Nothing is lost: a further call goes on.
+    /// An allocation failed. Nothing is lost: a further call continues.
     pub fn next<R: Read>(&mut self, reader: &mut R) -> Result<Next, AllocError>
         ensures next { (left : List ℕ) → R.remaining reader.old ≡ Some left → IfOk result (λ next.
             (rest : List ℕ) × (R.remaining reader.new ≡ Some rest) × GivesNext (self.old ++ left) next (self.new ++ rest)) }

@@ -15,7 +15,7 @@ use thiserror::Error;
 pub struct ClientRequest {
     /// The number of the request, by which it is answered.
     pub seq: u64,
-    /// What is asked for.
+    /// The requested command.
     pub command: String,
     /// The arguments of the request; null where it has none.
     pub arguments: Value,

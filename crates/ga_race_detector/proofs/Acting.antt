@@ -1,4 +1,4 @@
--- Going back over the kept events, node by node.
+-- Walking back over the history, node by node.
 use Rattle.std.proofs.Common.{◌≡◌, ℕ, ◌+◌, ◌<◌, ◌≤◌, inl, inr, List, length, get_or, set, sym, subst, arith, get_or-set_other, ◌≢◌, zero, suc, ◌==◌, Bool, true, false, ◌||◌, cond, [], ◌∷◌, ◌++◌, take, Option, Some, refl, ◌∙◌, ap, ap₂, ne_eqb, length-append}
 use Rattle.std.proofs.lemmas.List.{length-set, get_or-set_same, get_or-map, length-map, map-append, take_more, take_all}
 use Rattle.std.proofs.lemmas.Bool.{cases_eq, or_from}
@@ -39,7 +39,7 @@ use Rattle.ga_races.proofs.Shown.{act_changes}
 use Rattle.ga_lab.proofs.Called.{Runs, runs_of}
 use Rattle.ga_race_detector.proofs.Standing.{steps-cons}
 
--- ---- what was before each of the kept events
+-- ---- the state before each event of the history
 
 pub moments_none : (s : State) (place : ℕ) (causes : List Cause) (moments : List Moment) → length moments ≤ place → AreMomentsFrom s place causes moments
 moments_none s place causes moments past i from within = absurd (omega (arith, past, from, within))
@@ -65,7 +65,7 @@ pub record Made (s : State) (p : ℕ) (e : Event) : Type 0 where
   pub action : action_at (actions s.load s.kept) p ≡ action_of (chip_of (earlier s p)) e
   pub steps : (m : ℕ) → steps_of m (take (p + 1) s.kept) ≡ steps_of m (take p s.kept) + cond (touches e m) 1 0
 
--- the chip to which so many events lead
+-- the chip to which the first p events lead
 chip_led : (s : State) (xs : List Event) (p : ℕ) (now : List NodeRecord) → take p s.kept ≡ xs → replay s.load xs ≡ Some now → chip_of (earlier s p) ≡ now
 chip_led s xs p now is led = ap (λ (z : List Event). unwrap_or (replay s.load z) []) is ∙ ap (λ (o : Option (List NodeRecord)). unwrap_or o []) led
 
@@ -119,7 +119,7 @@ made_at s last p cause led at =
         let is_y : cause.event ≡ y = ap (λ (z : Cause). z.event) same ∙ ap (λ (a : Action). a.cause.event) n.action in
         subst (λ (z : Event). Made s p z) (sym is_y) n
 
--- ---- nodes before and behind it
+-- ---- nodes before and after it
 
 pub stood_other : (s : State) (p m code count : ℕ) (e : Event) → Made s p e → touches e m ≡ false → StoodSo s m (p + 1) code count → StoodSo s m p code count
 stood_other s p m code count e made out stood =
@@ -320,7 +320,7 @@ is_at s last causes place cause led all l is =
 
 -- ---- one node
 
--- nodes that stand as the machine leaves them
+-- nodes in their current state
 pub stood_set : (s : State) (waits steps : List ℕ) (number at code count : ℕ) → length waits ≡ 144 → length steps ≡ 144 → number < 144 → at ≡ number → wait_of code ≡ (record_at (chip_of s) at).wait → IsWaitCode code
     → count ≡ steps_of at s.kept → (p : ℕ) → take p s.kept ≡ s.kept → ((m : ℕ) → m < number → StoodSo s m p (slice_index waits m) (slice_index steps m))
     → (m : ℕ) → m < number + 1 → StoodSo s m p (slice_index (set waits at code) m) (slice_index (set steps at count) m)

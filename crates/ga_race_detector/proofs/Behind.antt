@@ -1,4 +1,4 @@
--- A step that is taken back: the event that it was, and that its node stands behind the rollback as it did before that event.
+-- A step that a rollback removes: its event, and that its node after the rollback is as it was before that event.
 use Rattle.std.proofs.Common.{◌≡◌, ℕ, zero, suc, ◌+◌, ◌==◌, cond, Bool, true, false, List, [], ◌∷◌, ◌++◌, Option, Some, None, refl, sym, ◌∙◌, ap, subst, ◌&&◌, ◌<◌, ◌≤◌, arith}
 use Rattle.std.specs.Prelude.{option_map, option_and_then, option_to_list, unwrap_or, is_some, take}
 use Rattle.std.specs.List.{slice_get}
@@ -30,7 +30,7 @@ use Rattle.ga_races.specs.Orders.{CanBe}
 use Rattle.ga_race_detector.proofs.Standing.{Ran, marked_ran, steps-cons, no_step}
 use Rattle.ga_lab.proofs.Stepping.{applied_after as after_of}
 
--- this was told of such an event
+-- whether this is such an event as made
 abbrev pub IsOf : Made → Event → Type 0
 IsOf (made.Own n k kind) e = (a : NodeId) × (e ≡ event.Own a)
 IsOf (made.Pass w i r j word) e = (side : Side) × (e ≡ event.Pass w r side)
@@ -66,7 +66,7 @@ pub record Behind (c : List NodeRecord) (es : List Event) (ts : List (Cause × T
   pub led : replay c (events_in (rest (causes ts) i)) ≡ Some now
   pub same : record_at mid n ≡ record_at now n
 
--- what is told of the first event and of those behind it
+-- the first event as made, and those after it
 told_first : (before : List Event) (x : Cause × Told) (xs : List (Cause × Told)) (n : ℕ) (m : Made) → touches x.0.event n ≡ true → made_after before x.0.event x.1 ≡ Some m
     → mades_after before (x ∷ xs) n ≡ m ∷ mades_after (before ++ x.0.event ∷ []) xs n
 told_first before x xs n m touch is =

@@ -1,4 +1,4 @@
--- On how many of a node's steps the newest event of each node depends, and how many steps of another are left where each is taken back.
+-- On how many of a node's steps the newest event of each node depends, and how many steps of another a rollback of each leaves.
 use Rattle.std.proofs.Common.{◌≡◌, ℕ, suc, ◌+◌, ◌-◌, ◌<◌, ◌≤◌, max, cond, Bool, true, false, ◌||◌, inl, inr, List, [], ◌∷◌, length, get_or, Option, Some, None, refl, sym, ◌∙◌, ap, ap₂, subst, arith, lt-ltb, le-ltb}
 use Rattle.std.specs.Prelude.{nat_lt, option_map}
 use Rattle.std.specs.List.{list_any}
@@ -56,7 +56,7 @@ greatest_most known made (n ∷ ns) most =
     let b : greatest known ns ≤ made = greatest_most known made ns most in
     omega (arith, a, b)
 
--- ---- what is kept behind marks
+-- ---- what is kept after marks
 
 kept_met : (marks : ℕ → Bool) (e : Cause) (es : List Cause) → meets marks e ≡ true → kept marks (e ∷ es) ≡ kept (λ n. marks n || cause_touches e n) es
 kept_met marks e es t = rw t refl
@@ -79,7 +79,7 @@ rest_later : (e : Cause) (es : List Cause) (o : Option ℕ) → rest_from (e ∷
 rest_later e es None = refl
 rest_later e es (Some i) = refl
 
--- ---- what is left of the events that come, where step k + 1 of node r is taken back
+-- ---- which of the events that come a rollback of step k + 1 of node r leaves
 
 abbrev pub remaining : ℕ → ℕ → (ℕ → ℕ) → ℕ → List Cause → List Cause
 remaining r k known made es = cond (nat_lt k made) (kept (above known k) es) (rewound_list es r (suc (k - made)))
@@ -90,7 +90,7 @@ remaining_marked r k known made es l = ap (λ (z : Bool). cond z (kept (above kn
 remaining_later : (r k : ℕ) (known : ℕ → ℕ) (made : ℕ) (es : List Cause) → made ≤ k → remaining r k known made es ≡ rewound_list es r (suc (k - made))
 remaining_later r k known made es l = ap (λ (z : Bool). cond z (kept (above known k) es) (rewound_list es r (suc (k - made)))) (le-ltb k made l)
 
--- the numbers behind an event
+-- the numbers after an event
 abbrev pub IsBehindOne : (ℕ → ℕ) → (ℕ → ℕ) → ℕ → ℕ → Cause → Type 0
 IsBehindOne known next r made e = (n : ℕ) → next n ≡ cond (cause_touches e n) (depth known r made e) (known n)
 
@@ -106,7 +106,7 @@ one_step e r made t = ap (λ (z : Bool). made + cond {A = ℕ} z 1 0) t
 no_step : (e : Cause) (r made : ℕ) → cause_touches e r ≡ false → made + cond (cause_touches e r) 1 0 ≡ made
 no_step e r made f = ap (λ (z : Bool). made + cond {A = ℕ} z 1 0) f ∙ (let q : made + 0 ≡ made = omega arith in q)
 
--- how many steps of a node an event is, unless it goes
+-- the number of steps of a node that an event is, unless it is removed: 1 or 0
 abbrev more : Bool → Cause → ℕ → ℕ
 more gone e m = cond gone 0 (cond (cause_touches e m) 1 0)
 
@@ -230,7 +230,7 @@ one_more r m k known next made e es own most is = elim (cases_lt k made) [ inl l
 
 -- ---- the list, event by event
 
--- so many steps of node m are left where step k + 1 of node r is taken back
+-- the number of steps of node m that a rollback of step k + 1 of node r leaves
 abbrev pub left_by : List Cause → ℕ → ℕ → ℕ → ℕ
 left_by all r m k = touching m (rewound_list all r (suc k))
 

@@ -1,4 +1,4 @@
--- What is told of a look and a change at two places.
+-- The look and the change at two places.
 use Rattle.std.proofs.Common.{◌≡◌, ℕ, zero, suc, List, [], ◌∷◌, take, refl, ◌∙◌, ap, ◌≢◌, ◌+◌, ◌<◌, ◌≤◌, cond, Bool, true, false, inl, inr, length, get_or, Option, Some, None, IsSome, sym, subst, arith, true≢false}
 use Rattle.ga_event.specs.declared.event.Event.{Event}
 use Rattle.ga_event.specs.declared.event.Cause.{Cause}
@@ -35,7 +35,7 @@ use Rattle.ga_race_detector.proofs.NearReadings.{kept_caused}
 use Rattle.ga_race_detector.proofs.Posted.{stood_alike}
 use Rattle.ga_race_detector.proofs.Standing.{Stands, stands_somewhere}
 
--- ---- how many steps of a node stand before a place, by the causes and by the kept events
+-- ---- how many steps of a node come before a place, by the causes and by the history
 
 take_events : (causes : List Cause) (place : ℕ) → events_in (take place causes) ≡ take place (events_in causes)
 take_events causes zero = refl
@@ -55,7 +55,7 @@ moment_is s causes moments p e at known l is told =
     subst (λ (z : Cause). IsMoment s p z at) (sym (cause_at causes p e l is))
     (subst (IsMoment s p (event_at causes p)) (sym told) (known.each p (omega arith) (omega (arith, l, size))))
 
--- a pass stands beside a node by its writer, where that is linked to it, and else by its reader
+-- the neighbour of a node in a pass is its writer, if that is linked to the node, and else its reader
 pub beside_first : {e : Event} {w r : NodeId} {side : Side} (n : ℕ) → e ≡ Pass w r side → are_linked n w.number ≡ true → first_part e ≡ part_beside e n
 beside_first {w} {r} n is on = ap first_part is ∙ sym (ap (λ (b : Bool). cond {A = NodeId} b w r) on) ∙ sym (ap (λ (z : Event). part_beside z n) is)
 
@@ -103,7 +103,7 @@ part_touched (Pass w r side) n = elim (cases_Bool (are_linked n w.number)) [
   | inr f ↦ subst (λ (b : Bool). touches (Pass w r side) (cond {A = NodeId} b w r).number ≡ true) (sym f) (touches_reader w r side)
 ]
 
--- the step that is taken back is one of the list
+-- the removed step is one of the list
 pub has_step : (s : State) (last : List NodeRecord) (near : Near) (glance : Glance) → replay s.load s.kept ≡ Some last → IsGlance s near glance → HasStep (causes_of s) glance
 has_step s last near glance led g = (let one = go glance.early in record { first = one.first; within = one.within })
   where
@@ -167,7 +167,7 @@ looks_again s last near glance b k led g one =
     here : (is_none (refusal (record_at before n)) && looks (record_at before n)) ≡ true
     here = ap (λ (z : Option NotReady). is_none z && looks (record_at before n)) made.can ∙ look
 
--- a look that reads another word is told
+-- a look that reads another word is a reading
 pub otherwise : (s : State) (near : Near) (glance : Glance) (word : ℕ) → IsGlance s near glance → IsOtherWord s glance word → word ≢ glance.word
     → IsOtherwise s (record { node = glance.node; step = glance.step; word = glance.word; neighbour = glance.neighbour; change = glance.change; early = glance.early; other = word })
 otherwise s near glance word g o ne = record {
@@ -185,7 +185,7 @@ pub not_shown : (o : Option Glance) → o ≡ None → IsSome o → ⊥
 not_shown None h k = true≢false (sym k)
 not_shown (Some x) h k = absurd (cc)
 
--- each of these stands in the list
+-- each of these is in the list
 pub all_steps : (s : State) (causes : List Cause) (only : Option NodeId) (glances : List Glance) → replay s.load s.kept ≡ Some (chip_of s) → causes ≡ causes_of s → All (IsGlanced s only) glances → All (HasStep causes) glances
 all_steps s causes only glances led all glanced =
     All-weaker (IsGlanced s only) (HasStep causes) (λ glance g. subst (λ (z : List Cause). HasStep z glance) (sym all) (has_step s (chip_of s) g.0.0 glance led g.0.1)) glances glanced

@@ -52,7 +52,7 @@ one_place es n k p q a b = elim (cases_lt p q) [
   ]
 ]
 
--- and stands
+-- and exists
 step_stands : (s : State) (n k p : ℕ) → events_in (causes_of s) ≡ s.kept → IsStep (causes_of s) n k p → stands s n k ≡ true
 step_stands s n k p caused a =
     let es = causes_of s in
@@ -79,9 +79,9 @@ pub no_some : (o : Option ℕ) → o ≡ None → IsSome o → ⊥
 no_some None h k = true≢false (sym k)
 no_some (Some x) h k = absurd (cc)
 
--- ---- the node of an event that is beside another
+-- ---- the node of an event that is a neighbour of another
 
--- neighbours stand on fields of different colours, as on a chessboard
+-- neighbours have different colours, as on a chessboard
 abbrev colour : ℕ → ℕ
 colour n = (n / 18 + n % 18) % 2
 
@@ -118,7 +118,7 @@ linked_over n m t = elim (or_cases (is_number (neighbour_of n Right) m) (is_numb
   ]
 ]
 
--- of two linked nodes one alone is beside a third
+-- of two linked nodes only one is a neighbour of a third
 the_part : (c : List NodeRecord) (e : Event) (n m : NodeId) (side : Side) → CanBe c e → touches e m.number ≡ true → neighbour_of n.number side ≡ Some m.number → part_beside e n.number ≡ m
 the_part c (Own a) n m side can touch beside = NodeId-same a m (at_node a.number m.number touch)
 the_part c (Pass w r s) n m side can touch beside = elim (at_two w.number r.number m.number touch) [
@@ -135,7 +135,7 @@ the_part c (Pass w r s) n m side can touch beside = elim (at_two w.number r.numb
 
 -- ---- the look and the change at their places
 
--- what is read of the look and of the change is what the reading tells
+-- the parts of the look and of the change are those of the reading
 pub record IsSaidOf (reading : Reading) (who : NodeId) (at : ℕ) (beside : NodeId) (by : ℕ) (first : Bool) : Type 0 where
   pub node : who ≡ reading.node
   pub step : at ≡ reading.step
@@ -190,7 +190,7 @@ back_is reading node step neighbour change early said =
     ∙ ap (λ (z : ℕ). cond {A = NodeId × ℕ} early (reading.node, reading.step) (reading.neighbour, z)) said.change
     ∙ ap (λ (z : Bool). cond {A = NodeId × ℕ} z (reading.node, reading.step) (reading.neighbour, reading.change)) said.early
 
--- the step that is taken back stands, and behind it the node looks again and reads the other word
+-- the removed step exists, and after its rollback the node looks again and reads the other word
 pub record IsReadAgain (s : State) (reading : Reading) (back : NodeId × ℕ) (node : NodeId) (number : ℕ) : Type 0 where
   pub stands : stands s back.0.number back.1 ≡ true
   pub next : looks_next (chip_of (rewound s back.0.number back.1)) node.number ≡ true
@@ -278,11 +278,11 @@ at_near s reading n = record { looks = n.looks; changes = n.changes; side = n.si
 
 -- ---- one of the list more
 
--- the look is there, where it is told
+-- the look is at its place
 pub look_there : (s : State) (near : Near) (reading : Reading) → IsOtherwise s reading → IsAtNear s near reading → event_at (causes_of s) near.look ≡ record { event = Own reading.node; look = true }
 look_there s near reading o a = looked_there s near reading o a
 
--- it is of the node that was asked for
+-- it is of the requested node
 pub asked_of : (s : State) (only : Option NodeId) (near : Near) (glance : Glance) (reading : Reading) → replay s.load s.kept ≡ Some (chip_of s) → IsGlance s near glance → IsTold s only reading → IsAtNear s near reading
     → IfSome only (λ it. glance.node ≡ it)
 asked_of s only near glance reading led g t a = subst (λ (z : NodeId). IfSome only (λ it. z ≡ it)) (sym (said_of s near glance reading led g t.0 a).node) t.1
@@ -299,7 +299,7 @@ glanced_next s only nears i one old new l is kept here before reading near h tol
       | inr q ↦ subst (λ (z : Near). IsShownBy s z new) q (here reading told (subst (λ (z : Near). IsAtNear s z reading) (sym q) at))
     ]
 
--- of the first so many looks none is left out
+-- none of the first `place` looks is left out
 abbrev pub AreReadUpto : State → Option NodeId → List Glance → ℕ → List Reading → Type 0
 AreReadUpto s only glances place list = (near : Near) (i : ℕ) (glance : Glance) (reading : Reading) → i < place → glance ≡ get_or glances i glance → IsGlance s near glance → IsTold s only reading → IsAtNear s near reading
     → Contains list reading

@@ -1,4 +1,4 @@
--- The word that a node waited to write when it had made so many steps is that of its next step.
+-- The word that a node waited to write after a number of its steps is that of its next step.
 use Rattle.ga_event.specs.declared.event.Event.TheVariants as event
 use Rattle.ga_event.specs.declared.made.Made.TheVariants as made
 use Rattle.std.proofs.Common.{◌≡◌, ℕ, zero, suc, ◌+◌, ◌<◌, ◌≤◌, ◌==◌, ◌&&◌, cond, Bool, true, false, inl, inr, List, [], ◌∷◌, length, take, Option, Some, None, IsSome, refl, sym, ◌∙◌, ap, subst, arith, true≢false, eq-eqb}
@@ -39,7 +39,7 @@ use Rattle.ga_node.specs.declared.kind.Kind.{Kind}
 use Rattle.ga_node.specs.declared.seen.Beside.{Beside}
 use Rattle.ga_node.specs.declared.seen.Beside.TheVariants.{Idle}
 
--- ---- a node that had made so many steps at two places of a list stood there the same
+-- ---- a node that had made the same number of steps at two places of a list was the same there
 
 abbrev ChipAt : List NodeRecord → List Event → ℕ → List NodeRecord
 ChipAt c es p = unwrap_or (replay c (take p es)) []
@@ -95,7 +95,7 @@ one_link n m Down Left h k = absurd (grind arith)
 one_link n m Up Right h k = absurd (grind arith)
 one_link n m Up Left h k = absurd (grind arith)
 
--- ---- what is told of the next step says it
+-- ---- the next step as made has it
 
 told_word : (mid : List NodeRecord) (e : Event) (m : Made) (o r : NodeId) (side : Side) → CanBe mid e → touches e o.number ≡ true → IsOf m e → IsWordOf mid m
     → neighbour_of r.number side ≡ Some o.number → word_between o.number r.number m ≡ posted (record_at mid o.number) side
@@ -159,7 +159,7 @@ posted_told s runs o r side steps place m size told near count =
     led : replay s.load s.kept ≡ Some runs.last
     led = ap (λ (o : Option (List NodeRecord × List (Cause × Told))). option_map (λ z. z.0) o) runs.run_is
 
--- past its last step it stands as it does
+-- after its last step it is in its current state
 pub last_stood : (s : State) (last : List NodeRecord) (o steps place : ℕ) (now : NodeRecord) → replay s.load s.kept ≡ Some last → length (history_of s o) ≡ steps_of o s.kept
     → None ≡ slice_get (history_of s o) steps → now ≡ record_at (chip_of s) o → steps_of o (take place s.kept) ≡ steps → now ≡ record_at (chip_of (earlier s place)) o
 last_stood s last o steps place now h size none is count =
@@ -190,7 +190,7 @@ offered_left s n k m many side word some reads near left is =
     ∙ ap (λ (b : Bool). cond {A = Option ℕ} b (Some (t (record_at chip m))) None) (sym (and_true (writes_to (record_at chip m).wait side) (reads_from (record_at chip n).wait side) reads))
     ∙ ap (offered_by chip n side) (sym near)
 
--- ---- what a node shows its neighbours where it had made so many steps, and where so many are left
+-- ---- what a node shows its neighbours after a number of its steps, and where this number of them remains
 
 -- a node whose next step is its own waits for nothing
 pub own_shows : (s : State) → Runs s → (o : NodeId) (side : Side) (steps place : ℕ) (m : Made) (who : NodeId) (k : ℕ) (kind : Kind) → m ≡ made.Own who k kind → length (history_of s o.number) ≡ steps_of o.number s.kept
@@ -209,7 +209,7 @@ own_shows s runs o side steps place m who k kind own_made size told count =
     led : replay s.load s.kept ≡ Some runs.last
     led = ap (λ (o : Option (List NodeRecord × List (Cause × Told))). option_map (λ z. z.0) o) runs.run_is
 
--- behind a rollback it shows what it showed at as many steps
+-- after a rollback it shows what it showed at the same number of steps
 pub rewound_shows : (s : State) (b k m many : ℕ) (side : Side) (is : Beside) → IsSome (replay s.load s.kept) → many ≡ touching m (rewound_list (causes_of s) b k)
     → ((place : ℕ) → steps_of m (take place s.kept) ≡ many → is ≡ shows (record_at (chip_of (earlier s place)) m).wait side) → is ≡ shows (record_at (chip_of (rewound s b k)) m).wait side
 rewound_shows s b k m many side is some left then =

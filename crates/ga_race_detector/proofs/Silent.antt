@@ -1,4 +1,4 @@
--- A neighbour that never waited to write gives no word, whatever is taken back.
+-- A neighbour that never waited to write gives no word after any rollback.
 use Rattle.std.proofs.Common.{◌≡◌, ℕ, Bool, true, false, ◌&&◌, cond, List, Option, Some, None, IsSome, zero, suc, ◌+◌, ◌-◌, ◌≤◌, [], ◌∷◌, inl, inr, subst, arith, refl, sym, ◌∙◌, ap}
 use Rattle.std.specs.Prelude.{take}
 use Rattle.ga_ports.specs.declared.side.Side.{Side}
@@ -19,7 +19,7 @@ use Rattle.ga_lab.proofs.Explaining.{stands_counted}
 use Rattle.ga_race_detector.proofs.Standing.{stands_somewhere, steps-cons}
 use Rattle.ga_race_detector.proofs.Behind.{TakenBack, taken_back, stands_many}
 
--- it didn't wait to write where it had made so many steps
+-- it didn't wait to write after j of its steps
 abbrev pub IsSilentAt : State → ℕ → Side → ℕ → Type 0
 IsSilentAt s m side j = (place : ℕ) → steps_of m (take place s.kept) ≡ j → writes_to (record_at (chip_of (earlier s place)) m).wait side ≡ false
 
@@ -45,7 +45,7 @@ unread chip n side free = go (neighbour_of n side)
     go None = refl
     go (Some w) = both_none (writes_to (record_at chip w).wait side) (reads_from (record_at chip n).wait side) (Some (t (record_at chip w))) free
 
--- what the node waits for where its step is taken back is what it waited for before the step
+-- what the node waits for after a rollback of its step is what it waited for before the step
 pub waited : (s : State) → Runs s → (n k code : ℕ) → stands s n k ≡ true → ((place : ℕ) → steps_of n (take place s.kept) ≡ k - 1 → (record_at (chip_of (earlier s place)) n).wait ≡ wait_of code)
     → (record_at (chip_of (rewound s n k)) n).wait ≡ wait_of code
 waited s runs n zero code on held = absurd (let q = stands_counted s n 0 on in omega (arith, q))

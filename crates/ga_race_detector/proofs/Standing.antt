@@ -1,4 +1,4 @@
--- Where a node stands behind a rollback: where some beginning of the list leaves it.
+-- A node after a rollback: it is as some prefix of the list leaves it.
 use Rattle.std.proofs.Common.{◌≡◌, ℕ, zero, suc, ◌+◌, cond, Bool, true, false, ◌||◌, List, [], ◌∷◌, ◌++◌, take, length, append-nil, Option, Some, None, IsSome, refl, sym, ◌∙◌, ap, subst, arith, inl, inr}
 use Rattle.std.specs.Prelude.{option_map, option_and_then, unwrap_or}
 use Rattle.std.proofs.lemmas.Bool.{or_from, or_left, or_right, cases_Bool}
@@ -64,7 +64,7 @@ marked_ran (e ∷ es) marks c b last ts m a mark is =
           none = steps-cons m e (events_in (kept marks (causes f.others))) ∙ no_step (touches e m) (steps_of m (events_in (kept marks (causes f.others)))) 0 apart r.none;
         }
 
--- the node stands at the end of what is kept as a beginning of the whole leaves it
+-- the node after the kept events is as a prefix of the whole list leaves it
 record Stand (c b : List NodeRecord) (es ks : List Event) (m : ℕ) : Type 0 where
   now : List NodeRecord
   led : replay b ks ≡ Some now
@@ -199,7 +199,7 @@ some_whole s all =
     let led : replay s.load s.kept ≡ Some (chip_of (earlier s (length s.kept))) = ap (λ (z : List Event). replay s.load z) (sym whole) ∙ all (length s.kept) in
     subst (λ (o : Option (List NodeRecord)). IsSome o) (sym led) refl
 
--- what is told of a node of which so many steps would go
+-- the node is as it was before the last `gone` of its steps
 abbrev pub IsBehind : State → ℕ → ℕ → NodeRecord → Type 0
 IsBehind s gone m node = (place : ℕ) → steps_of m (take place s.kept) + gone ≡ steps_of m s.kept → node ≡ record_at (chip_of (earlier s place)) m
 

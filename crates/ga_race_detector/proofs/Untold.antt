@@ -1,4 +1,4 @@
--- A session of which no step is told as one that could have come out otherwise has no race.
+-- A session of which no step is reported as a race has no race.
 use Rattle.std.proofs.Common.{◌≡◌, ℕ, zero, suc, ◌+◌, ◌<◌, ◌≤◌, ◌%◌, ◌==◌, cond, Bool, true, false, ◌||◌, ◌&&◌, inl, inr, List, [], ◌∷◌, ◌++◌, Option, Some, None, IsSome, is_none, true≢false, Ok, eq-eqb, lt-ltb, refl, sym, ◌∙◌, ap, subst, arith}
 use Rattle.std.specs.Prelude.{is_some}
 use Rattle.std.specs.List.{slice_get, All}
@@ -112,9 +112,9 @@ reads_none (Write posted) stop side h k = true≢false (sym k)
 own_touched : (a n : ℕ) → ((a == n) || false) ≡ true → a ≡ n
 own_touched a n h = elim (or_cases (a == n) false h) [ inl q ↦ eqb-true a n q | inr q ↦ absurd (both_ways false refl q) ]
 
--- ---- a step behind which words are offered took one
+-- ---- a step after whose rollback words are offered took one
 
--- nothing is told of a step over a side by which it didn't take its word: so the writer there is the one that it took from
+-- no race of a step is reported over a side: the writer there is therefore the one that it took its word from
 same_writer : (s : State) (r : NodeId) (k : ℕ) (w : NodeId) (word : ℕ) (side : Side) (o : Offer (chip_of (rewound s r.number k)) r.number side)
     → races_over s r k w word side ≡ [] → o.writer ≡ w.number
 same_writer s r k w word side o none =
@@ -179,7 +179,7 @@ one_offer s r k (made.Pass w i x j word) e mid side other of can touch same none
         let writes : writes_to (record_at mid r.number).wait of.0 ≡ true = subst (λ (z : ℕ). writes_to (record_at mid z).wait of.0 ≡ true) (writer_here is) open_.writes in
         absurd (one_way (record_at mid r.number).wait of.0 side writes (subst (λ (z : NodeRecord). reads_from z.wait side ≡ true) (sym same) p.reads))
 
--- no two words are offered behind a step that stands
+-- no two words are offered after a rollback of a step that exists
 none_two : (s : State) → Runs s → races_asked s None ≡ [] → (r : NodeId) (p : ℕ) (side other : Side) → p < steps_of r.number s.kept
     → IsSome (offered (chip_of (rewound s r.number (suc p))) r.number side) → IsSome (offered (chip_of (rewound s r.number (suc p))) r.number other) → side ≡ other
 none_two s runs none r p side other within so si =
@@ -230,7 +230,7 @@ at_end chip h = (no_next chip).1 none
 
 -- ---- so it has no race
 
--- what is told of a session: no step, and that nothing looks
+-- what is reported of a session: no step, and that nothing looks
 pub no_race : (s : State) → Runs s → races_asked s None ≡ [] → has_looks (causes_of s) (chip_of s) ≡ false → HasNoRace s.load s.kept
 no_race s runs none calm =
     none_races_within s.load runs.last s.kept runs.told runs.run_is (subst (λ z. NoneLooks z) told_all (none_look (causes_of s) p.0))
@@ -282,7 +282,7 @@ no_other load limit bound calls others none calm few =
     some_from load limit calls =
         subst (λ z. IsSome (replay z (called_all (first load limit) calls).kept)) (calls_load (first load limit) calls) (runs_some (called_all (first load limit) calls) (first_runs load limit calls))
 
--- ---- each step that is told could have come out as it is told
+-- ---- each reported race is one
 
 can_pass : (chip : List NodeRecord) (w r : NodeId) (side : Side) → neighbour_of r.number side ≡ Some w.number → writes_to (record_at chip w.number).wait side ≡ true
     → reads_from (record_at chip r.number).wait side ≡ true → CanBe chip (event.Pass w r side)

@@ -44,18 +44,19 @@ race_from reader step writer word (Some other) (Some offer) =
     if other == writer.number then []
     else record { reader = reader; step = step; writer = writer; word = word; other = node_id other; offered = offer } ∷ []
 
--- the race of a step that took a word, of another word over a side of the node, were the step taken back
+-- the race of a step that took a word, of the other word that a rollback of the step leaves offered over a side of the node
 abbrev pub races_over : State → NodeId → ℕ → NodeId → ℕ → Side → List Race
 races_over s reader step writer word side =
     race_from reader step writer word (neighbour_of reader.number side) (offered (chip_of (rewound s reader.number step)) reader.number side)
 
--- the races of a step that took a word, of other words over the sides of the node, were the step taken back
+-- the races of a step that took a word, of the other words that a rollback of the step leaves offered over the sides of the
+-- node
 abbrev pub races_around : State → NodeId → ℕ → NodeId → ℕ → List Race
 races_around s reader step writer word =
     races_over s reader step writer word Right ++ (races_over s reader step writer word Down
     ++ (races_over s reader step writer word Left ++ races_over s reader step writer word Up))
 
--- the races of a step of a node of which this is told: none, unless by it the node took a word
+-- the races of a step of a node, by the step as made: none, unless by it the node took a word
 abbrev pub races_told : State → NodeId → ℕ → Option Made → List Race
 races_told s node step None = []
 races_told s node step (Some (made.Own n k kind)) = []
@@ -73,7 +74,7 @@ races_before s node (suc place) = races_before s node place ++ races_at s node p
 abbrev pub races_of : State → NodeId → List Race
 races_of s node = races_before s node (steps_of node.number s.kept)
 
--- the races of the first so many nodes
+-- the races of the nodes below a number
 unfoldable pub races_below : State → ℕ → List Race
 races_below s zero = []
 races_below s (suc number) = races_below s number ++ races_of s (node_id number)
@@ -92,7 +93,7 @@ has_look (cause ∷ causes) = cause.look || has_look causes
 abbrev pub looks_next : List NodeRecord → ℕ → Bool
 looks_next chip n = is_none (refusal (record_at chip n)) && looks (record_at chip n)
 
--- the next event of one of the first so many nodes is one of its own that looks
+-- the next event of one of the nodes below a number is one of its own that looks
 unfoldable pub has_next_look : List NodeRecord → ℕ → Bool
 has_next_look chip zero = false
 has_next_look chip (suc n) = looks_next chip n || has_next_look chip n
@@ -105,7 +106,7 @@ has_looks causes chip = has_look causes || has_next_look chip 144
 abbrev pub first_ready : List NodeRecord → Option NodeId
 first_ready chip = first_in (can_go chip) 0 144
 
--- where the step is taken back, a step of the other neighbour passes the node the other word
+-- after a rollback of the step, a step of the other neighbour transfers the other word to the node
 pub record IsOther (s : State) (race : Race) : Type 0 where
   pub side : Side
   pub next : next (chip_of (rewound s race.reader.number race.step)) race.other ≡ Ok (event.Pass race.other race.reader side)

@@ -1,6 +1,6 @@
--- Looks that could have read another word in `io`: whether a look comes before or behind a change of what is shown to it hung on the
--- order in which nodes happened to run (after Netzer and Miller, "Optimal tracing and replay for debugging message-passing parallel
--- programs", 1992; that a look races is this project's own, as looks are).
+-- Looks that could have read another word in `io`: whether a look comes before or after a change of what is shown to it
+-- depended on the order in which nodes happened to run (after Netzer and Miller, "Optimal tracing and replay for debugging
+-- message-passing parallel programs", 1992; that a look races is this project's own, as looks are).
 use Rattle.std.specs.Prelude.{◌≡◌, ◌≢◌, ◌⊎◌, ℕ, ◌+◌, nat_lt, true, if◌then◌else◌, List, Contains, Option, Some, IfSome}
 use Rattle.ga_node.specs.Io.{io_word}
 use Rattle.ga_ports.specs.declared.side.Side.{Side}
@@ -16,15 +16,15 @@ use Rattle.ga_lab.specs.Machine.{State, chip_of, causes_of, earlier, rewound}
 use Rattle.ga_race_detector.specs.declared.readings.Reading.{Reading}
 use Rattle.ga_race_detector.specs.Races.{looks_next}
 
--- the step that is taken back for the look to read the other word: its own, where the change came behind it, else the change
+-- the step that a rollback removes for the look to read the other word: its own, if the change came after it, else the change
 abbrev pub back_of : Reading → NodeId × ℕ
 back_of reading = if reading.early then (reading.node, reading.step) else (reading.neighbour, reading.change)
 
 abbrev pub without_step : State → Reading → State
 without_step s reading = rewound s (back_of reading).0.number (back_of reading).1
 
--- The step is a look, which read the word. Where the one step is taken back, a step of its node is this step again, a look that reads
--- the other word.
+-- The step is a look, which read the word. After a rollback of the one step, the next step of its node is this step again, a
+-- look that reads the other word.
 pub record IsOtherwise (s : State) (reading : Reading) : Type 0 where
   pub place : ℕ
   pub stands : IsStep (causes_of s) reading.node.number reading.step place
@@ -35,7 +35,7 @@ pub record IsOtherwise (s : State) (reading : Reading) : Type 0 where
   pub other : reading.other ≡ io_word (seen_from (chip_of (without_step s reading)) reading.node.number)
   pub differ : reading.other ≢ reading.word
 
--- Between the look and the change, which is by a step of a node beside the one that looked, nothing happens that keeps them apart.
+-- Nothing happens between the look and the change, which is by a step of a neighbour of the node that looked, that orders them.
 pub record IsNearReading (s : State) (reading : Reading) : Type 0 where
   pub look : ℕ
   pub change : ℕ
@@ -47,7 +47,7 @@ pub record IsNearReading (s : State) (reading : Reading) : Type 0 where
   pub near : IsNear s.load s.kept look change ⊎ IsNear s.load s.kept change look
   pub order : reading.early ≡ nat_lt look change
 
--- the look could have read the other word, and is of the node that was asked for, if one was
+-- the look could have read the other word, and is of the requested node, if one was
 abbrev pub IsTold : State → Option NodeId → Reading → Type 0
 IsTold s only reading = IsOtherwise s reading × IfSome only (λ node. reading.node ≡ node)
 

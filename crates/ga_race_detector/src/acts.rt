@@ -1,4 +1,4 @@
-//! The kept events of a lab with what they changed of what neighbours are shown.
+//! The history of a lab, each event with its changes of what neighbours are shown.
 
 ghost use Rattle.std.specs.Prelude.{◌≡◌, ◌≢◌, ◌<◌, ◌+◌, ℕ, true, Some, take, slice_index, length, IfOk, IfErr};
 ghost use Rattle.ga_node.specs.Io.{io_word};
@@ -26,16 +26,16 @@ use ga_races::{EventAccess, Sides};
 use ga_word::Word18;
 use std::alloc::Global;
 
-/// The kept events in order.
+/// The events of the history in order.
 #[derive(Drop)]
 pub(crate) struct Acts {
-    /// The kept events in order, each with what it changed of what the neighbours of its nodes are shown.
+    /// The events of the history in order, each with its changes of what the neighbours of its nodes are shown.
     pub(crate) list: Vec<EventAccess>,
-    /// What was before each of the kept events.
+    /// The state before each event of the history.
     pub(crate) moments: Vec<Moment>,
 }
 
-// Of each node the number of its wait, and how many steps it had made, behind so many of the kept events.
+// Of each node the number of its wait, and how many steps it had made, after a number of the events of the history.
 #[derive(Drop)]
 struct Behind {
     waits: [u32; 144],
@@ -116,7 +116,7 @@ fn differ(before: u32, behind: u32) -> Sides
     }
 }
 
-// The number of the wait of a node before its step at this position, behind which it had that one.
+// The number of the wait of a node before its step at this position; `behind` is that after the step.
 fn wait_before(lab: &Lab, node: NodeId, at: u32, behind: u32) -> u32
     requires { IsWaitCode behind }
     ensures valid { IsWaitCode result }
@@ -130,7 +130,7 @@ fn wait_before(lab: &Lab, node: NodeId, at: u32, behind: u32) -> u32
     }
 }
 
-// The number of the wait of a node as it stands.
+// The number of the current wait of a node.
 fn wait_now(lab: &Lab, node: NodeId) -> u32
     ensures value { wait_of result ≡ (record_at (chip_of lab.now) node.number).wait }
     ensures valid { IsWaitCode result }
@@ -140,7 +140,7 @@ fn wait_now(lab: &Lab, node: NodeId) -> u32
 }
 
 impl Behind {
-    // The wait and the steps of each node of the lab as it stands.
+    // The current wait and the steps of each node of the lab.
     fn of(lab: &Lab) -> Self
         ensures { (p : ℕ) → take p lab.now.kept ≡ lab.now.kept → AllStood lab.now p result.waits result.steps }
     {
@@ -183,7 +183,7 @@ impl Behind {
         self.steps[at] = step;
     }
 
-    // What stands on a side of a node.
+    // The state of a node's neighbour on a side.
     fn beside(&self, node: NodeId, side: Side) -> Beside
         requires { (m : ℕ) → m < 144 → IsWaitCode (slice_index self.now.waits m) }
         ensures { (s : State) (p : ℕ) → AllStood s p self.now.waits self.now.steps →
@@ -195,7 +195,7 @@ impl Behind {
         }
     }
 
-    // What stands on each side of a node.
+    // The states of a node's neighbours on each side.
     #[tactic(auto, unfolding(ga_event::specs::Apply::seen_from))]
     fn seen(&self, node: NodeId) -> Seen
         requires { (m : ℕ) → m < 144 → IsWaitCode (slice_index self.now.waits m) }
@@ -234,7 +234,7 @@ impl Behind {
         Moment { first, last, word }
     }
 
-    // Goes back by the last step of a node, and says on which sides it changed what the node shows.
+    // Walks back over the last step of a node, and returns on which sides it changed what the node shows.
     #[tactic(auto, using(crate::proofs::Acting::stood_before))]
     fn back(&mut self, lab: &Lab, node: NodeId) -> Sides
         requires steps { 0 < slice_index self.old.steps node.number }
@@ -255,7 +255,7 @@ impl Behind {
         differ(before, behind)
     }
 
-    // Goes back by the last event, which is this one, an own event of the node.
+    // Walks back over the last event, which is this one, an own event of the node.
     fn back_own(&mut self, lab: &Lab, cause: Cause, node: NodeId) -> EventAccess
         requires own { cause.event ≡ Event.Own node }
         requires replays { replay lab.now.load lab.now.kept ≡ Some (chip_of lab.now) }
@@ -273,7 +273,7 @@ impl Behind {
         }
     }
 
-    // Goes back by the last event, which is this one, a pass from the writer to the reader.
+    // Walks back over the last event, which is this one, a pass from the writer to the reader.
     fn back_pass(&mut self, lab: &Lab, cause: Cause, writer: NodeId, reader: NodeId) -> EventAccess
         requires pass { (side : Side) × (cause.event ≡ Event.Pass writer reader side) }
         requires replays { replay lab.now.load lab.now.kept ≡ Some (chip_of lab.now) }
@@ -292,7 +292,7 @@ impl Behind {
         }
     }
 
-    // Goes back by the last event, which is this one, and says what it changed of what neighbours are shown.
+    // Walks back over the last event, which is this one, and returns it with its changes of what neighbours are shown.
     fn back_by(&mut self, lab: &Lab, cause: Cause) -> EventAccess
         requires replays { replay lab.now.load lab.now.kept ≡ Some (chip_of lab.now) }
         requires stood { (p : ℕ) × IsAt lab.now p cause × AllStood lab.now (p + 1) self.old.waits self.old.steps }
@@ -336,8 +336,8 @@ fn plain_acts(alloc: Global, causes: &[Cause]) -> Result<Vec<EventAccess>, LabFa
     Ok(acts)
 }
 
-/// The kept events in order, each with what it changed of what the neighbours of its nodes are shown, and with what was before it.
-/// Takes memory and time by these.
+/// The events of the history in order, each with its changes of what the neighbours of its nodes are shown, and with the state
+/// before it. Takes memory and time linear in their number.
 ///
 /// # Errors
 /// `Memory` alone.

@@ -1,4 +1,4 @@
-//! How many steps of a node and of its neighbours would be left, were a step taken back.
+//! How many steps of a node and of its neighbours a rollback of a step would leave.
 
 ghost use Rattle.std.specs.Prelude.{◌≡◌, ◌<◌, ◌≤◌, ◌-◌, ◌^◌, ℕ, List, length, slice_index, Some, IfOk, IfErr};
 ghost use Rattle.ga_grid.specs.Grid.{neighbour_of};
@@ -13,7 +13,7 @@ use ga_lab::LabFault;
 use ga_ports::Side;
 use std::alloc::Global;
 
-/// How many steps of a node and of each of its neighbours would be left, were a step taken back.
+/// How many steps of a node and of each of its neighbours a rollback of a step would leave.
 #[derive(Clone, Copy, PartialEq, Eq, Debug)]
 pub(crate) struct Around {
     /// How many steps of the node would be left.
@@ -24,7 +24,7 @@ pub(crate) struct Around {
     up: u32,
 }
 
-/// How many steps of a node and of each of its neighbours would be left, for each step of one node that is taken back.
+/// How many steps of a node and of each of its neighbours would be left, for a rollback of each step of one node.
 #[derive(Drop)]
 pub(crate) struct LeftAround {
     node: Vec<u32>,
@@ -67,8 +67,8 @@ fn beside_or(node: NodeId, side: Side) -> NodeId
     }
 }
 
-// How many steps of a node and its neighbours would be left, as far as the events have gone.
-// Where nobody is on a side, the node itself stands for the neighbour.
+// How many steps of a node and its neighbours would be left, for the events so far. On a side without a neighbour, the node
+// itself takes its place.
 #[derive(Drop)]
 struct Sweep {
     here: LeftOf,
@@ -117,7 +117,7 @@ impl Sweep {
         self.down.take(cause, depth)
     }
 
-    // Takes in an event for the node and all its sides; it depends on so many steps of the node of which steps are taken back.
+    // Adds an event of this depth for the node and all its sides.
     #[inline(always)]
     fn take(&mut self, cause: &Cause, depth: u32) -> Result<(), LabFault>
         requires { AreFew self.old }
@@ -129,7 +129,7 @@ impl Sweep {
         self.up.take(cause, depth)
     }
 
-    // The lists where there are no more events, and the node of which steps are taken back made so many steps.
+    // The lists after the last event, where the node whose steps are rolled back made `made` steps.
     fn end(self, made: u32) -> Result<LeftAround, LabFault>
         ensures here { IfOk result (λ lists. IsFilled self.here.list.items lists.node.items made self.here.count) }
         ensures beside { IfOk result (λ lists. (side : Side) →
@@ -159,8 +159,8 @@ impl Sweep {
 }
 
 impl LeftAround {
-    /// How many steps of `node` and its neighbours would be left, for each step of `from` that is taken back.
-    /// Takes memory for these, and time by the events.
+    /// How many steps of `node` and its neighbours would be left, for a rollback of each step of `from`. Takes memory linear in
+    /// the number of these steps, and time linear in the number of events.
     ///
     /// # Errors
     /// `Memory` alone.
@@ -198,7 +198,7 @@ impl LeftAround {
         }
     }
 
-    // How many steps of the neighbour on a side would be left, were this step taken back.
+    // How many steps of the neighbour on a side a rollback of this step would leave.
     fn number_over(&self, side: Side, step: u32) -> u32
         requires { 0 < step }
         ensures { result ≡ slice_index (lists_over self.now side) (step - 1) }
@@ -207,7 +207,7 @@ impl LeftAround {
         number_of(list, step)
     }
 
-    /// How many steps of the node and of its neighbours would be left, were this step taken back.
+    /// How many steps of the node and of its neighbours a rollback of this step would leave.
     #[tactic(auto, using(crate::proofs::Lefts::around_at, crate::proofs::Lefts::by_sides))]
     pub(crate) fn at(&self, step: u32) -> Around
         requires { 0 < step }

@@ -1,4 +1,4 @@
-//! Looks with changes that are near to them, as they are told, but for the other word.
+//! Looks with the changes that race with them, as they are reported, except for the other word.
 
 ghost use Rattle.std.specs.Prelude.{◌≡◌, ◌<◌, ◌+◌, ◌^◌, ℕ, true, false, length, take, Contains, Some, IsSome, IfSome, slice_index_or, IfOk, OnOk, IfErr};
 ghost use Rattle.std.specs.List.{All};
@@ -37,7 +37,7 @@ pub(crate) struct Glance {
 }
 
 impl Glance {
-    /// The step that is taken back for the look to read another word: its own where it came first, else the change.
+    /// The step that a rollback removes for the look to read another word: its own if it came first, else the change.
     pub(crate) fn taken(&self) -> (NodeId, u32)
         ensures { result ≡ taken_of self.now }
     {
@@ -48,7 +48,7 @@ impl Glance {
         }
     }
 
-    /// Whether both looks are of one node, and a step of one node is taken back for both.
+    /// Whether both looks are of one node, and the removed steps for both are of one node.
     pub(crate) fn hangs_with(&self, other: &Glance) -> bool
         ensures { result ≡ true → HangTogether self.now other.now }
     {
@@ -67,7 +67,7 @@ fn looking(cause: &Cause) -> Option<NodeId>
     }
 }
 
-// Which node of an event is beside another.
+// The node of an event that is a neighbour of another.
 fn part_beside(event: Event, node: NodeId) -> NodeId
     ensures { result ≡ part_beside event node.number }
 {
@@ -83,7 +83,7 @@ fn part_beside(event: Event, node: NodeId) -> NodeId
     }
 }
 
-// How many steps the node of an event that is beside another node had made before the event.
+// The number of steps that the node of an event which is a neighbour of another had made before the event.
 fn steps_beside(cause: &Cause, moment: &Moment, node: NodeId) -> u32
     ensures { (s : State) (p : ℕ) → IsMoment s p cause.now moment.now →
         result ≡ steps_of (part_beside cause.now.event node.number).number (take p s.kept) }
@@ -100,7 +100,7 @@ fn steps_beside(cause: &Cause, moment: &Moment, node: NodeId) -> u32
     }
 }
 
-// A look and a change that stand at these places.
+// The look and the change at these places.
 fn glance_of(lab: &Lab, causes: &[Cause], moments: &[Moment], near: Near) -> Option<Glance>
     requires all { causes.now ≡ causes_of lab.now }
     requires moments { AreMoments lab.now causes.now moments.now }
@@ -136,7 +136,7 @@ pub(crate) fn glance_at(glances: &[Glance], place: usize) -> Glance
     glances[place]
 }
 
-// Whether a node is the one that was asked for, or all were.
+// Whether a node is the requested one, or all were requested.
 fn is_asked(only: Option<NodeId>, node: NodeId) -> bool
     ensures asked { result ≡ true → IfSome only (λ it. node ≡ it) }
     ensures other { result ≡ false → IfSome only (λ it. node ≡ it) → ⊥ }
@@ -147,7 +147,7 @@ fn is_asked(only: Option<NodeId>, node: NodeId) -> bool
     }
 }
 
-// Adds the look and the change that stand at these places, if the node that looked was asked for.
+// Adds the look and the change at these places, if the node that looked was requested.
 fn add_near(
     list: &mut Vec<Glance>,
     lab: &Lab,

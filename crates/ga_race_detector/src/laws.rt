@@ -14,9 +14,9 @@ ghost use Rattle.ga_lab.specs.Machine.{State, first, chip_of, causes_of, rewound
 ghost use Rattle.ga_lab.specs.Calls.{MachineCall, called_all, IsReached};
 ghost use Rattle.ga_race_detector.specs.Races.{offered, races_asked, has_looks, first_ready, IsOther};
 
-/// Where what one session keeps has no race, and no node of its chip has an event, every other session from that load, whatever was
-/// stepped, undone or rewound in it, stands on the way there: its kept events can be gone on with to those of the first in another
-/// order. Once no node has an event there either, its chip is the same: the nodes that are stopped are stopped in both.
+/// If the history of one session has no race, and no node of its chip has an event, every other session from that load,
+/// whatever was stepped, undone or rewound in it, is on the way there: its history can be continued to that of the first in
+/// another order. Once no node has an event there either, its chip is the same: the nodes that are stopped are stopped in both.
 #[tactic(auto, using(crate::proofs::Offering::on_the_way, crate::proofs::Offering::same_end))]
 pub fn any_session()
     ensures way { (load : List NodeRecord) (limit bound : ℕ) (calls others : List MachineCall) →
@@ -30,14 +30,14 @@ pub fn any_session()
         HasNoRace load s.kept → IsAtEnd (chip_of s) → IsAtEnd (chip_of z) → chip_of z ≡ chip_of s }
 {}
 
-/// No event can be made just where no node has a next one: where each `step` is refused.
+/// No event is enabled exactly if no node has a next one: if each `step` is refused.
 pub fn ends()
     ensures { (chip : List NodeRecord) →
         (IsAtEnd chip ↔ ((n : NodeId) (event : Event) → next chip n ≡ Ok event → ⊥)) }
 {}
 
-/// What a session keeps has no race where no kept event looks, no node has an event, and of no step of a node, were it taken back, two
-/// words are offered to the node (`offered`): then every other session is on the way to the same chip (`any_session`).
+/// The history of a session has no race if no event of it looks, no node has an event, and no rollback of a node's step leaves
+/// two words offered to the node (`offered`): then every other session is on the way to the same chip (`any_session`).
 pub fn none_offered()
     ensures { (s : State) → IsReached s → NoneLooks (causes_of s) → IsAtEnd (chip_of s) →
         ((r : NodeId) (k : ℕ) (side other : Side) → side ≢ other →
@@ -46,9 +46,10 @@ pub fn none_offered()
         HasNoRace s.load s.kept }
 {}
 
-/// Where of a session no step is told (`races_asked`), nothing that is kept or comes next looks, and no node has an event, every other
-/// session from that load stands on the way there, whatever was stepped, undone or rewound in it; and once no node has an event there
-/// either, its chip is the same. This is what `find_races` leaves to say of a run that has ended.
+/// If no race of a session is reported (`races_asked`), no event of its history and no next event looks, and no node has an
+/// event, every other session from that load is on the way there, whatever was stepped, undone or rewound in it; and once no
+/// node has an event there either, its chip is the same. This is the conclusion from a result of `find_races` without races,
+/// for a run that has ended.
 #[tactic(auto, using(crate::proofs::Untold::every_way, crate::proofs::Untold::every_end))]
 pub fn every_order()
     ensures way { (load : List NodeRecord) (limit bound : ℕ) (calls others : List MachineCall) →
@@ -63,8 +64,8 @@ pub fn every_order()
         first_ready (chip_of z) ≡ None → chip_of z ≡ chip_of s }
 {}
 
-/// Take a session of which no step is told (`races_asked`), and where nothing that is kept or comes next looks.
-/// Every other session from that load in which no node made more steps stands on the way there.
+/// Take a session of which no race is reported (`races_asked`), and of which no event of the history and no next event looks.
+/// Every other session from that load in which no node made more steps is on the way there.
 #[tactic(auto, using(crate::proofs::Untold::no_other))]
 pub fn no_other_order()
     ensures { (load : List NodeRecord) (limit bound : ℕ) (calls others : List MachineCall) →
@@ -75,8 +76,8 @@ pub fn no_other_order()
         (later : List Event) × AreOrders load s.kept (z.kept ++ later) }
 {}
 
-/// Each step that is told could have come out as it is told, with looks kept or not: where it is taken back, a step of the other
-/// neighbour is the pass to the node, of the other word.
+/// Each reported race is one, with looks in the history or not: after a rollback of the step, a step of the other neighbour is
+/// the pass to the node, of the other word.
 #[tactic(auto, using(crate::proofs::Untold::all_made))]
 pub fn other_word()
     ensures { (s : State) (only : Option NodeId) → All (IsOther s) (races_asked s only) }

@@ -1,4 +1,4 @@
-//! How many steps of a node would be left, were a step of another taken back: for each of these steps, by one pass over the kept events.
+//! How many steps of a node a rollback of a step of another would leave: for each of these steps, by one pass over the history.
 
 ghost use Rattle.std.specs.Prelude.{◌≡◌, ◌<◌, ◌+◌, [], ◌^◌, ℕ, length, if◌then◌else◌, Some, IfOk, OnOk, IfErr};
 ghost use Rattle.ga_causal.specs.Dependence.{cause_touches};
@@ -14,7 +14,7 @@ use ga_ports::Side;
 use std::alloc::Global;
 use std::marker::Model;
 
-/// Of each node, on how many steps of one node its newest event depends: on the first so many.
+/// The depth of the newest event of each node: on how many of the first steps of one node it depends.
 #[derive(Drop)]
 pub(crate) struct Depths {
     steps: [u32; 144],
@@ -126,7 +126,7 @@ impl Depths {
     }
 }
 
-/// The number of steps of a node behind an event: one more where the event touches the node.
+/// The number of steps of a node after an event: one more if the event touches the node.
 #[inline(always)]
 pub(crate) fn with_step(steps: u32, cause: &Cause, node: NodeId) -> u32
     requires { steps + 1 < 2 ^ 32 }
@@ -150,7 +150,7 @@ fn fill(list: &mut Vec<u32>, to: u32, number: u32) -> Result<(), LabFault>
     Ok(())
 }
 
-/// Of the first steps of one node, how many steps of another would be left, were each taken back: as far as the events have gone.
+/// How many steps of one node a rollback of each of the first steps of another would leave, for the events so far.
 #[derive(Drop)]
 pub(crate) struct LeftOf {
     node: NodeId,
@@ -175,7 +175,7 @@ impl LeftOf {
         }
     }
 
-    /// Takes in an event, which depends on so many steps of the node of which steps are taken back.
+    /// Adds an event, which depends on the first `depth` steps of the node whose steps are rolled back.
     ///
     /// # Errors
     /// `Memory` alone.
@@ -194,7 +194,7 @@ impl LeftOf {
         Ok(())
     }
 
-    /// The list where there are no more events, and the node of which steps are taken back made so many steps.
+    /// The list after the last event, where the node whose steps are rolled back made `made` steps.
     ///
     /// # Errors
     /// `Memory` alone.
@@ -209,8 +209,8 @@ impl LeftOf {
     }
 }
 
-/// Of each step of a node, how many steps of another would be left, were it taken back with all that depends on it. Takes memory for
-/// these, and time by the events.
+/// How many steps of another node a rollback of each step of a node would leave. Takes memory linear in the number of these
+/// steps, and time linear in the number of events.
 ///
 /// # Errors
 /// `Memory` alone.
@@ -236,7 +236,7 @@ pub(crate) fn steps_left(
     left.end(made)
 }
 
-// For each step of a node, how many steps of the neighbour on a side would be left, where that is asked for; else an empty list.
+// How many steps of the neighbour on a side a rollback of each step of a node would leave, if requested; else an empty list.
 fn steps_over(
     alloc: Global,
     causes: &[Cause],
@@ -254,7 +254,7 @@ fn steps_over(
     }
 }
 
-/// Of some neighbours of a node, by their sides, how many steps would be left, were each step of the node taken back.
+/// How many steps of some neighbours of a node, by their sides, a rollback of each step of the node would leave.
 #[derive(Drop)]
 pub(crate) struct LeftBeside {
     right: Vec<u32>,
@@ -271,8 +271,9 @@ impl LeftBeside {
     ghost use Rattle.ga_causal.specs.Steps.{touching};
     ghost use Rattle.ga_race_detector.specs.inner.Writers.{left_over, IsLeftBeside};
 
-    /// How many steps of each neighbour that ever waited to write to the node would be left, were each step of the node taken back.
-    /// Of none, if these neighbours are fewer than two. Takes memory for these, and time by the events for each.
+    /// How many steps of each neighbour that ever waited to write to the node a rollback of each step of the node would leave.
+    /// Of none, if these neighbours are fewer than two. Takes memory linear in the number of these steps, and for each
+    /// neighbour time linear in the number of events.
     ///
     /// # Errors
     /// `Memory` alone.
@@ -331,7 +332,7 @@ impl LeftBeside {
         }
     }
 
-    /// How many steps of the neighbour on the side would be left, were the step taken back, where it is known.
+    /// How many steps of the neighbour on the side a rollback of the step would leave, if it is known.
     pub(crate) fn at(&self, side: Side, step: u32) -> Option<u32>
         requires { 0 < step }
         ensures { IfSome result (λ many. (causes : List Cause) (n m : ℕ) → IsLeftBeside causes n self.now → neighbour_of n side ≡ Some m →

@@ -1,4 +1,4 @@
-//! What was before each of the kept events.
+//! The state before each event of the history.
 
 ghost use Rattle.std.specs.Prelude.{◌≡◌, ◌<◌, length, slice_index_or, IfOk, IfErr};
 ghost use Rattle.ga_race_detector.specs.inner.Glances.{first_part, last_part, no_moment};

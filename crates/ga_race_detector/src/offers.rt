@@ -19,7 +19,7 @@ use ga_node::Node;
 use ga_ports::Side;
 use ga_rollback::Visited;
 
-// The node as it would stand where so many of its steps went.
+// The node as a rollback would leave it that removes its number of steps in `steps`.
 pub(crate) fn behind(lab: &Lab, steps: &Visited, node: NodeId) -> Node
     requires { slice_index steps.now node.number ≤ steps_of node.number lab.now.kept }
     ensures value { (place : ℕ) → steps_of node.number (take place lab.now.kept) + slice_index steps.now node.number ≡ steps_of node.number lab.now.kept →
@@ -79,8 +79,8 @@ fn posted_now(node: &Node, side: Side) -> Option<u32>
     }
 }
 
-// The word that the node waited to write to its neighbour over the side when it had made so many steps: that of its next step, where
-// this passed one there.
+// The word that the node waited to write to its neighbour over the side after `steps` of its steps: that of its next step, if
+// this transferred one there.
 fn posted(lab: &Lab, node: NodeId, steps: u32, side: Side, reader: NodeId) -> Option<u32>
     requires near { neighbour_of reader.number side ≡ Some node.number }
     ensures value { (place : ℕ) → steps_of node.number (take place lab.now.kept) ≡ steps →
@@ -95,8 +95,8 @@ fn posted(lab: &Lab, node: NodeId, steps: u32, side: Side, reader: NodeId) -> Op
     }
 }
 
-/// The word that would come to a node over a side, were its step taken back, where it would wait for one there, and so many steps of its
-/// neighbour there would be left. Takes no memory, and as long whatever would be taken.
+/// The word that a rollback of a node's step would leave offered to it over a side, where it would wait for one there, and
+/// would leave `writer.1` steps of its neighbour there. Takes no memory, and the same time whatever would be removed.
 pub(crate) fn offered_behind(
     lab: &Lab,
     step: (NodeId, u32),
@@ -113,9 +113,9 @@ pub(crate) fn offered_behind(
     posted(lab, writer.0, writer.1, side, step.0)
 }
 
-/// The word that would come over a side of the node, were its step taken back with all that depends on it: none where no neighbour
-/// there waits to write it, or the node doesn't wait for it. So of a step by which the node took a word, the sides tell what else it
-/// could have taken. Nothing is taken back. Takes no memory, and time by what `rewind` would take.
+/// The word that a rollback of the node's step would leave offered over a side of the node: none if no neighbour there waits to
+/// write it, or the node doesn't wait for it. For a step by which the node took a word, the sides thus show what else it could
+/// have taken. Nothing is removed. Takes no memory, and time linear in what `rewind` would remove.
 ///
 /// # Errors
 /// `NoStep`, where the node has no such step.

@@ -20,8 +20,8 @@ use ga_ports::Side;
 use ga_word::Word18;
 use std::alloc::Global;
 
-/// A step by which a node took a word, and another word that it could have taken: taken back, it leaves the other neighbour waiting
-/// to write to the node, and a step of that one makes the other pass.
+/// A step by which a node took a word, and another word that it could have taken: after a rollback of the step, the other
+/// neighbour waits to write to the node, and a step of that one makes the other pass.
 #[derive(Clone, Copy, PartialEq, Eq, Debug)]
 pub struct Race {
     /// The node that took the word.
@@ -43,7 +43,7 @@ pub struct Race {
 pub struct Races {
     /// The races in the order of the nodes' numbers, of a node in that of its steps, of a step in the order right, down, left, up.
     pub list: Vec<Race>,
-    /// The looks that could have read another word, in the order of whichever of the look and the change stands later.
+    /// The looks that could have read another word, in the order of the later of the look and the change.
     pub readings: Vec<Reading>,
     /// Whether a kept event looks, or one that comes next: then there may be other races than those listed.
     pub looks: bool,
@@ -60,7 +60,7 @@ struct Taken {
     word: Word18,
 }
 
-// Who ever waited to write to a node, and how many of their steps would be left, were each of its steps taken back.
+// Which neighbours ever waited to write to a node, and how many of their steps a rollback of each of its steps would leave.
 #[derive(Drop)]
 struct Besides {
     writers: Writers,
@@ -161,7 +161,7 @@ fn add_around(
     Ok(())
 }
 
-// Adds the races of a step of the node of which this is told.
+// Adds the races of a step of the node, by the step as made.
 fn add_told(
     list: &mut Vec<Race>,
     lab: &mut Lab,
@@ -223,7 +223,7 @@ fn takes_some(lab: &Lab, node: NodeId) -> bool
     false
 }
 
-// Who ever waited to write to the node, and how many of their steps would be left, were each of its steps taken back.
+// Which neighbours ever waited to write to the node, and how many of their steps a rollback of each of its steps would leave.
 fn besides_of(alloc: Global, lab: &Lab, causes: &[Cause], node: NodeId) -> Result<Besides, LabFault>
     requires all { causes.now ≡ causes_of lab.now }
     requires few { length causes.now < 2 ^ 32 }
@@ -325,7 +325,7 @@ fn is_quiet(chip: &Chip) -> bool
     true
 }
 
-// The kept events in order.
+// The events of the history in order.
 fn kept_causes(lab: &Lab) -> Result<Vec<Cause>, LabFault>
     ensures ok { IfOk result (λ list. list.items ≡ causes_of lab.now) }
     ensures few { IfOk result (λ list. length list.items < 2 ^ 32) }
@@ -360,11 +360,11 @@ fn find_taken(
     Ok(list)
 }
 
-/// The steps of a node, or of all, by which it took a word where another neighbour could have given it one. Nothing is taken back.
-/// Takes memory for the list, and for a while for a list of all kept events and four numbers for each step of a node; and time by these
-/// events, and again by these for each neighbour of a node that ever waited to write to it, where there are two. Where events look, also
-/// memory for some numbers of each event and five of each step of a node, and time by the events for each node that looks and again for
-/// each of its neighbours.
+/// The steps of a node, or of all, by which it took a word where another neighbour could have given it one. Nothing is removed.
+/// Takes memory for the list, and temporarily for a list of all events of the history and four numbers for each step of a node;
+/// and time linear in the number of these events, and again so for each neighbour of a node that ever waited to write to it,
+/// where there are two. If events look, also memory for some numbers of each event and five of each step of a node, and time
+/// linear in the number of events for each node that looks and again for each of its neighbours.
 ///
 /// # Errors
 /// `Memory` alone.

@@ -27,7 +27,8 @@ use ga_races::find_near;
 use ga_word::Word18;
 use std::alloc::Global;
 
-/// A look of a node, and another word that it could have read: where the one step is taken back, the node looks again, and reads this.
+/// A look of a node, and another word that it could have read: after a rollback of the one step, the node looks again, and
+/// reads this.
 #[derive(Clone, Copy, PartialEq, Eq, Debug)]
 pub struct Reading {
     /// The node that looked.
@@ -40,7 +41,7 @@ pub struct Reading {
     pub neighbour: NodeId,
     /// The step by which the neighbour changed what it shows.
     pub change: u32,
-    /// Whether the look came before the change. Then the look is taken back, else the change.
+    /// Whether the look came before the change. Then the rollback is of the look, else of the change.
     pub early: bool,
     /// The other word that the look could have read.
     pub other: Word18,
@@ -59,7 +60,7 @@ fn shows(wait: &Wait, side: Side) -> Beside
     }
 }
 
-// What a node showed on a side when it had made so many steps, of which the next wrote over its wait, if that is kept.
+// What a node showed on a side after `steps` of its steps, by the old wait that the next step overwrote, if it did.
 #[tactic(auto, using(crate::proofs::Silent::steps_take))]
 fn shown_before(lab: &Lab, node: NodeId, steps: u32, side: Side) -> Beside
     ensures { (place : ℕ) → steps_of node.number (take place lab.now.kept) ≡ steps →
@@ -75,7 +76,7 @@ fn shown_before(lab: &Lab, node: NodeId, steps: u32, side: Side) -> Beside
     }
 }
 
-// What a node showed on a side when it had made so many steps: if its next step is its own, it waits for nothing.
+// What a node showed on a side after `steps` of its steps: if its next step is its own, it waits for nothing.
 fn shown_at(lab: &Lab, node: NodeId, steps: u32, side: Side) -> Beside
     ensures { (place : ℕ) → steps_of node.number (take place lab.now.kept) ≡ steps →
         result ≡ shows (record_at (chip_of (earlier lab.now place)) node.number).wait side }
@@ -89,7 +90,7 @@ fn shown_at(lab: &Lab, node: NodeId, steps: u32, side: Side) -> Beside
     }
 }
 
-// What would stand on a side of the node where so many steps of each neighbour were left.
+// The state of the neighbour on a side of the node, if these steps of each neighbour were left.
 fn beside_behind(lab: &Lab, around: &Around, node: NodeId, side: Side) -> Beside
     ensures { (b k : ℕ) → IsAround (causes_of lab.now) b k node.number around.now →
         result ≡ beside_in (chip_of (rewound lab.now b k)) side (neighbour_of node.number side) }
@@ -101,7 +102,7 @@ fn beside_behind(lab: &Lab, around: &Around, node: NodeId, side: Side) -> Beside
     }
 }
 
-// What would stand on each side of the node where so many steps of each neighbour were left.
+// The states of the neighbours on each side of the node, if these steps of each neighbour were left.
 #[tactic(auto, unfolding(ga_event::specs::Apply::seen_from))]
 fn seen_behind(lab: &Lab, around: &Around, node: NodeId) -> Seen
     ensures { (b k : ℕ) → IsAround (causes_of lab.now) b k node.number around.now →
@@ -115,8 +116,8 @@ fn seen_behind(lab: &Lab, around: &Around, node: NodeId) -> Seen
     }
 }
 
-// The word that a look would read, were its step or the change taken back, if all steps of its node before it would be left: then it
-// comes next.
+// The word that a look would read after a rollback of its step or of the change, if that leaves all steps of its node before
+// it: then the look comes next.
 fn other_word(lab: &Lab, glance: &Glance, around: &Around) -> Option<Word18>
     requires glance { (near : Near) × IsGlance lab.now near glance.now }
     requires around { IsAroundOf (causes_of lab.now) glance.now around.now }
@@ -131,7 +132,7 @@ fn other_word(lab: &Lab, glance: &Glance, around: &Around) -> Option<Word18>
     Some(seen_behind(lab, around, glance.node).io_word())
 }
 
-// A look and a change, as they are told, if the look reads another word.
+// A look and a change, as they are reported, if the look reads another word.
 fn reading_of(lab: &Lab, glance: &Glance, around: &Around) -> Option<Reading>
     requires glance { (near : Near) × IsGlance lab.now near glance.now }
     requires around { IsAroundOf (causes_of lab.now) glance.now around.now }
@@ -179,7 +180,7 @@ fn add_reading(
     }
 }
 
-// A list for so many looks, of none of which anything is known yet.
+// A list for `many` looks, without any known numbers.
 fn none_known(alloc: Global, many: usize) -> Result<Vec<Option<Around>>, LabFault>
     ensures size { IfOk result (λ known. length known.items ≡ many) }
     ensures none { IfOk result (λ known. All (λ around. around ≡ None) known.items) }
@@ -269,10 +270,10 @@ fn readings_of(
     Ok(list)
 }
 
-/// The looks of a node, or of all, that could have read another word: each with a change that stands before or behind it, with nothing
-/// between that would keep their order. Nothing is taken back. Takes memory for a while for a list of all kept events and for some
-/// numbers of each, and time by these; and again by these, and by what is told, for each node that looks and each of its neighbours
-/// that changes what it shows to that. Where none of the events looks there is none, and nothing is done.
+/// The looks of a node, or of all, that could have read another word: each with a change before or after it, with nothing
+/// between that would keep their order. Nothing is removed. Takes memory temporarily for a list of all events of the history
+/// and for some numbers of each, and time linear in these; and again by these, and by what is reported, for each node that
+/// looks and each of its neighbours that changes what it shows to that. If no event looks there is none, and nothing is done.
 ///
 /// # Errors
 /// `Memory` alone.

@@ -1,4 +1,4 @@
-//! Which neighbours of a node ever waited to write to it: no other can give it a word, whatever is taken back.
+//! Which neighbours of a node ever waited to write to it: no other can give it a word after any rollback.
 
 ghost use Rattle.std.specs.Prelude.{◌≡◌, ◌+◌, ◌<◌, ℕ, true, false, Some, None};
 ghost use Rattle.ga_node.specs.State.{wait_of, IsWaitCode};
@@ -46,7 +46,7 @@ impl Writers {
     }
 }
 
-// Whether the node waits to write over the side, or did at load or behind some of its kept steps.
+// Whether the node waits to write over the side, or did at load or after some of its steps.
 fn has_written(lab: &Lab, node: NodeId, side: Side) -> bool
     ensures { result ≡ false → (n k : ℕ) → neighbour_of n side ≡ Some node.number → offered (chip_of (rewound lab.now n k)) n side ≡ None }
 {
@@ -60,7 +60,7 @@ fn has_written(lab: &Lab, node: NodeId, side: Side) -> bool
     waits
 }
 
-// Whether the neighbour on a side of the node waits to write to it, or did at load or behind some of its kept steps.
+// Whether the neighbour on a side of the node waits to write to it, or did at load or after some of its steps.
 fn is_written(lab: &Lab, node: NodeId, side: Side) -> bool
     ensures { result ≡ false → NeverOffers lab.now node.number side }
 {
@@ -70,8 +70,9 @@ fn is_written(lab: &Lab, node: NodeId, side: Side) -> bool
     }
 }
 
-/// On which sides of the node a neighbour ever waited to write to it, at load or behind some of its kept steps: over no other side is a
-/// word offered to it, whatever is taken back. Takes no memory, and time by the steps of the neighbours that never did.
+/// On which sides of the node a neighbour ever waited to write to it, at load or after some of its steps: over no other side a
+/// rollback leaves a word offered to it. Takes no memory, and time linear in the number of steps of the neighbours that never
+/// did.
 pub(crate) fn writers_of(lab: &Lab, node: NodeId) -> Writers
     ensures { AreSilent lab.now node.number result }
 {
@@ -107,7 +108,7 @@ fn read_then(lab: &Lab, node: NodeId, step: u32, side: Side) -> bool
     }
 }
 
-// Whether the node waited to read over the side right before its step, by what is kept of the step where that tells it.
+// Whether the node waited to read over the side right before its step, by the old wait in the step's entry, if it is there.
 #[tactic(auto, using(crate::proofs::Silent::waited, ga_lab::proofs::Called::runs_of))]
 fn reads_before(lab: &Lab, node: NodeId, step: u32, side: Side) -> bool
     requires { stands lab.now node.number step ≡ true }
@@ -120,8 +121,8 @@ fn reads_before(lab: &Lab, node: NodeId, step: u32, side: Side) -> bool
     }
 }
 
-/// Whether a word may be offered to the node over the side, were its step taken back, which none is where this is false: the neighbour
-/// ever waited to write there, and the node waited for a word there right before the step.
+/// Whether a rollback of the node's step may leave a word offered over the side; if false, it leaves none. True if the
+/// neighbour ever waited to write there, and the node waited for a word there right before the step.
 #[tactic(auto, using(crate::proofs::Silent::unread))]
 pub(crate) fn may_come(lab: &Lab, writers: &Writers, node: NodeId, step: u32, side: Side) -> bool
     requires silent { AreSilent lab.now node.number writers.now }

@@ -1,4 +1,4 @@
--- What a log says of the machine, of the seats and of the lists of calls.
+-- What a log implies for the machine, the seats and the lists of calls.
 use Rattle.ga_shared.specs.declared.call.Answer.TheVariants as answer
 use Rattle.std.proofs.Common.{◌≡◌, ◌+◌, ℕ, cond, refl, arith, ◌≢◌, List, [], ◌∷◌, ◌++◌, length, length-append, sym, ap, ◌∙◌, subst, zero-add, ◌<◌, take, get_or, zero, suc, map, sum_by, Some, Bool, true, false}
 use Rattle.std.specs.Prelude.{Result, Ok, Err, All, slice_get, ◌==◌, if◌then◌else◌}
@@ -25,7 +25,7 @@ use Rattle.ga_shared.specs.inner.{IsDone}
 
 -- ---- What a call leaves of the machine: its load, its limit, and how many events were made
 
--- how many events an answer tells of: one where the call made one
+-- the number of events that the call of an answer made: 1 or 0
 abbrev pub added_by : Answer → ℕ
 added_by a = cond (is_made a) 1 0
 

@@ -1,4 +1,4 @@
--- Calls of workers and their logs, what stands under the lock and at a seat, and what a shared chip was opened on.
+-- Calls of workers and their logs, what is under the lock and at a seat, and what a shared chip was opened on.
 use Rattle.ga_shared.specs.declared.call.Answer.TheVariants as answer
 use Rattle.std.specs.Prelude.{ℕ, Result, Ok, Err, ◌≡◌, ◌≢◌, ◌+◌, ◌≤◌, Bool, true, false, count_by, List, [], ◌∷◌, ◌++◌, length, ◌==◌, map, sum_by, if◌then◌else◌, slice_get, Some, ◌<◌, All}
 use Rattle.ga_lab.specs.declared.fault.LabFault.{LabFault}
@@ -43,10 +43,10 @@ abbrev pub state_after : State → Call → State
 state_after s (Step node) = stepped s node
 state_after s (Rewind node step) = rewound s node.number step
 
--- ---- Logs of calls that the machine could have answered, and what stands under the lock and at a seat
+-- ---- Logs of calls that the machine could have answered, and what is under the lock and at a seat
 
--- The log is legal from one state of the machine to another: run over its calls, the machine gives its answers and ends in
--- the other state. No answer in it is want of memory
+-- The log is legal from one state of the machine to another: run over its calls, the machine gives its answers and ends in the
+-- other state. No answer in it is out of memory
 abbrev pub IsLegal : State → List Entry → State → Type 0
 IsLegal s [] t = s ≡ t
 IsLegal s (e ∷ es) t =
@@ -62,7 +62,7 @@ is_made (answer.Refused number) = false
 abbrev pub made_by : List Entry → ℕ
 made_by log = count_by (λ e. is_made e.answer) log
 
--- What stands under the lock: a copy of the lab's load, the lab, the log of its calls, and the total of the book
+-- What is under the lock: a copy of the lab's load, the lab, the log of its calls, and the total of the book
 pub record Desk : Type 0 where
   pub load : List NodeRecord
   pub lab : State
@@ -136,13 +136,13 @@ pub record Raced (load : List NodeRecord) (limit : ℕ) (lists : List (List Call
 
 -- ---- What a shared chip was opened on, the seats of its workers, and whether their receipts are the log's
 
--- the load, the limit and the number of workers that were handed in
+-- the load, the limit and the number of workers with which a shared chip was opened
 pub record Opening : Type 0 where
   pub load : List NodeRecord
   pub limit : ℕ
   pub workers : ℕ
 
--- the receipts that a log has for a worker, in order, where so many entries came before the log
+-- the receipts that a log has for a worker, in order, where `place` entries came before the log
 abbrev pub receipts_of : ℕ → ℕ → List Entry → List Receipt
 receipts_of worker place [] = []
 receipts_of worker place (e ∷ es) =

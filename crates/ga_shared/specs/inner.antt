@@ -31,7 +31,7 @@ IsFresh node = (p : ℕ) × (node ≡ fresh_node p)
 abbrev pub IsDone : List (List Call) → Worker → Type 0
 IsDone lists now = (calls : List Call) → slice_get lists now.number ≡ Some calls → Works (fresh_worker now.number) now calls
 
--- each worker made all calls of its list, and no others, and they stand in the order of their numbers
+-- each worker made all calls of its list, and no others, and they are in the order of their numbers
 abbrev pub AreDone : List (List Call) → List Worker → Type 0
 AreDone lists workers = (w : ℕ) (s : Worker) → slice_get workers w ≡ Some s → (s.number ≡ w) × IsDone lists s
 

@@ -18,7 +18,7 @@ pub enum Call {
 pub enum Answer {
     /// The event that the step made.
     Made(Made),
-    /// How many events were taken back.
+    /// The number of removed events.
     Removed(u32),
     /// The lab refused the call, which changed nothing: 1, 2, 3, 6 or 7. It is logged.
     Refused(u8),
@@ -60,7 +60,7 @@ impl Receipt {
         }
     }
 
-    /// Whether two receipts are the same. The derived comparison says so of their parts alone.
+    /// Whether two receipts are the same. The contract of the derived comparison covers their parts only.
     pub(crate) fn is_same(&self, other: &Receipt) -> bool
         ensures { IsTrue result ↔ (self.now ≡ other.now) }
     {

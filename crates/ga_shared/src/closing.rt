@@ -25,13 +25,13 @@ pub struct Closed {
 /// Why a shared chip was not closed, or closed with a doubt.
 #[derive(Drop)]
 pub enum CloseFault<L: Ledger> {
-    /// The seats are not those of all workers, each once (21). The shared chip and all seats are handed back.
+    /// The seats are not those of all workers, each once (21). The shared chip and all seats are returned.
     Missing {
         shared: Shared<L>,
         seats: Vec<Seat<L>>,
     },
-    /// Where no worker is named, the lab was not opened on the chip and the limit handed in; else the receipts of this worker,
-    /// and of none before it, are not the log's (22).
+    /// Without a worker: the lab was not opened on the chip and the limit given; else the receipts of this worker, and of none
+    /// before it, are not the log's (22).
     Disagree {
         worker: Option<u32>,
         closed: Closed,
@@ -162,7 +162,7 @@ pub fn receipts_match(log: &[Entry], worker: u32, receipts: &[Receipt]) -> bool
     left.is_empty()
 }
 
-/// The receipts behind the first, where that is this one.
+/// The receipts after the first, if that is this one.
 fn after_first<'a>(receipts: &'a [Receipt], receipt: &Receipt) -> Option<&'a [Receipt]>
     ensures some { IfSome result (λ others. receipts.now ≡ receipt.now ∷ others.now) }
     ensures none { IfNone result ((others : List Receipt) → receipts.now ≢ receipt.now ∷ others) }
@@ -194,7 +194,7 @@ fn count_up<L: Ledger>(book: &mut Book<L>, seats: Vec<Seat<L>>)
     book.audit(&mut total);
 }
 
-/// A share with no part, made beside that of the first seat.
+/// A share with no part, made from that of the first seat.
 fn none<L: Ledger>(seats: &mut Vec<Seat<L>>) -> Share<L>
     requires { 0 < vec_len seats.old }
     ensures share { (result.parts ≡ 0) × (result.amount ≡ 0) }

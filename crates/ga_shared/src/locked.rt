@@ -1,4 +1,4 @@
-//! What stands under the one lock, and a worker's seat.
+//! The data under the one lock, and a worker's seat.
 
 ghost use Rattle.std.specs.Prelude.{◌≡◌, ◌≢◌, IfOk, OnOk, OnErr};
 ghost use Rattle.ga_shared.specs.Log.{call_answer, state_after, refusal_number};

@@ -26,7 +26,7 @@ pub enum RaceFault {
     /// Out of memory (4).
     #[error("out of memory")]
     Memory,
-    /// The log doesn't agree with what was handed in, or with a worker's receipts (22).
+    /// The log doesn't agree with the given chip and limit, or with a worker's receipts (22).
     #[error("the log disagrees with the workers")]
     Disagree,
     /// A thread was not started (23). Those that ran are joined.

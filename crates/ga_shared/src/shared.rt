@@ -12,8 +12,8 @@ use std::marker::Model;
 use std::sync::ledger::{Blank, Ledger};
 use std::sync::{Mutex, Wait};
 
-/// A lab under a lock, for 1 to 16 workers. Each has a [`Seat`], with which any thread calls `step` and `rewind`; `close` takes
-/// the seats back and gives the lab and the log. Outside the lock stand a copy of the chip, the limit and the number of
+/// A lab under a lock, for 1 to 16 workers. Each has a [`Seat`], with which any thread calls `step` and `rewind`; `close`
+/// consumes the seats and returns the lab and the log. Outside the lock are a copy of the chip, the limit and the number of
 /// workers, which no call changes.
 #[derive(Drop)]
 pub struct Shared<L: Ledger> {

@@ -1,4 +1,4 @@
-//! The calls of one worker, and what is told of them.
+//! The calls of one worker, and the gate around them.
 
 ghost use Rattle.std.specs.Prelude.{◌≡◌, ◌<◌, ◌^◌, ℕ, length, take, IfOk, OnOk, OnErr};
 ghost use Rattle.ga_shared.specs.Log.{Works, CountsCall};
@@ -9,7 +9,7 @@ use crate::shared::Shared;
 use std::sync::Wait;
 use std::sync::ledger::Ledger;
 
-/// Makes the calls one by one, with the gate told before and after each, up to the first fault.
+/// Makes the calls one by one, and calls the gate before and after each, up to the first fault.
 ///
 /// # Errors
 /// `Memory` alone; the calls before it were made.
@@ -51,7 +51,7 @@ fn make<L: Ledger, R: Wait>(
     }
 }
 
-/// What is told before and after each call of a worker, outside the lock. Calls count from 1.
+/// Called before and after each call of a worker, outside the lock. Calls count from 1.
 pub trait Gate {
     /// The worker is about to make the call.
     fn before(&self, worker: u32, call: u32);

@@ -1,4 +1,4 @@
--- Looks with changes that are near to them, as they are told, but for the other word.
+-- Looks with the changes that race with them, as they are reported, except for the other word.
 use Rattle.std.specs.Prelude.{◌≡◌, ◌<◌, ◌≤◌, true, ℕ, List, length, take, slice_index, slice_index_or, ◌+◌, ◌^◌, [], Some, nat_lt, if◌then◌else◌, Contains, Option, None, IfSome}
 use Rattle.ga_node.specs.Io.{io_word}
 use Rattle.ga_node.specs.State.{wait_of, IsWaitCode}
@@ -30,19 +30,19 @@ use Rattle.ga_race_detector.specs.Races.{looks_next}
 use Rattle.ga_race_detector.specs.Readings.{IsTold}
 use Rattle.ga_race_detector.specs.declared.glances.Glance.{Glance}
 
--- ---- nodes as they stood before a place of the kept events, and the event at the place as it was made
+-- ---- nodes as they were before a place of the history, and the event at the place as it was made
 
--- before the place the node had this wait, by number, and had made so many steps
+-- before the place the node had this wait, by number, and had made `count` steps
 pub record StoodSo (s : State) (m place code count : ℕ) : Type 0 where
   pub wait : (record_at (chip_of (earlier s place)) m).wait ≡ wait_of code
   pub valid : IsWaitCode code
   pub steps : count ≡ steps_of m (take place s.kept)
 
--- before the place each node of the chip had this wait, by number, and had made so many steps
+-- before the place each node of the chip had its wait, by number, and its number of steps in these lists
 abbrev pub AllStood : State → ℕ → List ℕ → List ℕ → Type 0
 AllStood s place waits steps = (m : ℕ) → m < 144 → StoodSo s m place (slice_index waits m) (slice_index steps m)
 
--- this is the event at the place of the kept events
+-- this is the event at the place of the history
 pub record IsAt (s : State) (place : ℕ) (cause : Cause) : Type 0 where
   pub within : place < length s.kept
   pub is : event_at (causes_of s) place ≡ cause
@@ -61,7 +61,7 @@ abbrev pub last_part : Event → NodeId
 last_part (Own n) = n
 last_part (Pass w r side) = r
 
--- before the event at the place its nodes had made so many steps, and if it looks it reads this word
+-- before the event at the place its nodes had made these numbers of steps, and if it looks it reads this word
 pub record IsMoment (s : State) (place : ℕ) (cause : Cause) (moment : Moment) : Type 0 where
   pub first : moment.first ≡ steps_of (first_part cause.event).number (take place s.kept)
   pub last : moment.last ≡ steps_of (last_part cause.event).number (take place s.kept)
@@ -80,7 +80,7 @@ pub record AreMoments (s : State) (causes : List Cause) (moments : List Moment) 
   pub size : length moments ≡ length causes
   pub each : AreMomentsFrom s 0 causes moments
 
--- ---- how many steps of a node and of its neighbours are left where a step is taken back
+-- ---- how many steps of a node and of its neighbours a rollback of a step leaves
 
 -- how many steps of the neighbour on a side are left
 abbrev pub around_over : Around → Side → ℕ
@@ -120,7 +120,7 @@ pub record AreTaken (old new : Sweep) (cause : Cause) (depth : ℕ) : Type 0 whe
   pub here : IsTaken old.here new.here cause depth
   pub beside : (side : Side) → IsTaken (sweep_over old side) (sweep_over new side) cause depth
 
--- of no node were so many steps counted that one more doesn't fit
+-- for no node the number of counted steps is so great that one more doesn't fit
 pub record AreFew (sweep : Sweep) : Type 0 where
   pub here : sweep.here.count + 1 < 2 ^ 32
   pub right : sweep.right.count + 1 < 2 ^ 32
@@ -128,24 +128,24 @@ pub record AreFew (sweep : Sweep) : Type 0 where
   pub left : sweep.left.count + 1 < 2 ^ 32
   pub up : sweep.up.count + 1 < 2 ^ 32
 
--- so many steps of node n and of each of its neighbours are left where the step k of node b is taken back
+-- a rollback of step k of node b leaves these numbers of steps of node n and of each of its neighbours
 pub record IsAround (causes : List Cause) (b k n : ℕ) (around : Around) : Type 0 where
   pub node : around.node ≡ touching n (rewound_list causes b k)
   pub beside : (side : Side) (m : ℕ) → neighbour_of n side ≡ Some m → around_over around side ≡ touching m (rewound_list causes b k)
 
--- the lists say how many steps of node n and of its neighbours are left where each step of node b is taken back
+-- the lists have how many steps of node n and of its neighbours a rollback of each step of node b leaves
 pub record AreAround (causes : List Cause) (b n : ℕ) (lists : LeftAround) : Type 0 where
   pub node : AreLeft causes b n lists.node.items
   pub beside : (side : Side) (m : ℕ) → neighbour_of n side ≡ Some m → AreLeft causes b m (lists_over lists side)
 
 -- ---- what private contracts, invariants and bridges cite
 
--- which node of an event stands beside another, of a pass the writer if that does
+-- the node of an event that is a neighbour of another, of a pass the writer if that is one
 abbrev pub part_beside : Event → ℕ → NodeId
 part_beside (Own own) n = own
 part_beside (Pass writer reader side) n = if are_linked n writer.number then writer else reader
 
--- the look and the change of a reading stand at these two places
+-- the look and the change of a reading are at these two places
 pub record IsAtNear (s : State) (near : Near) (reading : Reading) : Type 0 where
   pub looks : IsStep (causes_of s) reading.node.number reading.step near.look
   pub changes : IsStep (causes_of s) reading.neighbour.number reading.change near.change
@@ -153,16 +153,16 @@ pub record IsAtNear (s : State) (near : Near) (reading : Reading) : Type 0 where
   pub beside : neighbour_of reading.node.number side ≡ Some reading.neighbour.number
   pub order : reading.early ≡ nat_lt near.look near.change
 
--- the step that is taken back for the look to read another word
+-- the step that a rollback removes for the look to read another word
 abbrev pub taken_of : Glance → NodeId × ℕ
 taken_of glance = if glance.early then (glance.node, glance.step) else (glance.neighbour, glance.change)
 
--- two looks are of one node, and a step of one node is taken back for both
+-- two looks are of one node, and the removed steps for both are of one node
 pub record HangTogether (one other : Glance) : Type 0 where
   pub node : one.node.number ≡ other.node.number
   pub taken : (taken_of one).0.number ≡ (taken_of other).0.number
 
--- the look and the change stand at these places
+-- the look and the change are at these places
 pub record IsGlance (s : State) (near : Near) (glance : Glance) : Type 0 where
   pub look : near.look < length (causes_of s)
   pub change_at : near.change < length (causes_of s)
@@ -173,7 +173,7 @@ pub record IsGlance (s : State) (near : Near) (glance : Glance) : Type 0 where
   pub change : glance.change ≡ touching glance.neighbour.number (take near.change (causes_of s)) + 1
   pub early : glance.early ≡ nat_lt near.look near.change
 
--- the look and the change stand at some places, and the node that looked was asked for, if one was
+-- the look and the change are at some places, and the node that looked is the requested one, if one was
 abbrev pub IsGlanced : State → Option NodeId → Glance → Type 0
 IsGlanced s only glance = ((near : Near) × IsGlance s near glance) × IfSome only (λ node. glance.node ≡ node)
 
@@ -181,15 +181,15 @@ IsGlanced s only glance = ((near : Near) × IsGlance s near glance) × IfSome on
 abbrev pub IsShownBy : State → Near → List Glance → Type 0
 IsShownBy s near list = (glance : Glance) × Contains list glance × IsGlance s near glance
 
--- for each reading that is to be told and stands at listed places, one of the list is the look and the change there
+-- for each reading to be reported that is at listed places, one of the list is the look and the change there
 abbrev pub AreGlanced : State → Option NodeId → List Near → List Glance → Type 0
 AreGlanced s only nears list = (reading : Reading) (near : Near) → Contains nears near → IsTold s only reading → IsAtNear s near reading → IsShownBy s near list
 
--- how many steps of the node that looked, and beside it, are left where the step for it to read another word is taken back
+-- how many steps of the node that looked, and of its neighbours, a rollback of the step for it to read another word leaves
 abbrev pub IsAroundOf : List Cause → Glance → Around → Type 0
 IsAroundOf causes glance around = IsAround causes (taken_of glance).0.number (taken_of glance).1 glance.node.number around
 
--- the step that is taken back for the look to read another word was made
+-- the step that is removed for the look to read another word was made
 pub record HasStep (causes : List Cause) (glance : Glance) : Type 0 where
   pub first : 0 < (taken_of glance).1
   pub within : (taken_of glance).1 ≤ touching (taken_of glance).0.number causes
@@ -199,13 +199,13 @@ abbrev pub AreKnown : List Cause → List Glance → List (Option Around) → Ty
 AreKnown causes glances known =
     (i : ℕ) (glance : Glance) (around : Around) → glance ≡ slice_index_or glances i glance → slice_index_or known i None ≡ Some around → IsAroundOf causes glance around
 
--- Where the one step is taken back, the look comes next and reads the word.
+-- After a rollback of the one step, the look comes next and reads the word.
 pub record IsOtherWord (s : State) (glance : Glance) (word : ℕ) : Type 0 where
   pub is : word ≡ io_word (seen_from (chip_of (rewound s (taken_of glance).0.number (taken_of glance).1)) glance.node.number)
   pub next : looks_next (chip_of (rewound s (taken_of glance).0.number (taken_of glance).1)) glance.node.number ≡ true
   pub step : steps_of glance.node.number (rewound s (taken_of glance).0.number (taken_of glance).1).kept + 1 ≡ glance.step
 
--- no reading of these looks and changes is left out that is to be told
+-- no reading of these looks and changes that is to be reported is left out
 abbrev pub AreRead : State → Option NodeId → List Glance → List Reading → Type 0
 AreRead s only glances list =
     (near : Near) (glance : Glance) (reading : Reading) → Contains glances glance → IsGlance s near glance → IsTold s only reading → IsAtNear s near reading

@@ -19,7 +19,7 @@ use Rattle.ga_race_detector.specs.Races.{offered}
 use Rattle.ga_race_detector.specs.declared.writers.Writers.{Writers}
 use Rattle.ga_race_detector.specs.declared.races.Besides.{Besides}
 
--- ---- how many steps of a node are left where each step of another is taken back
+-- ---- how many steps of a node a rollback of each step of another leaves
 
 -- the greatest of the numbers of some nodes
 abbrev pub greatest : (ℕ → ℕ) → List ℕ → ℕ
@@ -31,16 +31,16 @@ abbrev pub greater_with : (ℕ → ℕ) → Option ℕ → ℕ → ℕ
 greater_with known None number = number
 greater_with known (Some n) number = max (known n) number
 
--- On how many of a node's steps an event depends, or which it is, where so many were made and it is known on how many the newest event
--- of each node depends: on the first so many.
+-- The depth of an event: on how many of a node's first steps it depends, itself among them. `made` steps of the node come
+-- before it, and `known` has the depth of the newest event of each node.
 abbrev pub depth : (ℕ → ℕ) → ℕ → ℕ → Cause → ℕ
 depth known n made cause = if cause_touches cause n then made + 1 else greatest known (seen_by cause)
 
--- the list says how many steps of node m are left where each of the first steps of node n is taken back
+-- the list has how many steps of node m a rollback of each of the first steps of node n leaves
 abbrev pub IsLeftBehind : List Cause → ℕ → ℕ → List ℕ → Type 0
 IsLeftBehind causes n m left = (k : ℕ) → k < length left → slice_index left k ≡ touching m (rewound_list causes n (k + 1))
 
--- the list says how many steps of node m are left where each step of node n is taken back
+-- the list has how many steps of node m a rollback of each step of node n leaves
 pub record AreLeft (causes : List Cause) (n m : ℕ) (left : List ℕ) : Type 0 where
   pub size : length left ≡ touching n causes
   pub each : IsLeftBehind causes n m left
@@ -51,7 +51,8 @@ pub record IsFilled (old new : List ℕ) (to number : ℕ) : Type 0 where
   pub same : (k : ℕ) → k < length old → slice_index new k ≡ slice_index old k
   pub more : (k : ℕ) → length old ≤ k → k < length new → slice_index new k ≡ number
 
--- One more event was taken in, which depends on so many steps: where it is a step of the node, more of these are left without it.
+-- One more event, with this depth, was added: if it is a step of the node, the list is filled up to the depth with the number
+-- of the node's steps before it, since a rollback of any of these steps removes it.
 pub record IsTaken (old new : LeftOf) (cause : Cause) (depth : ℕ) : Type 0 where
   pub node : new.node ≡ old.node
   pub count : new.count ≡ old.count + (if cause_touches cause old.node.number then 1 else 0)
@@ -73,7 +74,7 @@ left_over beside Down = beside.down.items
 left_over beside Left = beside.left.items
 left_over beside Up = beside.up.items
 
--- the list of each side says how many steps of the neighbour there are left where each of the first steps of the node is taken back
+-- the list of each side has how many steps of the neighbour there a rollback of each of the first steps of the node leaves
 abbrev pub IsLeftBeside : List Cause → ℕ → LeftBeside → Type 0
 IsLeftBeside causes n beside = (side : Side) (m : ℕ) → neighbour_of n side ≡ Some m → IsLeftBehind causes n m (left_over beside side)
 
@@ -84,11 +85,11 @@ at_side flags Down = flags.down
 at_side flags Left = flags.left
 at_side flags Up = flags.up
 
--- whichever of the node's steps is taken back, no word is offered to it over the side
+-- a rollback of none of the node's steps leaves a word offered to it over the side
 abbrev pub NeverOffers : State → ℕ → Side → Type 0
 NeverOffers s n side = (k : ℕ) → offered (chip_of (rewound s n k)) n side ≡ None
 
--- whichever of the node's steps is taken back, no word is offered to it over a side that has no flag
+-- a rollback of none of the node's steps leaves a word offered to it over a side that has no flag
 abbrev pub AreSilent : State → ℕ → Writers → Type 0
 AreSilent s n flags = (side : Side) → at_side flags side ≡ false → NeverOffers s n side
 
