@@ -1,4 +1,4 @@
--- Each step that is told is a cause of the one that is asked for.
+-- Each listed step is a cause of the queried one.
 use Rattle.std.proofs.Common.{◌≡◌, ℕ, zero, suc, ◌+◌, ◌==◌, Bool, true, false, ◌||◌, cond, List, [], ◌∷◌, ◌++◌, Some, None, refl, sym, ◌∙◌, ap, subst, arith, ◌≤◌, ◌-◌, map, inl, inr}
 use Rattle.std.specs.Prelude.{Option, option_map, option_and_then, option_to_list, unwrap_or, IsSome}
 use Rattle.std.specs.List.{slice_get, All}
@@ -33,9 +33,9 @@ use Rattle.ga_event.specs.Flow.{Flow, Same, From, top}
 use Rattle.ga_origin.specs.declared.listing.Row.{Row}
 use Rattle.ga_origin.specs.Rows.{sender_in, source_values, sources_from, sources_of, row_at, made_row, below, AreRows, all, again, next, cut, IsCause, IsNamedFor}
 
--- ---- the step of a node that is told as a pass is a step of the writer too
+-- ---- a node's step that is a pass is a step of the writer too
 
--- what is told of an event is of its kind
+-- the outcome of an event is of its kind
 is_fit : Event → Told → Bool
 is_fit (event.Own node) (Did kind) = true
 is_fit (event.Own node) (Carried word) = false
@@ -74,9 +74,9 @@ told_fits s = go (run s.load s.kept) (λ done is. run_fits s.load s.kept done is
     go None f = tt
     go (Some done) f = f done refl
 
--- ---- the place of a step that is told as a pass
+-- ---- the place of a step that is a pass
 
--- step k + 1 of a node behind some events is step i of the writer
+-- step k + 1 of a node after some events is step i of the writer
 record IsSent (causes : List Cause) (before : List Event) (n k w i : ℕ) : Type 0 where
   place : ℕ
   steps : ℕ
@@ -84,7 +84,7 @@ record IsSent (causes : List Cause) (before : List Event) (n k w i : ℕ) : Type
   own : place_of causes n (suc k) ≡ Some place
   writers : place_of causes w (suc steps) ≡ Some place
 
--- a step of a node behind one more event
+-- a step of a node after one more event
 own_later : (c : Cause) (cs : List Cause) (n k place : ℕ) → cause_touches c n ≡ true → place_of cs n (suc k) ≡ Some place → place_of (c ∷ cs) n (suc (suc k)) ≡ Some (suc place)
 own_later c cs n k place touched is = place-touched c cs n k touched ∙ ap (option_map suc) is
 
@@ -118,7 +118,7 @@ later before c cs n k j w i sent on = go (cause_touches c w) refl (one_more befo
 touches_writer : (w r : ℕ) → ((w == w) || ((r == w) || false)) ≡ true
 touches_writer w r = ap (λ b. b || ((r == w) || false)) (eq-eqb w w refl)
 
--- the first of some events, and those behind it
+-- the first of some events, and those after it
 first_told : (before : List Event) (c : Cause) (cs : List Cause) (t : Told) (rest : List Made) (n k : ℕ) (w r : NodeId) (i j word : ℕ) (b : Bool) → cause_touches c n ≡ b → is_fit c.event t ≡ true
     → ((h : ℕ) → slice_get rest h ≡ Some (made.Pass w i r j word) → IsSent cs (before ++ c.event ∷ []) n h w.number i)
     → slice_get ((cond b (option_to_list (made_after before c.event t)) []) ++ rest) k ≡ Some (made.Pass w i r j word) → IsSent (c ∷ cs) before n k w.number i
@@ -151,7 +151,7 @@ sent_behind before (x ∷ xs) n k w r i j word fit h =
     first_told before x.0 (causes_told xs) x.1 (mades_after (before ++ x.0.event ∷ []) xs n) n k w r i j word (touches x.0.event n) refl fit.0
     (λ g at. sent_behind (before ++ x.0.event ∷ []) xs n g w r i j word fit.1 at) h
 
--- a step that is told as a pass is step i of the writer, and i isn't 0
+-- a step that is a pass is step i of the writer, and i isn't 0
 pub record IsOne (s : State) (n k w i : ℕ) : Type 0 where
   pub place : ℕ
   pub before : ℕ
@@ -165,9 +165,9 @@ sent_is s n k w r i j word h =
     let is : i ≡ suc sent.steps = (let q = sent.number in omega (arith, q)) in
     record { place = sent.place; before = sent.steps; number = is; own = sent.own; writers = ap (place_of (causes_of s) w.number) is ∙ sent.writers }
 
--- ---- each step that is told is a cause of the one that is asked for
+-- ---- each listed step is a cause of the queried one
 
--- ---- the value that is asked for where a step is named
+-- ---- the value that a step selects
 
 pub asked_here : (s : State) (node : NodeId) (step k : ℕ) (told : Made) (before : NodeRecord) (asked : Asked) (value : Option Value) → suc k ≡ step
     → Some told ≡ slice_get (history_of s node.number) k → before ≡ node_after s node.number k → asked ≡ told_asked told before node.number → value ≡ value_asked node k asked
@@ -178,7 +178,7 @@ asked_here s node step k told before asked value is tells stood means e =
     ∙ ap (option_and_then (λ (t : Made). value_asked node k (told_asked t (node_after s node.number k) node.number))) tells
     ∙ ap (asked_of s node) is
 
--- it stood in the node, behind the step or before it
+-- it was in the node, after the step or before it
 at_or_before : (node : NodeId) (k : ℕ) (asked : Asked) (value : Value) → value_asked node k asked ≡ Some value → (value.node ≡ node) × (value.step ≤ suc k)
 at_or_before node k (Behind at) value e =
     let is = same_Some (value_of_step node (suc k) at) value e in

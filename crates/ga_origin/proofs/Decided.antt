@@ -91,7 +91,7 @@ tested_named s node step k place (Pass w i r j word) value is less at h =
     let all = named_sender s asked (value_of_step node (suc k) top) k refl (step_named s node step (suc k) place top is less) told refl in
     All-head (IsNamedFor s asked) value [] (subst (λ (o : Option Value). All (IsNamedFor s asked) (option_to_list o)) sent all)
 
--- what is told of a step that a value decided
+-- a step as made, and the value that decided it
 record IsToldSo (s : State) (node : NodeId) (k : ℕ) (d : Decision) : Type 0 where
   made : Made
   value : Value

@@ -41,7 +41,7 @@ use Rattle.ga_origin.specs.declared.kept.Registers.{Registers}
 
 -- ---- the first row of a listing is the step that made the value
 
--- where the next value wasn't told, and a listing that is cut has some row
+-- if the next value wasn't listed, and a listing that is cut has some row, the next value's row is the first
 FirstIs : State → List Row → List Row → List Row → Bool → Type 0
 FirstIs s named [] rows whole = Unit {0}
 FirstIs s named (row ∷ todo) rows whole = has_value named (origin_of s row.value) ≡ false → (whole ≡ false → 0 < length rows) → slice_get rows 0 ≡ Some (made_row s row)
@@ -65,7 +65,7 @@ wrote_last s n cell left k wrote is e = ap (λ (o : Option CellWrite). either o 
 pub wrote_before : (s : State) (n cell left k : ℕ) → suc k ≡ left → None ≡ written_at s n cell k → newest_written s n cell k ≡ newest_written s n cell left
 wrote_before s n cell left k is e = ap (λ (o : Option CellWrite). either o (newest_written s n cell k)) e ∙ ap (newest_written s n cell) is
 
--- what is told of a step has its number
+-- a found write has the number of its step
 step_of : (s : State) (n cell k : ℕ) (b : Bool) (o : Option Made) (wrote : CellWrite)
     → Some wrote ≡ cond b (option_map (cell_write (k + 1) (slice_index (node_after s n (k + 1)).ram cell)) o) None → wrote.step ≡ k + 1
 step_of s n cell k true (Some made) wrote h = ap (λ (w : CellWrite). w.step) (same_Some _ _ h)

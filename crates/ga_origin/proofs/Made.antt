@@ -21,7 +21,7 @@ use Rattle.std.proofs.lemmas.Option.{none-some}
 steps-cons : (n : ℕ) (e : Event) (es : List Event) → steps_of n (e ∷ es) ≡ cond (touches e n) 1 0 + steps_of n es
 steps-cons n e es = sum_by-cons (λ (x : Event). cond (touches x n) 1 0) e es
 
--- the first events that hold so many steps of a node hold just so many
+-- the first events that contain k steps of a node contain exactly k
 pub place_holds : (events : List Event) (n k : ℕ) → k ≤ steps_of n events → steps_of n (take (place_after events n k) events) ≡ k
 place_holds [] n k l = omega (arith, l)
 place_holds (e ∷ es) n zero l = refl
@@ -71,7 +71,7 @@ is_source Outside is = absurd is
 pub flow_past : (s : State) (n k : ℕ) (at : Part) → length (history_of s n) ≤ k → Same at ≡ flow_at s n k at
 flow_past s n k at l = sym (ap (λ told. flow_told told (node_after s n k) n at) (none_past (history_of s n) k l))
 
--- of a step that is told
+-- the flow at a step that exists
 pub flow_within : (s : State) (n k : ℕ) (at : Part) (told : Made) (before : NodeRecord) (flow : Flow) → Some told ≡ slice_get (history_of s n) k → before ≡ node_after s n k
     → flow ≡ told_flow told before n at → flow ≡ flow_at s n k at
 flow_within s n k at told before flow is node e =
@@ -87,7 +87,7 @@ made_there s node k at e = ap (λ o. unwrap_or (option_map (origin_from s node k
 pub moved_so : (s : State) (n k : ℕ) (at : Part) (flow : Flow) (o : Option Part) → flow ≡ flow_at s n k at → o ≡ moved_from flow at → moved_at s n k at ≡ o
 moved_so s n k at flow o is e = ap (λ (z : Flow). moved_from z at) (sym is) ∙ sym e
 
--- the walk back goes on, and ends at the step or at the load
+-- the walk back continues, and ends at the step or at the load
 pub back_on : (s : State) (node : NodeId) (step k : ℕ) (at from : Part) (value : Value) → suc k ≡ step → Some from ≡ moved_at s node.number k at
     → origin_from s node step at ≡ value → origin_from s node k from ≡ value
 back_on s node step k at from value is moved same = sym (moved_on s node k at from (sym moved)) ∙ ap (λ (z : ℕ). origin_from s node z at) is ∙ same
@@ -105,7 +105,7 @@ pub told_so : (s : State) (node : NodeId) (value told made : Value) → value.no
 told_so s node value told made is same e there =
     ap (λ (m : NodeId). origin_from s m told.step told.part) (sym (same ∙ is)) ∙ e ∙ ap (λ (m : NodeId). origin_from s m value.step value.part) is ∙ there
 
--- a node that is walked back to so many of its steps
+-- a node that is walked back to a number of its steps
 pub stands_so : (s : State) (node : NodeId) (step : ℕ) (walk : Standing) → walk ≡ standing s node step → walk ≡ standing s node walk.step
 stands_so s node step walk e = e ∙ ap (standing s node) (sym (ap (λ (z : Standing). z.step) e))
 
@@ -127,7 +127,7 @@ then_of s node walk behind e within h =
     h (place_after walk.machine.kept walk.node.number walk.step) (place_holds walk.machine.kept walk.node.number walk.step within)
     ∙ ap (λ (z : Standing). node_after z.machine z.node.number walk.step) e
 
--- the same of a walk that stands there
+-- the same for a walk at this step
 pub stood_of : (s : State) (node : NodeId) (walk : Standing) (step : ℕ) (behind : NodeRecord) → walk ≡ standing s node step → step ≤ steps_of node.number s.kept
     → ((place : ℕ) → steps_of walk.node.number (take place walk.machine.kept) ≡ walk.step → behind ≡ record_at (chip_of (earlier walk.machine place)) walk.node.number)
     → behind ≡ node_after s node.number step

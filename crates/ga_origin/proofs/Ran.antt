@@ -1,4 +1,4 @@
--- What is told of a step of a node's own is what its next event was.
+-- A step of a node's own, as made, is what its next event was.
 use Rattle.std.proofs.Common.{◌≡◌, ℕ, zero, suc, ◌==◌, Bool, true, false, ◌||◌, cond, List, [], ◌∷◌, ◌++◌, ◌+◌, length, set, length-set, get_or-set_same, arith, take, Some, None, refl, sym, ◌∙◌, ap, subst}
 use Rattle.std.specs.Prelude.{Option, option_map, option_and_then, option_to_list, unwrap_or, IfSome}
 use Rattle.std.specs.List.{slice_get}
@@ -39,7 +39,7 @@ use Rattle.ga_event.specs.declared.flow.part.Part.{Part}
 use Rattle.ga_event.specs.Flow.{Same, choice, moves_where, moves_by, moved_all, flow_where, own_flow}
 use Rattle.ga_origin.specs.inner.{IsDueBy}
 
--- ---- what is told of a step of a node's own is what its next event was, where the node stood before it
+-- ---- a step of a node's own, as made, is what its next event was in the node before it
 
 abbrev Ended : Type 0
 Ended = List NodeRecord × List (Cause × Told)
@@ -130,7 +130,7 @@ length_after chip (event.Pass from to side) = length-set (set chip from.number _
 abbrev chip_at : List NodeRecord → List Event → ℕ → List NodeRecord
 chip_at chip events place = unwrap_or (replay chip (take place events)) []
 
--- the step of a node that is told behind so many, in a list of events
+-- a node's step after k of its steps, in a list of events
 abbrev WentAt : List NodeRecord → List Event → ℕ → ℕ → Kind → Type 0
 WentAt chip events n k kind = Went (length chip) (record_at (chip_at chip events (place_after events n k)) n) (record_at (chip_at chip events (place_after events n (suc k))) n) kind
 
@@ -147,7 +147,7 @@ went_on chip e es n first last kind can went =
     (subst (λ (z : NodeRecord). Went (length (after chip e).0) z (record_at (chip_at chip (e ∷ es) (suc last)) n) kind) (moved_on chip e es n first can)
     (subst (λ (z : NodeRecord). Went (length (after chip e).0) (record_at (chip_at (after chip e).0 es first) n) z kind) (moved_on chip e es n last can) went))
 
--- where the first event is told, or one behind it
+-- if the step is the first event, or a later one
 at_first : (chip : List NodeRecord) (e : Event) (es before : List Event) (told : List Made) (n step : ℕ) (m : NodeId) (kind : Kind) → refusal_of chip e ≡ None
     → (slice_get told zero ≡ Some (made.Own m step kind) → WentAt (after chip e).0 es n zero kind)
     → (b : Bool) → touches e n ≡ b → slice_get (cond b (option_to_list (made_after before e (after chip e).1)) [] ++ told) zero ≡ Some (made.Own m step kind)
@@ -196,7 +196,7 @@ went_so s n k step m kind h = go (run s.load s.kept) refl h
     go None is at = absurd (empty_some k (made.Own m step kind) at)
     go (Some done) is at = went s.load s.kept [] done n k step m kind is at
 
--- a machine to whose chip its kept events lead has as many nodes from the load on
+-- a machine to whose chip its history leads has as many nodes from the load on
 length_run : (chip : List NodeRecord) (events : List Event) (done : Ended) → run chip events ≡ Some done → length done.0 ≡ length chip
 length_run chip [] done is = ap (λ (z : Ended). length z.0) (sym (same_Some _ _ is))
 length_run chip (e ∷ es) done is =
@@ -215,11 +215,11 @@ pub record WasNext (node : NodeRecord) (kind : Kind) : Type 0 where
   pub seen : Seen
   pub is : (own seen node).0 ≡ kind
 
--- what is told of a node's step
+-- the kind of a node's step, as made
 pub ran_so : (s : State) (n k step : ℕ) (m : NodeId) (kind : Kind) → slice_get (history_of s n) k ≡ Some (made.Own m step kind) → WasNext (node_after s n k) kind
 ran_so s n k step m kind h = let step_is = went_so s n k step m kind h in record { seen = step_is.seen; is = step_is.ran }
 
--- and the node behind it
+-- and the node after it
 pub record Became (before behind : NodeRecord) (kind : Kind) : Type 0 where
   pub seen : Seen
   pub ran : (own seen before).0 ≡ kind
@@ -235,7 +235,7 @@ became_so s n k step m kind whole h =
       next = ap (node_after s n) (let e : k + 1 ≡ suc k = omega arith in e) ∙ step_is.next whole;
     }
 
--- ---- what came next in a node, by the kind that is told of its event
+-- ---- what came next in a node, by the kind of its event
 
 -- an event that neither waits nor stops its node did what it was for
 is_done : Kind → Bool
@@ -307,7 +307,7 @@ due_was n (kind.Stop code) what was is = absurd is
 pub due_told : (s : State) (n k step : ℕ) (m : NodeId) (ran : Kind) (what : Due) → slice_get (history_of s n) k ≡ Some (made.Own m step ran) → IsDueBy ran what → due_of (node_after s n k) ≡ what
 due_told s n k step m ran what told is = due_was (node_after s n k) ran what (ran_so s n k step m ran told) is
 
--- what decides what came next says from where its values come
+-- what decides what came next determines from where its values come
 by_due : (what : Due) (n : NodeRecord) (at : Part) → moved_all (moves_where what (choice what n)) Same at ≡ moved_all (moves_by what n) Same at
 by_due due.Fetch n at = refl
 by_due (due.Run o) n at = refl

@@ -33,7 +33,7 @@ use Rattle.ga_origin.proofs.Ran.{became_so}
 
 -- ---- what a node held right before a step, by what is kept of the step
 
--- where it is told
+-- the old value, if the step's entry has it
 pub held_old : (s : State) (n at old : ℕ) (what : Place) → at < steps_of n s.kept
     → ((place : ℕ) → steps_of n (take place s.kept) ≡ at → Holds (record_at (chip_of (earlier s place)) n) what old) → Holds (node_after s n at) what old
 held_old s n at old what within there = there (place_after s.kept n at) (place_holds s.kept n at (omega (arith, within)))
@@ -46,7 +46,7 @@ pub held_left : (s : State) (n at value : ℕ) (what : Place) → at + 1 ≤ ste
 held_left s n at value what within left held =
     left (place_after s.kept n at) (place_after s.kept n (at + 1)) value (place_holds s.kept n at (omega (arith, within))) (place_holds s.kept n (at + 1) within) held
 
--- a word that is kept at hand stands at its place
+-- a tracked word is the value of its place
 pub word_held : (kept : Kept) (node : NodeRecord) (word : ℕ) → Holds node (place_of kept) word → word_of kept node ≡ word
 word_held A node word h = h
 word_held B node word h = h

@@ -25,7 +25,7 @@ pub no_parts : (xs : List Part) → (0 < length xs → ⊥) → xs ≡ []
 no_parts [] none = refl
 no_parts (x ∷ xs) none = absurd (none (omega arith))
 
--- the last part goes over to the stack
+-- the last part moves to the stack
 pub gone_over : (g : Value → Row) (h : Part → Value) (parts left : List Part) (part : Part) (todo more : List Row) → parts ≡ left ++ part ∷ [] → more ≡ todo ++ g (h part) ∷ []
     → map g (map h left) ++ reverse more ≡ map g (map h parts) ++ reverse todo
 gone_over g h parts left part todo more is pushed =
@@ -56,7 +56,7 @@ below_made s row k told flow is told_is flow_is =
     ∙ ap (λ (z : Option Made). map (row_at (row.depth + 1)) (source_values row.value.node k z (flow_at s row.value.node.number k row.value.part))) told_is
     ∙ ap (λ (z : ℕ). map (row_at (row.depth + 1)) (sources_from s row.value.node z row.value.part)) is
 
--- each stands in a part
+-- whether a value is that of a part
 abbrev stands_in : Value → Type 0
 stands_in value = IsPart value.part
 
@@ -97,9 +97,9 @@ below_open s row k told flow is told_is flow_is are =
 pub load_open : (s : State) (row : Row) → row.value.step ≡ 0 → All (IsOpen (row.depth + 1)) (below s row)
 load_open s row is = subst (All (IsOpen (row.depth + 1))) (sym (below_load s row is)) (All-nil (IsOpen (row.depth + 1)))
 
--- ---- rows told one after another
+-- ---- rows listed one after another
 
--- with these rows told and those still to come, what comes makes the rows of the first whole
+-- with these rows listed and those still to come, the later rows complete the rows of the first
 abbrev pub Tells : State → Row → List Row → List Row → Type 0
 Tells s first named todo = (later : List Row) (whole : Bool) → AreRows s named todo later whole → AreRows s [] (first ∷ []) (named ++ later) whole
 
@@ -144,7 +144,7 @@ pub told_all : (s : State) (first : Row) (named todo : List Row) → todo ≡ []
 told_all s first named todo none tells =
     subst (λ z. AreRows s [] (first ∷ []) z true) (append-nil named) (subst (λ (z : List Row). Tells s first named (reverse z)) none tells [] true all)
 
--- ---- what is still to be told
+-- ---- what is still to be listed
 
 pub open_top : (m : ℕ) (todo left : List Row) (row : Row) → todo ≡ left ++ row ∷ [] → All (IsOpen m) (reverse todo) → IsOpen m row
 open_top m todo left row is ready = All-head (IsOpen m) row (reverse left) (subst (All (IsOpen m)) (top_first todo left row is) ready)
@@ -183,7 +183,7 @@ right_true : (a b : Bool) → b ≡ true → (a || b) ≡ true
 right_true true b p = refl
 right_true false b p = p
 
--- what was told among some rows was among more, and so was a row in their middle
+-- a value among some rows is among more, and so is one of a row in their middle
 named_more : (rows more : List Row) (value : Value) → has_value rows value ≡ true → has_value (rows ++ more) value ≡ true
 named_more rows more value is =
     list_any-append (λ (row : Row). is_one row.value value) rows more ∙ left_true (has_value rows value) (has_value more value) is
@@ -208,7 +208,7 @@ unmapped Q depth (v ∷ vs) hold =
     All-cons Q v vs (All-head (λ (row : Row). Q row.value) (row_at depth v) (map (row_at depth) vs) hold)
     (unmapped Q depth vs (All-tail (λ (row : Row). Q row.value) (row_at depth v) (map (row_at depth) vs) hold))
 
--- the values still to be told are told in the end, and those from which each row's came
+-- the values still to be listed are listed in the end, and those from which each row's came
 record AreClosed (s : State) (named todo rows : List Row) : Type 0 where
   told : All (λ (row : Row). IsToldIn s (named ++ rows) row.value) todo
   below : All (λ (row : Row). All (IsToldIn s (named ++ rows)) (sources_of s row.value)) rows

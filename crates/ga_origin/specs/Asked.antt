@@ -1,6 +1,6 @@
--- What is asked for where a step is named: the value that it made, or else the one that it sent or was decided by. The rows are those of
--- the opcode table of the F18A Technology Reference (DB001), in the order of the codes, as in Table.antt of ga_node and Flow.antt of
--- ga_event.
+-- The value that a step selects for a query: the value that it made, or else the one that it sent or was decided by. The rows
+-- are those of the opcode table of the F18A Technology Reference (DB001), in the order of the codes, as in Table.antt of
+-- ga_node and Flow.antt of ga_event.
 use Rattle.std.specs.Prelude.{ℕ, zero, suc, ◌==◌, if◌then◌else◌, Option, Some, None, option_and_then}
 use Rattle.std.specs.List.{slice_get}
 use Rattle.ga_slots.specs.declared.op.Op.{Op}
@@ -26,7 +26,7 @@ use Rattle.ga_origin.specs.declared.asked.Asked.TheVariants.{Behind, Before, Not
 use Rattle.ga_origin.specs.declared.value.Value.{Value}
 use Rattle.ga_origin.specs.Origins.{value_of_step, node_after}
 
--- What is asked for of a read: the word that it left in a part. In the place of one at a port or at no address comes a wait or a stop,
+-- The selected value of a read: the word that it left in a part. A read at a port or at no address becomes a wait or a stop,
 -- decided by the address.
 abbrev pub read_asked : Part → Part → Target → Asked
 read_asked address there (target.Ram k) = Behind there
@@ -35,7 +35,8 @@ read_asked address there target.Io = Behind there
 read_asked address there (target.Ports sides) = Before address
 read_asked address there target.Bad = Before address
 
--- What is asked for of a write: it leaves T in a cell or in `io`, and nothing in ROM; a wait or a stop is decided by the address.
+-- The selected value of a write: it leaves T in a cell or in `io`, and nothing in ROM; a wait or a stop is decided by the
+-- address.
 abbrev pub write_asked : Part → Target → Asked
 write_asked address (target.Ram k) = Behind (part.Ram k)
 write_asked address (target.Rom k) = Nothing
@@ -43,7 +44,7 @@ write_asked address target.Io = Behind part.Io
 write_asked address (target.Ports sides) = Before address
 write_asked address target.Bad = Before address
 
--- what is asked for of each opcode, in a node that was so before
+-- the selected value of each opcode, by its node before
 abbrev pub op_asked : Op → NodeRecord → Asked
 op_asked Return n = Behind part.P  -- 00 ;
 op_asked Execute n = Behind part.P  -- 01 ex
@@ -78,24 +79,24 @@ op_asked Push n = Behind top_return  -- 1d push
 op_asked BStore n = Behind part.B  -- 1e b!
 op_asked AStore n = Behind part.A  -- 1f a!
 
--- what is asked for of what comes next in a node
+-- the selected value of what comes next in a node
 abbrev pub due_asked : Due → NodeRecord → Asked
 due_asked due.Fetch n = read_asked part.P part.I (classified n.p)
 due_asked (due.Run op) n = op_asked op n
 
--- what is asked for of a word that was taken, by what its node waited for
+-- the selected value of a word that was taken, by what its node waited for
 abbrev pub take_asked : Wait → Asked
 take_asked (wait.Fetch sides) = Behind part.I
 take_asked (wait.Read sides) = Behind top
 take_asked wait.Nothing = Nothing
 take_asked (wait.Write side) = Nothing
 
--- what is asked for of an event of which this is told, where the node was so before; the writer of a pass sends T
+-- the selected value of an event as made, by its node before; the writer of a pass sends T
 abbrev pub told_asked : Made → NodeRecord → ℕ → Asked
 told_asked (made.Own node step kind) before n = due_asked (due_of before) before
 told_asked (made.Pass writer i reader j word) before n = if n == reader.number then take_asked before.wait else Before top
 
--- the value that is asked for of the step behind so many of a node
+-- the selected value of the step after k steps of a node
 abbrev pub value_asked : NodeId → ℕ → Asked → Option Value
 value_asked node k (Behind at) = Some (value_of_step node (suc k) at)
 value_asked node k (Before at) = Some (value_of_step node k at)
@@ -105,7 +106,7 @@ abbrev pub place_asked : State → NodeId → ℕ → Option Value
 place_asked s node k =
     option_and_then (λ told. value_asked node k (told_asked told (node_after s node.number k) node.number)) (slice_get (history_of s node.number) k)
 
--- the value that is asked for where a step of a node is named by its number, where it stands
+-- the value that a step of a node selects, by the step's number, if the step exists
 abbrev pub asked_of : State → NodeId → ℕ → Option Value
 asked_of s node zero = None
 asked_of s node (suc k) = place_asked s node k

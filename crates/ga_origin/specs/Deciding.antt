@@ -1,5 +1,5 @@
--- The steps of a node at which a value decided where it went on: the opcodes that test or that take P from R, and what came over a port
--- to be carried out (F18A Technology Reference DB001, opcodes and port execution).
+-- The steps of a node at which a value decided where it continued: the opcodes that test or that take P from R, and what came
+-- over a port to be carried out (F18A Technology Reference DB001, opcodes and port execution).
 use Rattle.std.specs.Prelude.{ℕ, zero, suc, ◌%◌, Bool, true, false, if◌then◌else◌, Option, Some, None, option_map, option_and_then, unwrap_or}
 use Rattle.std.specs.List.{slice_get}
 use Rattle.ga_slots.specs.Codes.{op_of}
@@ -29,7 +29,7 @@ tested_by If = Some top  -- 06 if
 tested_by MinusIf = Some top  -- 07 -if
 tested_by _ = None
 
--- an instruction word that came over a port by the step behind so many of a node: T of the writer before
+-- the source of an instruction word that came over a port by a step of a node, as made: T of the writer before
 abbrev pub code_by : Option Made → Flow → Option Value
 code_by told (Same part.Outside) = sender_in told
 code_by told (Same from) = None
@@ -38,7 +38,7 @@ code_by told (From parts) = None
 abbrev pub code_at : State → ℕ → ℕ → Option Value
 code_at s n k = code_by (slice_get (history_of s n) k) (flow_at s n k part.I)
 
--- whether a step of which this is told brought an instruction word, and that over a port: a fetch brought another; none where it left
+-- whether a step, as made, brought an instruction word over a port: false for a fetch, which brought another; none if it left
 -- the word that was there
 abbrev pub brought : Option Made → Option Value → Option Bool
 brought None code = None
@@ -51,13 +51,13 @@ brought (Some (made.Pass writer i reader j word)) code = option_map (λ value. t
 abbrev pub brought_at : State → ℕ → ℕ → Option Bool
 brought_at s n k = brought (slice_get (history_of s n) k) (code_at s n k)
 
--- whether the word that stands in I behind so many steps came over a port: the newest step that brought one tells
+-- whether the word in I after a number of steps came over a port, by the newest step that brought one
 abbrev pub came_over : State → ℕ → ℕ → Bool
 came_over s n zero = false
 came_over s n (suc k) = unwrap_or (brought_at s n k) (came_over s n k)
 
--- the part by which the opcode was decided that the step behind so many ran: a jump and a call go where their word says, and that is
--- a value where it came over a port
+-- the part by which the opcode was decided that the step after k steps ran: a jump and a call continue where their word points,
+-- and that word is a value if it came over a port
 abbrev pub word_tested : Bool → Option Part
 word_tested came = if came then Some part.I else None
 
@@ -72,7 +72,7 @@ kind_tested s node k (kind.Run code) = op_tested s node k (op_of (code % 32))
 kind_tested s node k kind.Wait = None
 kind_tested s node k (kind.Stop number) = None
 
--- the value by which the step was decided, of which this is told
+-- the value that decided a step, as made
 abbrev pub tested_at : State → NodeId → ℕ → Made → Option Value
 tested_at s node k (made.Own other step kind) = option_map (value_of_step node k) (kind_tested s node k kind)
 tested_at s node k (made.Pass writer i reader j word) = code_at s node.number k
@@ -85,7 +85,7 @@ tested_word s (made.Pass writer i reader j word) value = word
 abbrev pub decision : State → ℕ → Made → Value → Decision
 decision s k told value = record { step = suc k; made = told; tested = value; word = tested_word s told value; source = origin_of s value }
 
--- the step behind so many of a node, where a value decided it
+-- the step after k steps of a node, as made, if a value decided it
 abbrev pub decided_by : State → NodeId → ℕ → Made → Option Decision
 decided_by s node k told = option_map (decision s k told) (tested_at s node k told)
 
@@ -97,7 +97,7 @@ abbrev pub newer : Option Decision → Option Decision → Option Decision
 newer (Some decision) other = Some decision
 newer None other = other
 
--- the newest of so many steps of a node that a value decided
+-- the newest that a value decided among the first steps of a node
 abbrev pub newest_decided : State → NodeId → ℕ → Option Decision
 newest_decided s node zero = None
 newest_decided s node (suc k) = newer (decided_at s node k) (newest_decided s node k)

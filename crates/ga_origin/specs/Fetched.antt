@@ -19,6 +19,6 @@ abbrev pub fetched_by : State → ℕ → ℕ → Option ℕ
 fetched_by s n zero = None
 fetched_by s n (suc k) = cell_of_target (classified (node_after s n k).p)
 
--- A step belongs to the word that stands in I behind it.
+-- The cell from which the word in I after a step was fetched: the step belongs to this word.
 abbrev pub fetched_cell : State → NodeId → ℕ → Option ℕ
 fetched_cell s node step = fetched_by s node.number (origin_of s (value_of_step node step part.I)).step

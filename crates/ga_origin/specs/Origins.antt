@@ -1,5 +1,5 @@
--- Which step made the value that stands in a part of a node: the newest that didn't just move it from part to part (F18A Technology
--- Reference DB001, opcodes; Flow.antt of ga_event says of each where its values come from).
+-- Which step made the value in a part of a node: the newest that didn't just move it from part to part (F18A Technology
+-- Reference DB001, opcodes; Flow.antt of ga_event has for each where its values come from).
 use Rattle.std.specs.Prelude.{ℕ, zero, suc, ◌==◌, Bool, true, false, not, if◌then◌else◌, List, [], ◌∷◌, Option, Some, None, option_map, unwrap_or}
 use Rattle.std.specs.List.{slice_get}
 use Rattle.ga_node.specs.Record.{NodeRecord}
@@ -15,7 +15,7 @@ use Rattle.ga_event.specs.declared.flow.part.Part.TheVariants as part
 use Rattle.ga_event.specs.Flow.{Flow, Same, From, top, own_flow, send_flow, take_flow}
 use Rattle.ga_origin.specs.declared.value.Value.{Value}
 
--- how many of the first events hold so many steps of a node, and the node after these
+-- the number of first events that contain k steps of a node, and the node after these
 abbrev pub place_after : List Event → ℕ → ℕ → ℕ
 place_after [] n k = 0
 place_after (e ∷ es) n zero = 0
@@ -24,7 +24,7 @@ place_after (e ∷ es) n (suc k) = suc (place_after es n (if touches e n then k 
 abbrev pub node_after : State → ℕ → ℕ → NodeRecord
 node_after s n k = record_at (chip_of (earlier s (place_after s.kept n k))) n
 
--- where the value of a part of a node comes from that an event leaves, of which this is told, where the node was so before
+-- the source of the value that an event, as made, leaves in a part of a node, by the node before
 abbrev pub told_flow : Made → NodeRecord → ℕ → Part → Flow
 told_flow (made.Own node step kind) before n at = own_flow before at
 told_flow (made.Pass writer i reader j word) before n at = if n == reader.number then take_flow before.wait at else send_flow at
@@ -33,11 +33,11 @@ abbrev pub flow_told : Option Made → NodeRecord → ℕ → Part → Flow
 flow_told None before n at = Same at
 flow_told (Some told) before n at = told_flow told before n at
 
--- where the value of a part comes from that the step behind so many steps of a node leaves; past its steps all stays
+-- the source of the value that the step after k steps of a node leaves in a part; past its steps each value stays
 abbrev pub flow_at : State → ℕ → ℕ → Part → Flow
 flow_at s n k at = flow_told (slice_get (history_of s n) k) (node_after s n k) n at
 
--- whether a part is a cell of memory; and whether a value that goes from a part to another is read from memory or stored there
+-- whether a part is a cell of memory; and whether a value that moves from a part to another is read from memory or stored there
 abbrev pub is_memory_part : Part → Bool
 is_memory_part (part.Ram k) = true
 is_memory_part (part.Rom k) = true
@@ -53,7 +53,7 @@ moved_from (Same part.Outside) to = None
 moved_from (Same from) to = if crosses from to then None else Some from
 moved_from (From parts) to = None
 
--- `+*` makes T and A of the same three parts, and an extended `+` T and the carry: either is told as T.
+-- `+*` makes T and A of the same three parts, and an extended `+` T and the carry: either is listed as T.
 abbrev pub is_of_three : Flow → Bool
 is_of_three (From (first ∷ (second ∷ (third ∷ [])))) = true
 is_of_three _ = false
@@ -70,7 +70,7 @@ value_of_step node step at = record { node = node; step = step; part = at }
 abbrev pub moved_at : State → ℕ → ℕ → Part → Option Part
 moved_at s n k at = moved_from (flow_at s n k at) at
 
--- where the value of a part was made that stands there after so many steps of the node
+-- the origin of the value in a part after a number of steps of the node
 abbrev pub origin_from : State → NodeId → ℕ → Part → Value
 origin_from s node zero at = value_of_step node 0 at
 origin_from s node (suc k) at =

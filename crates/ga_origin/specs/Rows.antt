@@ -1,4 +1,4 @@
--- The steps whose values went into a value, as a tree whose rows are told one after another, each with those below it behind it.
+-- The steps whose values went into a value, as a tree whose rows are listed one after another, each before those below it.
 use Rattle.ga_event.specs.declared.made.Made.TheVariants as made
 use Rattle.ga_event.specs.declared.flow.part.Part.TheVariants as part
 use Rattle.std.specs.Prelude.{◌≡◌, ℕ, ◌⊎◌, Some, zero, suc, ◌+◌, ◌-◌, ◌==◌, Bool, true, false, ◌&&◌, List, [], ◌∷◌, ◌++◌, map, Option, None, option_to_list}
@@ -23,7 +23,7 @@ pub record IsCause (s : State) (earlier later : Value) : Type 0 where
   pub effect_place : place_of (causes_of s) later.node.number later.step ≡ Some effect
   pub depends : DependsOn (causes_of s) cause effect
 
--- a value that was loaded, or whose step is a cause of the one asked for
+-- a value that was loaded, or whose step is a cause of the queried one's
 abbrev pub IsNamedFor : State → Value → Value → Type 0
 IsNamedFor s asked value = (value.step ≡ 0) ⊎ IsCause s value asked
 
@@ -40,14 +40,15 @@ sender_in (Some (made.Pass writer i reader j word)) = Some (value_of_step writer
 sender_in (Some (made.Own node step kind)) = None
 sender_in None = None
 
--- the values from which one comes that a step of a node made, the one behind so many, of which this is told: over a link, or in the
--- node before. What a read of `io` shows comes from none.
+-- the values from which one comes that the step after k steps of a node made: over a link, or in the node before. A word that a
+-- read of `io` shows comes from none.
 abbrev pub source_values : NodeId → ℕ → Option Made → Flow → List Value
 source_values node k told (Same part.Outside) = option_to_list (sender_in told)
 source_values node k told (Same from) = value_of_step node k from ∷ []
 source_values node k told (From parts) = map (value_of_step node k) parts
 
--- the values from which that of a part comes behind so many steps of a node, by the last of them; one at load comes from none
+-- the values from which that of a part comes after a number of steps of a node, by the last of them; one at load comes from
+-- none
 abbrev pub sources_from : State → NodeId → ℕ → Part → List Value
 sources_from s node zero at = []
 sources_from s node (suc k) at = source_values node k (slice_get (history_of s node.number) k) (flow_at s node.number k at)
@@ -69,8 +70,9 @@ below s row = map (row_at (row.depth + 1)) (sources_of s row.value)
 abbrev pub IsToldIn : State → List Row → Value → Type 0
 IsToldIn s rows value = has_value rows (origin_of s value) ≡ true
 
--- With these rows told already, and the values still to be told, the one next to come first, these rows come; all, or cut somewhere.
--- Each value is told as the step that made it, unless that was told before, and then what the step read comes, one deeper.
+-- With these rows listed already, and the values still to be listed, the next one first, these rows come; all, or cut
+-- somewhere. Each value is listed as the step that made it, unless that was listed before, and then what the step read comes,
+-- one deeper.
 pub data AreRows (s : State) : List Row → List Row → List Row → Bool → Type 0 where
   all : {named : List Row} → AreRows s named [] [] true
   again : {named todo rows : List Row} {whole : Bool} (row : Row) → has_value named (origin_of s row.value) ≡ true

@@ -1,5 +1,5 @@
--- The steps of a node that wrote a cell of its RAM (F18A Technology Reference DB001, opcodes; Flow.antt of ga_event says of each where
--- the word comes from that then stands there).
+-- The steps of a node that wrote a cell of its RAM (F18A Technology Reference DB001, opcodes; Flow.antt of ga_event has for
+-- each where the written word comes from).
 use Rattle.std.specs.Prelude.{ℕ, zero, suc, ◌+◌, Bool, true, not, if◌then◌else◌, Option, Some, None, option_map, slice_index}
 use Rattle.std.specs.List.{slice_get}
 use Rattle.ga_event.specs.declared.made.Made.{Made}
@@ -18,7 +18,7 @@ is_written (From parts) = true
 abbrev pub cell_write : ℕ → ℕ → Made → CellWrite
 cell_write step word made = record { step = step; made = made; word = word }
 
--- the step behind so many of a node, where it wrote the cell, with the word that stood there behind it
+-- the step after k steps of a node, if it wrote the cell, with the cell's word after it
 abbrev pub written_at : State → ℕ → ℕ → ℕ → Option CellWrite
 written_at s n cell k =
     if is_written (flow_at s n k (part.Ram cell))
@@ -30,12 +30,12 @@ abbrev pub either : Option CellWrite → Option CellWrite → Option CellWrite
 either (Some written) other = Some written
 either None other = other
 
--- the newest of so many steps of a node that wrote the cell
+-- the newest that wrote the cell among the first steps of a node
 abbrev pub newest_written : State → ℕ → ℕ → ℕ → Option CellWrite
 newest_written s n cell zero = None
 newest_written s n cell (suc k) = either (written_at s n cell k) (newest_written s n cell k)
 
--- the steps of a node that wrote a cell, looked for among so many of the first
+-- a search for the steps of a node that wrote a cell, among the first `step` of them
 pub record Search : Type 0 where
   pub machine : State
   pub node : NodeId

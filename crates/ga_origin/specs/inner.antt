@@ -35,9 +35,9 @@ use Rattle.ga_origin.specs.declared.asked.Asked.{Asked}
 use Rattle.ga_origin.specs.declared.asked.Asked.TheVariants.{Behind, Before, Nothing}
 use Rattle.ga_origin.specs.declared.listing.Row.{Row}
 
--- ---- the part from which a step moved a value to another part of the node, where what is told of the step says so by itself, whatever stood
--- in the node (F18A Technology Reference DB001, opcodes, by their codes; Flow.antt of ga_event has each row in full). Where it doesn't,
--- none is named.
+-- ---- the part from which a step moved a value to another part of the node, if the step as made determines it, whatever the
+-- node's values were (F18A Technology Reference DB001, opcodes, by their codes; Flow.antt of ga_event has each row in full). If
+-- it doesn't, there is none.
 
 -- what an opcode does to the data stack
 abbrev pub on_data : Op → Shift
@@ -167,14 +167,14 @@ by_fetch Stop = None
 by_fetch Outside = None
 by_fetch at = Some at
 
--- the part whose value a wait or a stop, which stands in the place of the whole event, leaves in a part
+-- the part whose value a wait or a stop, which replaces the whole event, leaves in a part
 abbrev pub by_pause : Part → Option Part
 by_pause Wait = None
 by_pause Stop = None
 by_pause Outside = None
 by_pause at = Some at
 
--- the part whose value an event leaves in a part: an own event by its kind, and any event by what is told of it
+-- the part whose value an event leaves in a part: an own event by its kind, and any event as made
 abbrev pub by_kind : Kind → Part → Option Part
 by_kind kind.Fetch at = by_fetch at
 by_kind (kind.Run code) at = if nat_lt code 32 then by_op (op_of code) at else None
@@ -199,7 +199,8 @@ misses_at None cell = false
 misses_at (Some (target.Ram other)) cell = not (other == cell)
 misses_at (Some named) cell = true
 
--- an opcode with this code stored elsewhere than in the cell, where A and B were these before it; and a step of which this is told did
+-- whether an opcode with this code stored elsewhere than in the cell, where A and B were these before it; and whether a step,
+-- as made, did
 abbrev pub misses_by : ℕ → Registers → Part → Bool
 misses_by code before (Ram cell) = misses_at (stored_at code before) cell
 misses_by code before at = false
@@ -212,7 +213,7 @@ misses told before at = false
 
 -- ---- what is kept at hand of a node that is followed back: a register that addresses, or a cell of RAM (F18A Technology Reference DB001, opcodes: which of them write there).
 
--- the place in a node of what is kept at hand, and the word that stands there
+-- the place in a node of a tracked word, and the word there
 abbrev pub place_of : Kept → Place
 place_of hand.A = place.A
 place_of hand.B = place.B
@@ -229,7 +230,8 @@ writes hand.A code = code == 9 || code == 13 || code == 16 || code == 31
 writes hand.B code = code == 30
 writes (hand.Ram cell) code = code / 4 == 3
 
--- what is told of a step that left the register or the cell as it was, whatever stood in the node
+-- whether an own event of this kind, or in `rests` a step as made, left the register or the cell as it was, whatever the node's
+-- values were
 abbrev pub rests_by : Kept → Kind → Bool
 rests_by kept (kind.Run code) = not (writes kept code)
 rests_by kept _ = true
@@ -243,7 +245,7 @@ rests kept (Some (Pass writer i reader j word)) = false
 abbrev pub IsWhole : State → Type 0
 IsWhole s = length s.load ≡ 144
 
--- A and B of a node behind so many of its steps
+-- A and B of a node after a number of its steps
 pub record AreHeld (s : State) (n step : ℕ) (registers : Registers) : Type 0 where
   pub whole : IsWhole s
   pub within : step ≤ steps_of n s.kept
@@ -252,7 +254,7 @@ pub record AreHeld (s : State) (n step : ℕ) (registers : Registers) : Type 0 w
   pub a_fits : registers.a < 2 ^ 18
   pub b_fits : registers.b < 2 ^ 18
 
--- A, B and the word in a cell of a node behind the steps that are still to be looked at
+-- A, B and the word in a cell of a node after the steps that are still to be searched
 pub record IsReached (s : State) (n cell : ℕ) (reached : Reached) : Type 0 where
   pub registers : AreHeld s n reached.step reached.registers
   pub word : slice_index (node_after s n reached.step).ram cell ≡ reached.word
@@ -264,7 +266,8 @@ pub record IsFollowedBack (s : State) (n cell : ℕ) (from back : Reached) : Typ
   pub same : newest_written s n cell back.step ≡ newest_written s n cell from.step
   pub within : back.step ≤ from.step
 
--- A, B and the word in a cell behind the steps that are still to be looked at, and a trail of the node that has not come past them
+-- A, B and the word in a cell after the steps that are still to be searched, and a trail of the node that has not been walked
+-- back past them
 pub record IsSearch (s : State) (node : NodeId) (cell : ℕ) (walk : Standing) (reached : Reached) : Type 0 where
   pub of_ram : cell < 64
   pub trail : walk ≡ standing s node walk.step
@@ -273,25 +276,25 @@ pub record IsSearch (s : State) (node : NodeId) (cell : ℕ) (walk : Standing) (
 
 -- ---- what came next in a node, by the kind of its event (F18A Technology Reference DB001, opcodes, by their codes)
 
--- what came next where the event was of this kind: a fetch or an opcode; none by a wait or a stop, which stands in the place of either
+-- what came next if the event was of this kind: a fetch or an opcode; none by a wait or a stop, which replaces either
 abbrev pub IsDueBy : Kind → Due → Type 0
 IsDueBy kind.Fetch what = what ≡ due.Fetch
 IsDueBy (kind.Run code) what = what ≡ due.Run (op_of code)
 IsDueBy _ what = ⊥
 
--- ---- values that are still to be told, and what is asked for
+-- ---- values that are still to be listed, and selected values
 
--- the value of a row stands in a part of a node, at most so deep
+-- the value of a row is that of a part of a node, and the row is no deeper than `deepest`
 abbrev pub IsOpen : ℕ → Row → Type 0
 IsOpen deepest row = IsPart row.value.part × (row.depth ≤ deepest)
 
--- what is asked for is the value of a part of a node, or nothing
+-- the selected value is that of a part of a node, or there is none
 abbrev pub IsAsked : Asked → Type 0
 IsAsked (Behind part) = IsPart part
 IsAsked (Before part) = IsPart part
 IsAsked Nothing = Unit {0}
 
--- ---- what is told of a step that ran a store (F18A Technology Reference DB001, opcodes): nothing else writes memory
+-- ---- whether a step, as made, ran a store (F18A Technology Reference DB001, opcodes): nothing else writes memory
 
 -- the step ran a store: the codes of the stores are 0c to 0f
 abbrev pub is_store : Kind → Bool
@@ -314,7 +317,7 @@ IsTested (Return k) = k ≡ 0
 IsTested I = Unit {0}
 IsTested _ = ⊥
 
--- an own event of this kind is told
+-- the event as made is an own event of this kind
 abbrev pub IsOwn : Kind → Made → Type 0
 IsOwn what (Own node step other) = other ≡ what
 IsOwn what (Pass writer i reader j word) = ⊥
@@ -327,8 +330,8 @@ pub record IsDeciding (s : State) (node : NodeId) (walk : Standing) (step : ℕ)
 
 -- ---- a value that is followed back, and the trail by which it is
 
--- A value leads to another one: that has the same origin, it stood in the same node and no later, and of the step that left it there it
--- isn't said from where.
+-- A value leads to another one: that has the same origin, it was in the same node and no later, and the step that left it
+-- there, as made, doesn't determine from where.
 pub record IsFollowed (s : State) (from to : Value) : Type 0 where
   pub same : origin_of s to ≡ origin_of s from
   pub part : IsPart to.part
@@ -336,7 +339,7 @@ pub record IsFollowed (s : State) (from to : Value) : Type 0 where
   pub within : to.step ≤ from.step
   pub ends : 0 < to.step → moved_by (slice_get (history_of s from.node.number) (to.step - 1)) to.part ≡ None
 
--- a trail of the node that has not come past so many steps
+-- a trail of the node that has not been walked back past a step
 pub record IsTrailTo (s : State) (node : NodeId) (trail : Standing) (step : ℕ) : Type 0 where
   pub stands : trail ≡ standing s node trail.step
   pub order : step ≤ trail.step

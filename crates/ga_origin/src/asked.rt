@@ -1,4 +1,4 @@
-//! The value that is asked for where a step is named.
+//! The value that a step selects for a query.
 
 ghost use Rattle.std.specs.Prelude.{◌≡◌, ◌≤◌, ◌<◌, ◌+◌, ◌^◌, IfSome};
 ghost use Rattle.ga_ports.specs.Address.{classified, IsTarget};
@@ -17,7 +17,7 @@ use ga_node::{Due, Node, Place, Wait};
 use ga_ports::{Target, classify};
 use ga_slots::Op;
 
-/// What is asked for where a step of a node is named.
+/// The value that a step of a node selects.
 #[derive(Clone, Copy, PartialEq, Eq, Debug)]
 pub(crate) enum Asked {
     /// The value that the step left in this part.
@@ -53,7 +53,7 @@ fn b_target(node: &Node) -> Target
     classify(node.get(Place::B))
 }
 
-// What is asked for of a read at what the address in a part names, whose word comes to the part `there`.
+// The selected value of a read at what the address in a part names, whose word comes to the part `there`.
 fn asked_of_read(address: Part, there: Part, target: Target) -> Asked
     requires address { IsPart address }
     requires there { IsPart there }
@@ -69,7 +69,7 @@ fn asked_of_read(address: Part, there: Part, target: Target) -> Asked
     }
 }
 
-// What is asked for of a write at what the address in a part names.
+// The selected value of a write at what the address in a part names.
 fn asked_of_write(address: Part, target: Target) -> Asked
     requires address { IsPart address }
     requires target { IsTarget target }
@@ -85,7 +85,7 @@ fn asked_of_write(address: Part, target: Target) -> Asked
     }
 }
 
-// What is asked for of a step that ran an opcode, before which the node was so.
+// The selected value of a step that ran an opcode, by the node before.
 fn asked_of_op(op: Op, node: &Node) -> Asked
     ensures value { result ≡ op_asked op (record_of node.now) }
     ensures part { IsAsked result }
@@ -111,7 +111,7 @@ fn asked_of_op(op: Op, node: &Node) -> Asked
     }
 }
 
-// What is asked for of an event of a node's own, before which the node was so.
+// The selected value of an event of a node's own, by the node before.
 fn asked_of_own(before: &Node) -> Asked
     ensures value { result ≡ due_asked (due_of (record_of before.now)) (record_of before.now) }
     ensures part { IsAsked result }
@@ -122,7 +122,7 @@ fn asked_of_own(before: &Node) -> Asked
     }
 }
 
-// What is asked for of a step that took a word, of a node that waited so.
+// The selected value of a step that took a word, by what the node waited for.
 fn asked_of_take(wait: Wait) -> Asked
     ensures value { result ≡ take_asked wait }
     ensures part { IsAsked result }
@@ -135,7 +135,7 @@ fn asked_of_take(wait: Wait) -> Asked
     }
 }
 
-// What is asked for of an event of which this is told, before which the node was so.
+// The selected value of an event as made, by the node before.
 fn asked_of_told(made: &Made, before: &Node, node: NodeId) -> Asked
     ensures value { result ≡ told_asked made.now (record_of before.now) node.number }
     ensures part { IsAsked result }
@@ -152,7 +152,7 @@ fn asked_of_told(made: &Made, before: &Node, node: NodeId) -> Asked
     }
 }
 
-// The value that is asked for of the step behind so many of a node.
+// The selected value of the step after `place` steps of a node.
 fn value_of(node: NodeId, place: u32, asked: Asked) -> Option<Value>
     requires fits { place + 1 < 2 ^ 32 }
     requires part { IsAsked asked }
@@ -174,9 +174,9 @@ fn value_of(node: NodeId, place: u32, asked: Asked) -> Option<Value>
     }
 }
 
-/// The value that is asked for where a step is named (DB001, opcodes): what it left on a stack, in a cell or in a register; of a
-/// word that was sent T before it; of a wait, a stop or a branch what decided it. None where it made no value, as `drop` or `.`, or
-/// doesn't stand. Takes time by how many steps the node made since.
+/// The value that a step selects (DB001, opcodes): what it left on a stack, in a cell or in a register; of a word that was sent
+/// T before it; of a wait, a stop or a branch what decided it. None if it made no value, as `drop` or `.`, or doesn't exist.
+/// Takes time linear in the number of steps that the node made since.
 #[tactic(auto, using(crate::proofs::Made::stands_so))]
 pub fn asked_of(lab: &Lab, node: NodeId, step: u32) -> Option<Value>
     ensures value { result ≡ asked_of lab.now node step }
@@ -193,8 +193,8 @@ pub fn asked_of(lab: &Lab, node: NodeId, step: u32) -> Option<Value>
     asked_behind(lab, &near, node)
 }
 
-/// The value that is asked for where the step is named to which a node is walked back, as [`asked_of`] has it; the walk isn't walked on.
-/// Takes as long whatever is kept.
+/// The value that the step selects to which a node is walked back, as [`asked_of`] has it; the walk stays where it is. Takes
+/// the same time whatever the history is.
 pub fn asked_behind(lab: &Lab, walk: &Walk<'_>, node: NodeId) -> Option<Value>
     requires { walk.now ≡ standing lab.now node walk.now.step }
     ensures value { result ≡ asked_of lab.now node walk.now.step }

@@ -1,4 +1,4 @@
-//! The steps at which a value decided where a node went on.
+//! The steps at which a value decided where a node continued.
 
 ghost use Rattle.std.specs.Prelude.{◌≡◌, ◌≤◌, ◌+◌, ◌^◌, ◌<◌, true, Some, IfSome, option_map};
 ghost use Rattle.ga_node.specs.Record.{record_of};
@@ -21,12 +21,12 @@ use ga_slots::Op;
 use ga_word::Word18;
 use std::marker::Model;
 
-/// A step at which a value decided where its node went on.
+/// A step at which a value decided where its node continued.
 #[derive(Clone, Copy, PartialEq, Eq, Debug)]
 pub struct Decision {
     /// The number of the step.
     pub step: u32,
-    /// What is told of the step.
+    /// The step as made.
     pub made: Made,
     /// The value: R or T before the step, or the instruction word that names where to; of an instruction word that the step took, T of
     /// the writer.
@@ -50,7 +50,7 @@ fn tested_by(op: Op) -> Option<Part>
     }
 }
 
-// What stands in a part that is tested.
+// The word in a part that is tested.
 #[tactic(auto, unfolding(ga_node::specs::Record::record_of))]
 fn word_in(node: &Node, part: Part) -> u32
     requires { IsTested part }
@@ -182,7 +182,8 @@ fn source_of<'l>(lab: &'l Lab, trail: &Trail<'l>, node: NodeId, value: Value) ->
     origin_behind(lab, &mut from, value.node, step, value.part)
 }
 
-// What is told of the step at a place, an own event which the word in this part decided. Its node is walked back to right before it.
+// The decision of the step at a place, an own event which the word in this part decided. Walks its node back to right before
+// it.
 #[inline(never)]
 fn own_decision<'l>(
     lab: &'l Lab,
@@ -247,9 +248,9 @@ fn decided_at<'l>(lab: &'l Lab, trail: &mut Trail<'l>, node: NodeId, place: u32)
     }
 }
 
-/// The steps of a node at which a value decided where it went on, the newest first: those that test T or R, as `if` and `next`; those
-/// that take P from R, `;` and `ex`; those that took an instruction word over a port; and a `jump` or `call` in such a word. A contract
-/// sees the machine, the node, and how many steps are still to be looked at.
+/// The steps of a node at which a value decided where it continued, the newest first: those that test T or R, as `if` and
+/// `next`; those that take P from R, `;` and `ex`; those that took an instruction word over a port; and a `jump` or `call` in
+/// such a word. A contract sees the machine, the node, and how many steps are still to be searched.
 #[derive(Drop)]
 pub struct Decisions<'l> {
     lab: &'l Lab,
@@ -287,9 +288,9 @@ impl<'l> Decisions<'l> {
         }
     }
 
-    /// Goes back over the newest step that a value decided, and tells of it; none where there is none. Takes no memory, and time by how
-    /// many steps it goes back over, and by how many lie between the step and the one that made the value. The node is walked back to
-    /// the step where it was an own event, and no further.
+    /// Searches back for the newest step that a value decided, and returns it; none if there is none. Takes no memory, and time
+    /// linear in the number of steps that it passes, and in the number of those between the step and the one that made the
+    /// value. The node is walked back to the step if that was an own event, and no further.
     pub fn next(&mut self) -> Option<Decision>
         ensures value { result ≡ newest_decided self.old.machine self.old.node self.old.step }
         ensures step { IfSome result (λ decision. self.new.step + 1 ≡ decision.step) }
@@ -310,7 +311,7 @@ impl<'l> Decisions<'l> {
         self.step
     }
 
-    // Goes back over one step, and tells of it where a value decided it.
+    // Searches one step further back, and returns it if a value decided it.
     fn back(&mut self) -> Option<Decision>
         requires { 0 < self.old.step }
         ensures value { result ≡ decided_at self.old.machine self.old.node self.new.step }

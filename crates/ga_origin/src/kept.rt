@@ -1,5 +1,5 @@
-//! What is kept at hand of a node that is followed back: a register that addresses, or a cell of RAM; and the registers, as the node
-//! held them behind its steps.
+//! The words of a node that are tracked while it is followed back: a register that addresses, or a cell of RAM; and the
+//! registers, as they were after the node's steps.
 
 ghost use Rattle.std.specs.Prelude.{◌≡◌, ◌<◌, ◌≤◌, ◌+◌, ◌^◌, ◌&&◌};
 ghost use Rattle.std.specs.List.{slice_get};
@@ -49,7 +49,7 @@ impl Kept {
         }
     }
 
-    /// Whether a step of which this is told left the register or the cell as it was, whatever stood in the node.
+    /// Whether a step, as made, left the register or the cell as it was, whatever the node's values were.
     #[inline(always)]
     pub fn rests(self, told: &Option<Made>) -> bool
         ensures { result ≡ rests self told.now }
@@ -64,7 +64,7 @@ impl Kept {
     }
 }
 
-/// Whether a step of which this is told left both A and B as they were, whatever stood in the node.
+/// Whether a step, as made, left both A and B as they were, whatever the node's values were.
 #[inline(always)]
 pub(crate) fn both_rest(told: &Option<Made>) -> bool
     ensures { result ≡ (rests Kept.A told.now && rests Kept.B told.now) }
@@ -78,7 +78,7 @@ pub(crate) fn both_rest(told: &Option<Made>) -> bool
     }
 }
 
-/// The word that a node held right before the step at a place, where it held this behind it, by what is kept of the step.
+/// The tracked word of a node right before the step at a place, if it is `word` after it, by the step's entry.
 pub(crate) fn word_before(lab: &Lab, node: NodeId, at: u32, kept: Kept, word: u32) -> u32
     requires within { at + 1 ≤ steps_of node.number lab.now.kept }
     requires behind { word_of kept (node_after lab.now node.number (at + 1)) ≡ word }
@@ -92,7 +92,8 @@ pub(crate) fn word_before(lab: &Lab, node: NodeId, at: u32, kept: Kept, word: u3
     }
 }
 
-/// The word that a node held right before the step at a place: as behind it where what is told of it says so, else by what is kept of it.
+/// The tracked word of a node right before the step at a place: the same as after it if the step as made determines so, else by
+/// its entry.
 #[inline(always)]
 #[tactic(auto, using(crate::proofs::Resting::word_rests))]
 pub(crate) fn word_behind(
@@ -146,7 +147,7 @@ pub(crate) fn registers_in(lab: &Lab, node: NodeId, walk: &Walk<'_>) -> Register
     requires { walk.now ≡ standing lab.now node walk.now.step }
     ensures { AreHeld lab.now node.number walk.now.step result }
 {
-    // These are asked for what their contracts say alone: that the chip has all its nodes, and that so many steps are kept.
+    // These are called only for their contracts: that the chip has all its nodes, and that the node has this number of steps.
     lab.chip().node(node);
     walk.step();
     let there = walk.node();
@@ -168,7 +169,7 @@ fn registers_kept(lab: &Lab, node: NodeId, at: u32, behind: Registers) -> Regist
     }
 }
 
-/// A and B of a node right before the step at a place, by what is told of the step, or else by what is kept of it.
+/// A and B of a node right before the step at a place, by the step as made, or else by its entry.
 #[inline(always)]
 pub(crate) fn registers_before(
     lab: &Lab,
@@ -188,7 +189,7 @@ pub(crate) fn registers_before(
     }
 }
 
-/// A and B of a node behind so many steps, from those behind as many or more.
+/// A and B of a node after `to` of its steps, from those after `from` of them.
 pub(crate) fn registers_at(
     lab: &Lab,
     node: NodeId,

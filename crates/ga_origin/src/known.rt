@@ -1,4 +1,4 @@
-//! Where a value comes from that a step leaves, where what is kept of the step says it.
+//! The source of a value that a step leaves, if the entries of the steps determine it.
 
 ghost use Rattle.std.specs.Prelude.{◌≡◌, ◌<◌, ◌≤◌, IfSome};
 ghost use Rattle.ga_ports.specs.Address.{IsTarget};
@@ -18,7 +18,8 @@ use ga_node::{Due, Kind, Place, Wait};
 use ga_ports::{PortSet, classify};
 use ga_slots::Op;
 
-/// So many steps are looked at for P before the first of them: an instruction word has four slots, and the fetch behind them writes P.
+/// The number of steps that are searched for the old value of P: an instruction word has four slots, and the fetch after them
+/// writes P.
 const AHEAD: u32 = 8;
 
 // P right before the step at a place, where one of the next few steps wrote P.
@@ -133,7 +134,7 @@ fn taken_flow(lab: &Lab, node: NodeId, place: u32, part: Part) -> Option<Flow>
     Some(take_flow(wait, part))
 }
 
-/// Where the value comes from that the step at a place leaves in a part, where what is kept says it.
+/// The source of the value that the step at a place leaves in a part, if the entries determine it.
 pub(crate) fn known_flow(
     lab: &Lab,
     trail: &mut Trail<'_>,

@@ -13,16 +13,16 @@ ghost use Rattle.ga_origin.specs.Rows.{row_at, sources_of, IsToldIn, AreRows, Is
 ghost use Rattle.ga_origin.specs.declared.deciding.Decision.{Decision};
 ghost use Rattle.ga_origin.specs.Deciding.{decided_at};
 
-/// Each step that is told is one on which the step asked for depends, so that `why` leads from it there. What else is told was
-/// loaded. The step asked for must be kept, as each of a node's is.
+/// Each listed step is one on which the queried step depends, so that `why` leads from it there. The other listed values were
+/// loaded. The queried step must be in the history, as each of a node's is.
 pub fn named_steps_are_causes()
     ensures { (s : State) (value : Value) (place : ℕ) (rows : List Row) (whole : Bool) →
         place_of (causes_of s) value.node.number value.step ≡ Some place →
         AreRows s [] (row_at 0 value ∷ []) rows whole → All (λ (row : Row). IsNamedFor s value row.value) rows }
 {}
 
-/// Where all rows are told, none is missing: the step that made the value asked for is told, and with each row the steps that made
-/// the values from which its own came.
+/// If all rows are listed, none is missing: the step that made the queried value is listed, and with each row the steps that
+/// made the values from which its own came.
 #[tactic(auto, using(crate::proofs::Rows::asked_told, crate::proofs::Rows::sources_told))]
 pub fn whole_listings_miss_nothing()
     ensures asked { (s : State) (value : Value) (rows : List Row) → AreRows s [] (row_at 0 value ∷ []) rows true → IsToldIn s rows value }
@@ -30,7 +30,7 @@ pub fn whole_listings_miss_nothing()
         All (λ (row : Row). All (IsToldIn s rows) (sources_of s row.value)) rows }
 {}
 
-/// Of what is asked for where a step is named, each step that is told is one on which this step depends. What else is told was loaded.
+/// For the value that a step selects, each listed step is one on which this step depends. The other listed values were loaded.
 pub fn asked_steps_are_causes()
     ensures { (s : State) (node : NodeId) (step place : ℕ) (value : Value) (rows : List Row) (whole : Bool) →
         place_of (causes_of s) node.number step ≡ Some place → asked_of s node step ≡ Some value →

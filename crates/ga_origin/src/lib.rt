@@ -1,4 +1,4 @@
-//! Where a value came from: the steps whose values went into it, through stacks, memories, registers and links, down to the load.
+//! Provenance of a value: the steps whose values went into it, through stacks, memories, registers and links, down to the load.
 #![tactic(auto)]
 
 mod asked;

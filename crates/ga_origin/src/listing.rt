@@ -1,4 +1,4 @@
-//! The steps whose values went into a value, as a tree.
+//! The provenance of a value: the steps whose values went into it, as a tree.
 
 ghost use Rattle.std.specs.Prelude.{◌≡◌, ◌⊎◌, ◌↔◌, ◌<◌, ◌≤◌, ◌+◌, ◌-◌, ◌^◌, ◌++◌, ◌∷◌, [], false, Err, IfOk, IfErr, IfSome, OnOk, All, length, map, reverse, option_to_list};
 ghost use Rattle.ga_event.specs.Told.{steps_of};
@@ -20,22 +20,22 @@ use std::alloc::{AllocError, Global};
 /// A row of a listing: a value that a step made, or that was loaded.
 #[derive(Clone, Copy, PartialEq, Eq, Debug)]
 pub struct Row {
-    /// How many steps lead from the value asked for to this one: 0 for the step that made the value itself.
+    /// How many steps lead from the queried value to this one: 0 for the step that made the value itself.
     pub depth: u32,
     /// The value, right after the step that made it.
     pub value: Value,
 }
 
-/// The steps whose values went into a value, as a tree, of which each step is told once.
+/// The steps whose values went into a value, as a tree, of which each step is listed once.
 #[derive(Debug, Drop)]
 pub struct Listing {
-    /// The rows, each with those below it behind it, in the order in which its step reads them.
+    /// The rows, each before those below it, in the order in which its step reads them.
     pub rows: Vec<Row>,
     /// Whether no row is missing.
     pub is_whole: bool,
 }
 
-// Whether the value is among those that were told.
+// Whether the value is among the listed ones.
 fn is_named(rows: &[Row], value: Value) -> bool
     ensures { result ≡ has_value rows.now value }
 {
@@ -145,14 +145,15 @@ fn push_below(
     }
 }
 
-/// The steps whose values went into a value, through stacks, memories, registers and links, down to the load: as a tree, of which
-/// each is told once, and at most so many. Each value is followed back by what is kept of its node's steps. Only where that doesn't
-/// say from where a step has a value, the node is walked back to that step: from where it was walked to for the value that was told
-/// last, where that is of the same node and not earlier; else from where a walk of some node stands, where the same holds of it; else
-/// from the newest step. Takes memory by how many are told, and for each value time by how many steps of its node lie between.
+/// The steps whose values went into a value, through stacks, memories, registers and links, down to the load: as a tree, of
+/// which each is listed once, and at most `most` of them. Each value is followed back by the entries of its node's steps. Only
+/// where these don't determine from where a step has a value, the node is walked back to that step: from where the walk for the
+/// last listed value is, if that is of the same node and not earlier; else from where the walk `near` is, if the same holds of
+/// it; else from the newest step. Takes memory linear in the number of listed steps, and for each value time linear in the
+/// number of steps of its node between.
 ///
 /// # Errors
-/// Memory is wanting.
+/// An allocation failed.
 pub fn whence_near<'l>(
     alloc: Global,
     lab: &'l Lab,

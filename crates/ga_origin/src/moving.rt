@@ -1,4 +1,4 @@
-//! From which part a step moved a value, where what is told of the step says so by itself, whatever stood in the node.
+//! The part from which a step moved a value, if the step as made determines it, whatever the node's values were.
 
 ghost use Rattle.std.specs.Prelude.{◌≡◌, ◌<◌, IfSome};
 ghost use Rattle.ga_event.specs.Flow.{IsPart};
@@ -193,7 +193,7 @@ fn unless_stored(op: Op, part: Part) -> Option<Part>
     }
 }
 
-// The part whose value an opcode leaves in a part. Of P and the slot it isn't said: nearly every step makes them anew.
+// The part whose value an opcode leaves in a part. None for P and the slot, which nearly every step makes anew.
 #[inline(always)]
 fn by_op(op: Op, part: Part) -> Option<Part>
     requires { IsPart part }
@@ -212,7 +212,7 @@ fn by_op(op: Op, part: Part) -> Option<Part>
     }
 }
 
-// The part whose value a fetch leaves in a part. Of P, I and the slot it isn't said: a fetch makes them anew.
+// The part whose value a fetch leaves in a part. None for P, I and the slot, which a fetch makes anew.
 #[inline(always)]
 fn by_fetch(part: Part) -> Option<Part>
     requires { IsPart part }
@@ -225,7 +225,7 @@ fn by_fetch(part: Part) -> Option<Part>
     }
 }
 
-// The part whose value a wait or a stop, which stands in the place of the whole event, leaves in a part.
+// The part whose value a wait or a stop, which replaces the whole event, leaves in a part.
 #[inline(always)]
 fn by_pause(part: Part) -> Option<Part>
     requires { IsPart part }
@@ -265,7 +265,7 @@ fn misses_by(code: u8, before: Registers, part: Part) -> bool
     }
 }
 
-/// Whether a step of which this is told ran a store by A or B that leaves a cell as it was, where A and B were these before it.
+/// Whether a step, as made, ran a store by A or B that leaves a cell as it was, where A and B were these before it.
 #[inline(always)]
 pub(crate) fn misses(told: &Option<Made>, before: Registers, part: Part) -> bool
     ensures { result ≡ misses told.now before part }
@@ -281,7 +281,7 @@ pub(crate) fn misses(told: &Option<Made>, before: Registers, part: Part) -> bool
     }
 }
 
-/// The part from which a step moved a value to this one, where what is told of the step says so whatever stood in the node.
+/// The part from which a step moved a value to this one, if the step as made determines it whatever the node's values were.
 #[inline(always)]
 pub(crate) fn moved_by(told: &Option<Made>, part: Part) -> Option<Part>
     requires { IsPart part }
@@ -304,7 +304,7 @@ pub(crate) fn moved_by(told: &Option<Made>, part: Part) -> Option<Part>
     }
 }
 
-/// The place of the data stack from which a step moved a word to this one, where what is told of the step says so.
+/// The place of the data stack from which a step moved a word to this one, if the step as made determines it.
 #[inline(always)]
 pub(crate) fn data_place(told: &Option<Made>, place: u8) -> Option<u8>
     requires { place < 10 }

@@ -31,7 +31,7 @@ pub(crate) fn is_cell(part: Part) -> bool
     }
 }
 
-// Whether a value that went from a part to another was read from memory or stored there.
+// Whether a value that moved from a part to another was read from memory or stored there.
 fn crosses(from: Part, to: Part) -> bool
     ensures { result ≡ crosses from to }
 {
@@ -71,7 +71,7 @@ fn is_of_three(flow: &Flow) -> bool
     }
 }
 
-// The part as which a value is told that a step made.
+// The part as which a value that a step made is listed.
 fn told_part(flow: &Flow, part: Part) -> Part
     requires { IsPart part }
     ensures value { result ≡ told_part (flow_of flow.now) part }
@@ -84,7 +84,7 @@ fn told_part(flow: &Flow, part: Part) -> Part
     }
 }
 
-// Where the value of a part comes from that an event of a node leaves, of which this is told.
+// The source of the value that an event of a node, as made, leaves in a part.
 fn told_flow(made: &Made, before: &Node, node: NodeId, part: Part) -> Flow
     requires { IsPart part }
     ensures value { flow_of result ≡ told_flow made.now (record_of before.now) node.number part }
@@ -115,7 +115,7 @@ pub(crate) fn flow_behind(lab: &Lab, walk: &Walk<'_>, node: NodeId, part: Part) 
     }
 }
 
-// The value's step, or the last of the node where it made fewer: behind that nothing is made.
+// The value's step, or the last of the node if it made fewer: after that nothing is made.
 #[tactic(auto, using(crate::proofs::Made::origin_last))]
 pub(crate) fn kept_step(lab: &Lab, value: Value) -> u32
     requires { IsPart value.part }
@@ -243,8 +243,9 @@ pub(crate) fn flow_by_trail(
     flow_behind(lab, trail.walk(), node, part)
 }
 
-/// The step that made what stands in a part of a node behind a step, by a trail of the node that has not come past that step, nor then
-/// past the one that made it. The node is walked back only where what is kept doesn't say from where a step has the value.
+/// The origin of the value in a part of a node after a step, by a trail of the node that has not been walked back past that
+/// step, nor then past the one that made the value. The node is walked back only where the entries don't determine from where a
+/// step has the value.
 pub(crate) fn origin_behind(
     lab: &Lab,
     trail: &mut Trail<'_>,
@@ -312,10 +313,10 @@ fn p_by_trail(lab: &Lab, trail: &mut Trail<'_>, node: NodeId, place: u32) -> u32
     p_of(trail.walk().node())
 }
 
-/// The cell from which the instruction word was fetched that stood in I behind a step: 0 to 63 of RAM, 128 to 191 of ROM. None
-/// where it was loaded, or came from elsewhere than a memory. Takes time by how many steps the node made since the fetch. Only where
-/// what is kept of the steps doesn't say it, the node is walked back there: from where a walk of some node stands, where that is of the
-/// same node and not earlier, else from its newest step.
+/// The cell from which the instruction word in I after a step was fetched: 0 to 63 of RAM, 128 to 191 of ROM. None if it was
+/// loaded, or came from elsewhere than a memory. Takes time linear in the number of steps that the node made since the fetch.
+/// Only where the entries of the steps don't determine it, the node is walked back there: from where the walk `near` is, if
+/// that is of the same node and not earlier, else from its newest step.
 pub fn fetched_near<'l>(
     lab: &'l Lab,
     near: &Walk<'l>,

@@ -13,15 +13,15 @@ use ga_grid::NodeId;
 use ga_lab::{Lab, Walk};
 use std::marker::Model;
 
-/// A value that was followed back, and A and B behind its step.
+/// A value that was followed back, and A and B after its step.
 #[derive(Clone, Copy, PartialEq, Eq, Debug)]
 struct Followed {
     value: Value,
     registers: Registers,
 }
 
-// A word of the data stack followed back over the steps that moved it within that stack, and where it goes along with A and B, these
-// too. Any other value stays as it is.
+// Follows a word of the data stack back over the steps that moved it within that stack, and A and B too if `along`. Any other
+// value is returned as it is.
 #[inline(always)]
 fn follow_data(lab: &Lab, followed: Followed, along: bool) -> Followed
     requires part { IsPart followed.value.part }
@@ -56,8 +56,8 @@ fn follow_data(lab: &Lab, followed: Followed, along: bool) -> Followed
     Followed { value, registers }
 }
 
-// A value followed back over the steps of its node of which what is told says from where they moved it, and where it goes along with A and
-// B, these too.
+// Follows a value back over the steps of its node that, as made, determine from where they moved it, and A and B too if
+// `along`.
 #[inline(always)]
 fn follow(lab: &Lab, value: Value, along: bool, behind: Registers) -> Followed
     requires part { IsPart value.part }
@@ -135,12 +135,12 @@ fn follow_on(lab: &Lab, value: Value, behind: Registers) -> Followed
     followed
 }
 
-/// A walk of a node, and A and B behind some of its steps, so that an address is known where the node isn't walked back. A contract sees
-/// the walk alone.
+/// A walk of a node, and A and B after some of its steps, so that an address is known without walking the node back. A contract
+/// sees the walk only.
 #[derive(Drop)]
 pub(crate) struct Trail<'l> {
     walk: Walk<'l>,
-    // Behind how many steps A and B are known.
+    // The number of steps after which A and B are known.
     step: u32,
     registers: Registers,
 }
@@ -201,8 +201,8 @@ impl<'l> Trail<'l> {
         self.walk.back_to(step);
     }
 
-    /// A value followed back over the steps of the node of which what is told says from where they moved it. Where A and B are known behind
-    /// the value's step, they are known behind the last of them too.
+    /// Follows a value back over the steps of the node that, as made, determine from where they moved it. If A and B are known
+    /// after the value's step, they are then known at the returned value's step.
     pub fn told_back(&mut self, lab: &Lab, value: Value) -> Value
         requires part { IsPart value.part }
         requires trail { self.old ≡ standing lab.now value.node self.old.step }
@@ -219,7 +219,7 @@ impl<'l> Trail<'l> {
         }
     }
 
-    /// Takes note of A and B behind so many steps.
+    /// Stores A and B after `step` steps.
     pub fn note(&mut self, lab: &Lab, node: NodeId, step: u32, registers: Registers)
         requires trail { self.old ≡ standing lab.now node self.old.step }
         requires held { AreHeld lab.now node.number step registers }
@@ -229,7 +229,7 @@ impl<'l> Trail<'l> {
         self.registers = registers;
     }
 
-    /// A and B behind so many steps. Takes time by how many steps lie between there and where they were known.
+    /// A and B after `step` steps. Takes time linear in the number of steps between there and where they were known.
     pub fn registers(&mut self, lab: &Lab, node: NodeId, step: u32) -> Registers
         requires trail { IsTrailTo lab.now node self.old step }
         ensures held { AreHeld lab.now node.number step result }

@@ -18,14 +18,14 @@ use ga_node::{Kind, Node, Place};
 use ga_word::Word18;
 use std::marker::Model;
 
-/// A step that wrote a cell, and the word that stood there behind it.
+/// A step that wrote a cell, and the cell's word after it.
 #[derive(Clone, Copy, PartialEq, Eq, Debug)]
 pub struct CellWrite {
     /// The number of the step.
     pub step: u32,
-    /// What is told of the step.
+    /// The step as made.
     pub made: Made,
-    /// The word that stood in the cell behind the step.
+    /// The word in the cell after the step.
     pub word: Word18,
 }
 
@@ -49,7 +49,7 @@ fn word_in(node: &Node, cell: u8) -> u32
     node.get(Place::Ram(cell))
 }
 
-// Whether a step of which this is told ran a store, whose codes are 0c to 0f: nothing else writes memory.
+// Whether a step, as made, ran a store, whose codes are 0c to 0f: nothing else writes memory.
 fn ran_store(told: &Option<Made>) -> bool
     ensures { result ≡ ran_store told.now }
 {
@@ -64,7 +64,8 @@ fn ran_store(told: &Option<Made>) -> bool
     }
 }
 
-/// How far a cell of a node was followed back: the steps that are still to be looked at, and behind them A, B and the word in the cell.
+/// How far a cell of a node was followed back: the steps that are still to be searched, and A, B and the word in the cell after
+/// them.
 #[derive(Clone, Copy, PartialEq, Eq, Debug)]
 struct Reached {
     step: u32,
@@ -72,7 +73,7 @@ struct Reached {
     word: u32,
 }
 
-// Goes back over the steps that ran no store, up to the newest one that did, where there is one.
+// Passes the steps that ran no store, back to the newest one that did, if there is one.
 fn back_to_store(lab: &Lab, node: NodeId, cell: u8, from: Reached) -> Reached
     requires cell { cell < 64 }
     requires held { IsReached lab.now node.number cell from }
@@ -104,7 +105,7 @@ fn back_to_store(lab: &Lab, node: NodeId, cell: u8, from: Reached) -> Reached
     }
 }
 
-// Goes back over a step that ran a store by A or B which named another cell.
+// Passes back over a step that ran a store by A or B which named another cell; none for other steps.
 #[tactic(auto, using(crate::proofs::Keeping::wrote_before, crate::proofs::Keeping::misses_writes))]
 fn back_past_store(lab: &Lab, node: NodeId, cell: u8, from: Reached) -> Option<Reached>
     requires cell { cell < 64 }
@@ -136,7 +137,7 @@ fn back_past_store(lab: &Lab, node: NodeId, cell: u8, from: Reached) -> Option<R
     })
 }
 
-// Goes back up to the newest step that ran a store, but for those by A or B that named another cell.
+// Passes back to the newest step that ran a store, except for those by A or B that named another cell.
 fn back_to_write(lab: &Lab, node: NodeId, cell: u8, from: Reached) -> Reached
     requires cell { cell < 64 }
     requires held { IsReached lab.now node.number cell from }
@@ -198,8 +199,8 @@ impl<'l> CellWrites<'l> {
         }
     }
 
-    /// Goes back over the newest step that wrote the cell, and tells of it; none where no step did. Takes no memory, and time by how many
-    /// steps it goes back over.
+    /// Searches back for the newest step that wrote the cell, and returns it; none if no step did. Takes no memory, and time
+    /// linear in the number of steps that it passes.
     pub fn next(&mut self) -> Option<CellWrite>
         ensures value { result ≡ newest_written self.old.machine self.old.node.number self.old.cell self.old.step }
         ensures step { IfSome result (λ written. self.new.step + 1 ≡ written.step) }
@@ -222,7 +223,7 @@ impl<'l> CellWrites<'l> {
         self.reached.step
     }
 
-    // Goes back up to the newest step that may have written the cell.
+    // Passes back to the newest step that may have written the cell.
     fn seek(&mut self)
         ensures newest { newest_written self.old.machine self.old.node.number self.old.cell self.new.step
             ≡ newest_written self.old.machine self.old.node.number self.old.cell self.old.step }
@@ -232,7 +233,7 @@ impl<'l> CellWrites<'l> {
         self.reached = back_to_write(self.lab, self.node, self.cell, self.reached);
     }
 
-    // Goes back over one step, and tells of it where it wrote the cell.
+    // Searches one step further back, and returns it if it wrote the cell.
     fn back(&mut self) -> Option<CellWrite>
         requires { 0 < self.old.step }
         ensures value { result ≡ written_at self.old.machine self.old.node.number self.old.cell self.new.step }

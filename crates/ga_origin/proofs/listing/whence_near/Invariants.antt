@@ -14,6 +14,6 @@ invariant-telling l = record {
   last : l.last.trail ≡ standing l.lab l.last.value.node l.last.trail.step;
 }
 
--- each row that is told puts at most three values on the stack, and takes one from it
+-- each listed row puts at most three values on the stack, and takes one from it
 abbrev pub decreases-telling : goal.decreases-telling
 decreases-telling l = 4 * (l.most - length l.rows.items) + length l.todo.items
