@@ -40,7 +40,7 @@ thread_step s programs n at old new same before grown =
     ∙ sym (map-append (thread_in s) (with_threads s programs n) (filter (has_thread s programs) (n ∷ [])))
     ∙ sym (ap (λ (z : List ℕ). map (thread_in s) z) (chosen_more s programs n))
 
--- one more value behind those of a range
+-- one more value after those of a range
 pub range_step : (f : ℕ → Data) (first n : ℕ) (old new : List Value) (value : Value) → first ≤ n → new ≡ old ++ value ∷ [] → view value ≡ f n
     → map view old ≡ map f (range_with_len first (n - first)) → map view new ≡ map f (range_with_len first (n + 1 - first))
 range_step f first n old new value from pushed same before =
@@ -52,7 +52,7 @@ range_step f first n old new value from pushed same before =
     ∙ sym (map-range_with_len_more f first (n - first) n (omega (arith, from)))
     ∙ sym (ap (λ (z : ℕ). map f (range_with_len first z)) more)
 
--- one more value behind those of the first things of a list
+-- one more value after those of the first elements of a list
 pub take_step : {A : Type 0} (f : A → Data) (xs : List A) (n : ℕ) (d : A) (old new : List Value) (value : Value) → n < length xs → new ≡ old ++ value ∷ []
     → view value ≡ f (get_or xs n d) → map view old ≡ map f (take n xs) → map view new ≡ map f (take (n + 1) xs)
 take_step f xs n d old new value below pushed same before =
@@ -67,7 +67,7 @@ pub from_min : (size start many : ℕ) → many ≤ size - start → range_with_
 from_min size start zero few = refl
 from_min size start (suc many) few = let same : min start size ≡ start = omega (arith, few) in ap (λ (z : ℕ). range_with_len z (suc many)) same
 
--- ---- the frames that are asked for
+-- ---- the requested frames
 
 at_most : (all : Bool) (left count : ℕ) → cond all left (min count left) ≤ left
 at_most true left count = omega arith

@@ -1,4 +1,4 @@
--- What is told of a step says what it does to the entries of the return stack.
+-- A step, as made, determines its effect on the entries of the return stack.
 use Rattle.std.proofs.Common.{◌≡◌, ◌+◌, ◌-◌, ◌==◌, ◌%◌, ◌/◌, ◌^◌, ◌++◌, ℕ, suc, Bool, true, false, ◌&&◌, cond, List, [], ◌∷◌, Option, Some, None, refl, sym, ap, ◌∙◌, arith}
 use Rattle.std.specs.List.{slice_get}
 use Rattle.std.proofs.lemmas.Bool.{eqb-true}
@@ -120,7 +120,7 @@ unfolding keeps all_keep
 keep_add true = refl
 keep_add false = refl
 
--- ---- what is told of an access that stays
+-- ---- the kind of an access that leaves the return stack alone
 
 read_told : (ran : Kind) (at : Target) (reader : Reader) (seen : Seen) (n : NodeRecord) (more : ℕ → List Change) (last : Bool) → shift_kind ran last ≡ shift.Stays
     → shift_kind (with_kind ran (followed (found at reader seen n) more)).0 last ≡ shift.Stays

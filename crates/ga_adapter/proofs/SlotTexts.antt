@@ -1,4 +1,4 @@
--- The opcodes of a word, told slot by slot.
+-- The opcodes of a word, written slot by slot.
 use Rattle.std.proofs.Common.{◌≡◌, ◌<◌, ◌≤◌, ◌+◌, ◌-◌, ◌++◌, ℕ, suc, Bool, true, false, cond, List, [], sym, ap, ◌∙◌, append_assoc, append-nil, arith}
 use Rattle.ga_slots.specs.Codes.{name_of}
 use Rattle.ga_slots.specs.Slots.{opcode}

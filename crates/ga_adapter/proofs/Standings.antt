@@ -1,4 +1,4 @@
--- Where a node stands, by its slot and P.
+-- The position of a node, by its slot and P.
 use Rattle.std.proofs.Common.{◌≡◌, ◌≢◌, ℕ, Bool, cond, Option, sym, ap, ◌∙◌, eq-eqb}
 use Rattle.std.specs.Prelude.{option_map}
 use Rattle.std.proofs.lemmas.Bool.{ne_eqb}

@@ -66,7 +66,7 @@ below_top p some = ne_eqb p 0 (λ is. omega arith)
 stays_put : (some other : Option ℕ) (p : ℕ) → 0 < p → cond (p == 0) some other ≡ other
 stays_put some other p below = ap (λ (b : Bool). cond b some other) (below_top p below)
 
--- the window stands below the top
+-- the window begins below the top
 pub none_first : (by : Shift) (a new : ℕ) → 0 < a → put_first by a new ≡ []
 none_first by a new some = go (is_calls by)
   where
@@ -105,7 +105,7 @@ open_back s node k a n by is =
     same_picked (is_calling s node) (put_by s node (suc k)) (came by (put_by s node k) (suc k)) a a n
     (λ i lt. ap (λ (o : Option ℕ). unwrap_or (option_map (put_by s node k) o) (suc k)) (shifted s node.number k (a + i) ∙ ap (λ (z : Shift). entry_before z (a + i)) (sym is)))
 
--- the calls that are told, and those still to be followed
+-- the calls that are listed, and those still to be followed
 abbrev pub Follows : State → NodeId → List OpenCall → List OpenCall → ℕ → ℕ → ℕ → Type 0
 Follows s node all told step a n = all ≡ told ++ map (open_call s node) (picked (is_calling s node) (put_by s node step) a n)
 
@@ -144,7 +144,7 @@ none_before s node all told step a n first follows =
     ∙ ap (λ (z : List ℕ). told ++ map (open_call s node) z) (none_put s node a n)
     ∙ append-nil told)
 
--- the new entry is a call's that stands first, or it is not
+-- the new entry is that of a call and first in the window, or it is not
 pub put_none : (by : Shift) (a new : ℕ) → (is_calls by && a == 0) ≡ false → put_first by a new ≡ []
 put_none by a new is = ap (λ (b : Bool). cond b (new ∷ []) []) is
 

@@ -1,5 +1,5 @@
--- The calls from which a node did not come back (F18A Technology Reference DB001, return stack and opcodes; Flow.antt of ga_event says of each
--- step where the words come from that it leaves).
+-- The open calls of a node, from which it has not returned (F18A Technology Reference DB001, return stack and opcodes;
+-- Flow.antt of ga_event has for each step where the words come from that it leaves).
 use Rattle.std.specs.Prelude.{ℕ, zero, suc, ◌-◌, ◌%◌, ◌==◌, Bool, true, false, ◌&&◌, if◌then◌else◌, List, map, filter, Option, Some, None, option_map, unwrap_or}
 use Rattle.std.specs.List.{range_with_len, slice_get}
 use Rattle.ga_slots.specs.declared.op.Op.{Op}
@@ -17,23 +17,23 @@ use Rattle.ga_origin.specs.Origins.{flow_at}
 use Rattle.ga_adapter.specs.declared.calls.OpenCall.{OpenCall}
 use Rattle.ga_adapter.specs.Spots.{spot_behind}
 
--- The place of the return stack at which an entry stood before a step by which it stands at this one. The words are in a ring: a pop leaves a copy
--- of the second word in the last place, which is no entry. A word that was pushed, exchanged or counted down is a new one.
+-- The place of an entry on the return stack before a step, by its place after the step. The words are in a ring: a pop leaves a
+-- copy of the second word in the last place, which is no entry. A word that was pushed, exchanged or counted down is a new one.
 abbrev pub kept_from : Flow → ℕ → Option ℕ
 kept_from (Same (part.Return from)) place = if place == 8 && from == 1 then None else Some from
 kept_from _ place = None
 
--- of each place of the return stack, where the entry that stands there behind the step after so many of a node stood before it
+-- for each place of the return stack, the place that its entry after a node's step k + 1 had before the step
 abbrev pub entries_from : State → NodeId → ℕ → List (Option ℕ)
 entries_from s node k = map (λ place. kept_from (flow_at s node.number k (part.Return place)) place) (range_with_len 0 9)
 
--- Which of so many steps of a node put the entry that stands at a place behind them; 0 where it stood there at load.
+-- Which of a node's first steps put the entry that is at a place after them; 0 if it was there at load.
 abbrev pub put_by : State → NodeId → ℕ → ℕ → ℕ
 put_by s node zero place = 0
 put_by s node (suc k) place =
     unwrap_or (option_map (put_by s node k) (kept_from (flow_at s node.number k (part.Return place)) place)) (suc k)
 
--- a step is a call, by what is told of it
+-- whether a step, as made, is a call
 abbrev pub is_call_op : Op → Bool
 is_call_op Call = true
 is_call_op _ = false
@@ -46,7 +46,8 @@ abbrev pub is_calling : State → NodeId → ℕ → Bool
 is_calling s node zero = false
 is_calling s node (suc k) = is_call (slice_get (history_of s node.number) k)
 
--- A call is open while the address that it put on the return stack stands there: the numbers of such steps, the newest first. The stack has nine places.
+-- A call is open while the address that it put on the return stack is there: the numbers of such steps, the newest first. The
+-- stack has nine places.
 abbrev pub open_steps : State → NodeId → ℕ → List ℕ
 open_steps s node step = filter (is_calling s node) (map (put_by s node step) (range_with_len 0 9))
 

@@ -31,7 +31,7 @@ use Rattle.ga_adapter.specs.Variables.{memory_reference}
 abbrev pub hex3_of : ℕ → Text
 hex3_of n = hex_digit n 2 ∷ hex_digit n 1 ∷ hex_digit n 0 ∷ []
 
--- where a jump leads: a label that stands there, or the address without bit 9
+-- where a jump leads: the label there, or the address without bit 9
 abbrev pub label_or : ℕ → Option Name → Text
 label_or address None = hex3_of (address % 512)
 label_or address (Some name) = utf8_lossy name.text.items
@@ -39,7 +39,7 @@ label_or address (Some name) = utf8_lossy name.text.items
 abbrev pub target_words : Notes → NodeId → ℕ → Text
 target_words notes node address = label_or address (option_and_then (label_of_cell notes.names.items node) (cell_of_address address))
 
--- what comes behind an opcode: an address, nothing that is carried out, or the next slot
+-- what follows an opcode: an address, nothing that is carried out, or the next slot
 abbrev pub has_address : Op → Bool
 has_address Jump = true
 has_address Call = true
@@ -58,11 +58,11 @@ abbrev pub address_words : Notes → NodeId → ℕ → ℕ → ℕ → Text
 address_words notes node p word slot =
     if slot == 3 then [] else if has_address (opcode word slot) then codes " " ++ target_words notes node (target p word slot) else []
 
--- an opcode behind a blank, but for the first
+-- an opcode after a blank, except for the first
 abbrev pub behind_blank : ℕ → Text → Text
 behind_blank slot text = if slot == 0 then text else codes " " ++ text
 
--- the opcodes of so many slots from one on, up to one behind which nothing is carried out; P is that behind the cell
+-- the opcodes of `left` slots from one on, up to one after which nothing is carried out; P is that after the cell
 unfoldable pub slots_words : Notes → NodeId → ℕ → ℕ → ℕ → ℕ → Text
 slots_words notes node p word slot zero = []
 slots_words notes node p word slot (suc left) =
@@ -100,7 +100,7 @@ instruction file notes s node address cell =
     object (with_label (label_of_cell notes.names.items node cell) (with_source_line file (note_of_cell notes node cell)
     (instruction_members (memory_reference (chip_address node.number address)) (instruction_words notes node cell word) (hex6_of word))))
 
--- what is told of an address where a node has no cell
+-- the instruction of an address at which a node has no cell
 unfoldable pub no_instruction : Text → Data
 no_instruction address =
     object (member (codes "address") (string address) (member (codes "instruction") (string (codes "no memory"))
@@ -117,7 +117,8 @@ instruction_in file notes s node address (Some cell) = instruction file notes s 
 abbrev pub instruction_at : SourceFile → Notes → State → NodeId → ℕ → Data
 instruction_at file notes s node address = instruction_in file notes s node address (cell_in_node address)
 
--- The body of the response: so many instructions from an address of the node on, of whose 4096 the first comes behind the last.
+-- The body of the response: `count` instructions from an address of the node on; after the last of its 4096 addresses comes the
+-- first.
 abbrev pub disassembled : SourceFile → Notes → State → NodeId → ℕ → ℕ → Data
 disassembled file notes s node first count =
     object_of (codes "instructions") (array_of (λ k. instruction_at file notes s node (k % 4096)) (range_with_len first count))

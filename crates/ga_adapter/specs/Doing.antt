@@ -19,7 +19,7 @@ side_name Down = codes "down"
 side_name Left = codes "left"
 side_name Up = codes "up"
 
--- a side, where a set has it, behind those that were named
+-- a side, if a set has it, after those already named
 abbrev pub behind_named : ℕ → Side → Text → Text
 behind_named sides side [] = if has_side sides side then side_name side else []
 behind_named sides side (c ∷ text) = if has_side sides side then (c ∷ text) ++ codes " or " ++ side_name side else c ∷ text

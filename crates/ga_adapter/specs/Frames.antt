@@ -1,4 +1,5 @@
--- The response to `stackTrace` (Debug Adapter Protocol, "StackTraceRequest", "StackFrame"): where a node stands, and the calls from which it did not come back.
+-- The response to `stackTrace` (Debug Adapter Protocol, "StackTraceRequest", "StackFrame"): the position of a node, and its
+-- open calls.
 use Rattle.std.specs.Prelude.{ℕ, zero, suc, ◌+◌, ◌++◌, length, codes, Option, Some, None}
 use Rattle.std.specs.List.{slice_get}
 use Rattle.serde_json.specs.Data.{Data, string, object, no_members, member}
@@ -23,13 +24,13 @@ use Rattle.ga_adapter.specs.Variables.{memory_reference, places_asked}
 unfoldable pub source_object : SourceFile → Data
 source_object file = object (member (codes "name") (string file.name.now) (member (codes "path") (string file.path.now) no_members))
 
--- a frame at a word of the source, of so many bytes from the beginning of its line
+-- a frame at a word of the source, which begins at byte `column` of its line
 unfoldable pub lined_frame : Data → ℕ → Text → Text → ℕ → ℕ → Data
 lined_frame source id name pointer line column =
     object (member (codes "column") (whole_number column) (member (codes "id") (whole_number id) (member (codes "instructionPointerReference") (string pointer)
     (member (codes "line") (whole_number line) (member (codes "name") (string name) (member (codes "source") source no_members))))))
 
--- a frame in memory that the source says nothing of
+-- a frame in memory without source
 unfoldable pub bare_frame : ℕ → Text → Text → Data
 bare_frame id name pointer =
     object (member (codes "column") (whole_number 0) (member (codes "id") (whole_number id) (member (codes "instructionPointerReference") (string pointer)
@@ -60,7 +61,7 @@ frame_at file notes node id name (Some spot) = frame_on file id name (memory_ref
 abbrev pub frame : SourceFile → Notes → NodeId → ℕ → Option Spot → Data
 frame file notes node level spot = frame_at file notes node (frame_of node.number level) (frame_name notes node spot) spot
 
--- where the frames stand: the node itself, then the calls
+-- the positions of the frames: that of the node itself, then those of the calls
 abbrev pub call_spot : Option OpenCall → Option Spot
 call_spot None = None
 call_spot (Some call) = call.at
@@ -69,7 +70,7 @@ abbrev pub level_spot : State → NodeId → ℕ → Option Spot
 level_spot s node zero = present_spot s node
 level_spot s node (suc k) = call_spot (slice_get (open_calls s node) k)
 
--- The body of the response: of the frames from one on so many, and all that are left where the number is 0; and how many there are.
+-- The body of the response: `count` frames from one on, or all remaining if the number is 0; and how many there are.
 unfoldable pub stack_object : Data → ℕ → Data
 stack_object frames total = object (member (codes "stackFrames") frames (member (codes "totalFrames") (whole_number total) no_members))
 

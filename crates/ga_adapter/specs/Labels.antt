@@ -14,7 +14,7 @@ use Rattle.ga_notes.specs.Notes.{is_note_of, slot_word_of}
 use Rattle.ga_notes.specs.Source.{cell_of_address, nearest_found}
 use Rattle.ga_adapter.specs.declared.spots.Spot.{Spot}
 
--- a label of the node stands at the cell
+-- whether a label of the node is at the cell
 abbrev pub is_same_cell : ℕ → Option ℕ → Bool
 is_same_cell cell None = false
 is_same_cell cell (Some found) = found == cell
@@ -32,7 +32,7 @@ label_of_cell names node cell = option_and_then (slice_get names) (place_of_labe
 abbrev pub label_near : List Name → NodeId → ℕ → Option Name
 label_near names node cell = option_and_then (slice_get names) (nearest_found (place_of_label names node) (cell / 64 * 64) (cell % 64))
 
--- A cell by its label and how far behind that it is, and else by its address. (A source may have bytes that are no text.)
+-- A cell by its label and its distance after that, and else by its address. (A source may have bytes that are no text.)
 abbrev pub behind_words : ℕ → Text
 behind_words behind = if behind == 0 then [] else codes "+" ++ decimal behind
 
@@ -43,11 +43,11 @@ label_words cell (Some name) = utf8_lossy name.text.items ++ behind_words (cell 
 abbrev pub cell_words : Notes → NodeId → ℕ → Text
 cell_words notes node cell = label_words cell (label_near notes.names.items node cell)
 
--- what the source says of a cell
+-- the note of the source for a cell
 abbrev pub note_of_cell : Notes → NodeId → ℕ → Option Note
 note_of_cell notes node cell = option_and_then (slice_get notes.notes.items) (position (is_note_of node cell) notes.notes.items)
 
--- the word of the source from which a slot comes, and the line on which it stands
+-- the word of the source from which a slot comes, and its line
 abbrev pub spot_word : Notes → NodeId → Spot → Option SlotWord
 spot_word notes node spot = slot_word_of notes.words.items node spot.cell spot.slot
 

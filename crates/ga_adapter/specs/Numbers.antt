@@ -1,5 +1,6 @@
--- The numbers by which a client names what it is shown (Debug Adapter Protocol, "Thread.id", "StackFrame.id", "Scope.variablesReference",
--- "DisassembledInstruction.address"). Each means something by itself, so none goes stale: there is no table of handles.
+-- The numbers by which a client names what it is shown (Debug Adapter Protocol, "Thread.id", "StackFrame.id",
+-- "Scope.variablesReference", "DisassembledInstruction.address"). Each number determines what it names, so none goes stale:
+-- there is no table of handles.
 use Rattle.std.specs.Prelude.{ℕ, ◌+◌, ◌*◌, ◌/◌, ◌%◌}
 use Rattle.ga_grid.specs.Grid.{yxx_of}
 use Rattle.ga_adapter.specs.declared.scope.Scope.{Scope}
@@ -9,7 +10,7 @@ use Rattle.ga_adapter.specs.declared.scope.Scope.TheVariants.{Registers, Data, R
 abbrev pub thread_of : ℕ → ℕ
 thread_of node = 1000 + yxx_of node
 
--- a frame of a node: the frame where it stands has level 0, and each that called it one more
+-- a frame of a node: the frame of its position has level 0, and each caller's one more
 abbrev pub frame_of : ℕ → ℕ → ℕ
 frame_of node level = 1 + 16 * node + level
 

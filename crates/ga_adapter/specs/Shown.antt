@@ -41,7 +41,7 @@ IsVariable (ReturnWord k) = k < 9
 IsVariable (Cell address) = address < 256
 IsVariable other = Unit {0}
 
--- the name of a variable; a cell is named as it is asked for
+-- the name of a variable; a cell has the name by which a client requests it
 abbrev pub variable_name : Variable → Text
 variable_name State = codes "state"
 variable_name Step = codes "step"

@@ -35,7 +35,7 @@ named_thread n name = object (member (codes "id") (whole_number (thread_of n)) (
 abbrev pub thread_in : State → ℕ → Data
 thread_in s n = named_thread n (named_activity (chip_of s) n)
 
--- the nodes that have a thread, of the first so many
+-- the nodes below a number that have a thread
 unfoldable pub with_threads : State → List NodeId → ℕ → List ℕ
 with_threads s programs count = filter (has_thread s programs) (range_with_len 0 count)
 

@@ -66,7 +66,7 @@ abbrev pub stuck_words : Bool → Text
 stuck_words true = codes "can never go on"
 stuck_words false = codes "no"
 
--- The value of a variable of a node. Whether the node can never go on is told by the greatest set of such nodes (Stuck.antt of ga_races).
+-- The value of a variable of a node. `stuck` is whether the node is in the greatest deadlocked set (Stuck.antt of ga_races).
 abbrev pub variable_value : State → Bool → ℕ → Variable → Text
 variable_value s stuck n variable.State = activity (chip_of s) n
 variable_value s stuck n variable.Step = decimal (steps_of n s.kept)
@@ -92,7 +92,7 @@ unfoldable pub variable_object : Text → Text → Data
 variable_object name value =
     object (member (codes "name") (string name) (member (codes "value") (string value) (member (codes "variablesReference") (whole_number 0) no_members)))
 
--- a value that stands at an address of the chip
+-- a value at an address of the chip
 unfoldable pub cell_object : ℕ → Text → Text → Data
 cell_object address name value =
     object (member (codes "memoryReference") (string (memory_reference address)) (member (codes "name") (string name)
@@ -105,7 +105,7 @@ data_of_variable n other name value = variable_object name value
 abbrev pub data_of : State → Bool → ℕ → Variable → Data
 data_of s stuck n one = data_of_variable n one (variable_name one) (variable_value s stuck n one)
 
--- the places that are asked for: from one on so many, and all that are left where the number is 0
+-- the requested places: `count` from one on, or all remaining if the number is 0
 abbrev pub places_asked : ℕ → ℕ → ℕ → List ℕ
 places_asked size start count = range_with_len start (if count == 0 then size - start else min count (size - start))
 

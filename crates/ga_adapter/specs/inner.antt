@@ -1,5 +1,5 @@
--- What a step does to the entries of the return stack, by what is told of it (F18A Technology Reference DB001, opcodes), and a window of entries
--- that are followed back.
+-- The effect of a step, as made, on the entries of the return stack (F18A Technology Reference DB001, opcodes), and a window of
+-- entries that are followed back.
 use Rattle.ga_slots.specs.declared.op.Op.TheVariants as op
 use Rattle.ga_node.specs.declared.kind.Kind.TheVariants as kind
 use Rattle.ga_event.specs.declared.made.Made.TheVariants as made
@@ -31,7 +31,7 @@ shift_op op.Pop last = shift.Pops  -- 19 pop
 shift_op op.Push last = shift.Pushes  -- 1d push
 shift_op _ last = shift.Stays
 
--- what an event of a node's own does to the entries, and what a step does of which this is told
+-- the effect of an event of a node's own on the entries, and in `shift_told` that of a step as made
 abbrev pub shift_kind : Kind → Bool → Shift
 shift_kind (kind.Run code) last = shift_op (op_of (code % 32)) last
 shift_kind _ last = shift.Stays
@@ -43,7 +43,7 @@ shift_told _ last = shift.Stays
 abbrev pub shift_at : State → ℕ → ℕ → Shift
 shift_at s n k = shift_told (slice_get (history_of s n) k) (r (node_after s n k) == 0)
 
--- where the entry stood before a step that stands at a place behind it; none where it is new, or a copy in the last place
+-- the place of an entry before a step, by its place after it; none if it is new, or a copy in the last place
 abbrev pub entry_before : Shift → ℕ → Option ℕ
 entry_before shift.Stays place = Some place
 entry_before shift.Calls place = if place == 0 then None else Some (place - 1)
@@ -55,15 +55,15 @@ abbrev pub is_calls : Shift → Bool
 is_calls shift.Calls = true
 is_calls _ = false
 
--- what is found at so many places from one on, and is called for
+-- the values of f at `left` places from one on, those that are calls
 abbrev pub picked : (ℕ → Bool) → (ℕ → ℕ) → ℕ → ℕ → List ℕ
 picked calls f place left = filter calls (map f (range_with_len place left))
 
--- the new entry, where it stands first in the window and is a call's
+-- the new entry, if it is first in the window and that of a call
 abbrev pub put_first : Shift → ℕ → ℕ → List ℕ
 put_first by place new = if is_calls by && place == 0 then new ∷ [] else []
 
--- the entries of a window behind a step are the new one, where that is called for, and those of this window before it
+-- the entries of a window after a step are the new one, if that is a call's, and those of this window before it
 abbrev pub IsBefore : Shift → Window → Window → Type 0
 IsBefore by behind before =
     (calls : ℕ → Bool) (f : ℕ → ℕ) (new : ℕ) → calls new ≡ is_calls by

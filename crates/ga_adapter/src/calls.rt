@@ -36,13 +36,13 @@ pub(crate) enum Shift {
     Calls,
     /// Another word comes on top.
     Pushes,
-    /// The top goes.
+    /// The top is removed.
     Pops,
-    /// Another word comes in the place of the top.
+    /// Another word replaces the top.
     Replaces,
 }
 
-/// Entries of the return stack that are followed back: so many, from a place on.
+/// Entries of the return stack that are followed back: `left` of them, from a place on.
 #[derive(Clone, Copy)]
 struct Window {
     place: u8,
@@ -70,7 +70,7 @@ fn counts_out(walk: &mut Walk<'_>, at: u32) -> bool
     ensures value { result ≡ (r (node_after walk.old.machine walk.old.node.number at) == 0) }
     ensures walk { walk.new ≡ standing walk.old.machine walk.old.node at }
 {
-    // So many steps are kept, which is what the walk says of its own.
+    // Called for its contract: the node has the walk's number of steps.
     walk.step();
     walk.back_to(at);
     walk.node().r(0) == 0
@@ -128,7 +128,7 @@ fn before_push(window: Window) -> Window
     }
 }
 
-/// Where the entries of a window stood before a step by which the top goes.
+/// The places of a window's entries before a step that removed the top.
 fn before_pop(window: Window) -> Window
     requires some { 0 < window.left }
     requires within { window.place + window.left ≤ 9 }
@@ -150,7 +150,7 @@ fn before_pop(window: Window) -> Window
     }
 }
 
-/// Where the entries of a window stood before a step by which another word comes in the place of the top.
+/// The places of a window's entries before a step that replaced the top.
 fn before_exchange(window: Window) -> Window
     requires some { 0 < window.left }
     requires within { window.place + window.left ≤ 9 }
@@ -222,8 +222,8 @@ fn add_call(
     calls.push(OpenCall { step, at });
 }
 
-/// The calls from which a node did not come back, the newest first: those whose return addresses stand on its return stack. Takes no memory,
-/// and time by how many steps the node made since the oldest.
+/// The open calls of a node, the newest first: those whose return addresses are on its return stack. Takes no memory, and time
+/// linear in the number of steps that the node made since the oldest.
 pub fn open_calls(lab: &Lab, node: NodeId) -> ArrayVec<OpenCall, RETURN_PLACES>
     ensures { result.items ≡ open_calls lab.now node }
 {

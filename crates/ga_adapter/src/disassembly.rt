@@ -27,7 +27,7 @@ use ga_word::Word18;
 use serde_json::{Map, Value, json, push, put};
 use std::alloc::{AllocError, Global};
 
-/// Whether an address stands behind an opcode.
+/// Whether an address follows an opcode.
 fn has_address(op: Op) -> bool
     ensures { result ≡ has_address op }
 {
@@ -37,7 +37,7 @@ fn has_address(op: Op) -> bool
     }
 }
 
-/// Whether nothing is carried out behind an opcode in its word.
+/// Whether nothing is carried out after an opcode in its word.
 fn ends_word(op: Op) -> bool
     ensures { result ≡ ends_word op }
 {
@@ -47,7 +47,7 @@ fn ends_word(op: Op) -> bool
     }
 }
 
-/// The label that stands at an address.
+/// The label at an address.
 fn target_label(notes: &Notes, node: NodeId, address: u32) -> Option<&Name>
     ensures { option_map (λ name. name.now) result ≡ option_and_then (label_of_cell notes.now.names.items node) (cell_of_address address) }
 {
@@ -71,7 +71,7 @@ fn add_target(
     }
 }
 
-/// Adds the opcode of a slot, behind a blank but for that of slot 0.
+/// Adds the opcode of a slot, after a blank except for that of slot 0.
 fn add_op(text: &mut String, op: Op, slot: u8) -> Result<(), AllocError>
     ensures { OnOk result (string_bytes text.new ≡ string_bytes text.old ++ behind_blank slot (name_of op)) }
 {
@@ -81,7 +81,7 @@ fn add_op(text: &mut String, op: Op, slot: u8) -> Result<(), AllocError>
     text.push_str(op.name())
 }
 
-/// Adds the address of a slot, where its opcode has one and it has room for one. `p` is P behind the cell.
+/// Adds the address of a slot, if its opcode has one and it has room for one. `p` is P after the cell.
 fn add_address(
     alloc: Global,
     text: &mut String,
@@ -104,7 +104,7 @@ fn add_address(
     add_target(alloc, text, notes, node, target(p, word, slot))
 }
 
-/// Adds the opcodes of a word, up to one behind which nothing is carried out.
+/// Adds the opcodes of a word, up to one after which nothing is carried out.
 fn add_slots(
     alloc: Global,
     text: &mut String,
@@ -126,7 +126,7 @@ fn add_slots(
     Ok(())
 }
 
-/// Whether a cell is a literal or data, as its source says.
+/// Whether a cell is a literal or data, by its source.
 fn is_data(note: Option<&Note>) -> bool
     ensures { result ≡ is_data (option_map (λ one. one.now) note.entry) }
 {
@@ -199,7 +199,7 @@ fn put_line(
     put(members, alloc, "location", source)
 }
 
-/// Puts the label of a cell, where one stands there.
+/// Puts the label of a cell, if it has one.
 fn put_label(
     alloc: Global,
     members: &mut Map<String, Value>,
@@ -264,7 +264,7 @@ fn invalid_instruction(alloc: Global, address: &str) -> Result<Value, AllocError
     json!(in alloc; {"address": address, "instruction": "no memory", "presentationHint": "invalid"})
 }
 
-/// What is told of an address where there is no cell.
+/// The instruction of an address without a cell.
 fn no_instruction(alloc: Global, address: u32) -> Result<Value, AllocError>
     requires { address < 2 ^ 24 }
     ensures { IfOk result (λ v. view v ≡ no_instruction (memory_reference address)) }
@@ -293,7 +293,7 @@ fn address_in_node(node: NodeId, address: u32) -> u32
     chip_address(node, 0) + address
 }
 
-/// What stands at an address of a node.
+/// The instruction at an address of a node.
 fn instruction_at(
     alloc: Global,
     file: SourceFile<'_>,
@@ -334,11 +334,12 @@ fn instructions(
     Ok(list)
 }
 
-/// The body of the response to `disassemble` (Debug Adapter Protocol, "DisassembleRequest"): so many instructions of a node, each of a
-/// cell, from an address on. Behind the last of a node's 4096 addresses comes the first. Takes memory for the response.
+/// The body of the response to `disassemble` (Debug Adapter Protocol, "DisassembleRequest"): `count` instructions of a node,
+/// each of a cell, from an address on. After the last of a node's 4096 addresses comes the first. Takes memory for the
+/// response.
 ///
 /// # Errors
-/// Memory was refused.
+/// An allocation failed.
 pub fn disassembled(
     alloc: Global,
     file: SourceFile<'_>,

@@ -24,7 +24,7 @@ pub(crate) fn side_name(side: Side) -> &'static str
     }
 }
 
-/// Names a side, where the set has it, behind those that were named.
+/// Names a side, if the set has it, after those already named.
 fn add_side(text: &mut String, sides: PortSet, side: Side) -> Result<(), AllocError>
     ensures { OnOk result (string_bytes text.new ≡ behind_named sides side (string_bytes text.old)) }
 {
@@ -60,7 +60,7 @@ fn words_of_stop(stop: u8) -> &'static str
     }
 }
 
-/// What stands before the names of sides, and these.
+/// The text before the names of sides, and these.
 fn waiting(alloc: Global, before: &str, sides: PortSet) -> Result<String, AllocError>
     ensures { IfOk result (λ text. string_bytes text ≡ before.now ++ set_names sides) }
 {
@@ -83,7 +83,7 @@ pub(crate) fn doing(alloc: Global, node: &Node) -> Result<String, AllocError>
     }
 }
 
-/// The name of a node and what it does, behind a text.
+/// The name of a node and what it does, after a text.
 pub fn named_doing(
     alloc: Global,
     before: &str,

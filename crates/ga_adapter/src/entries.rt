@@ -12,7 +12,7 @@ use ga_lab::{Lab, Made};
 use ga_node::Kind;
 use ga_slots::Op;
 
-/// Where the entry stood before a step that stands at a place behind it.
+/// The place of an entry before a step, by its place after it.
 fn entry_before(shift: Shift, place: u8) -> Option<u8>
     requires { place < 9 }
     ensures value { result ≡ entry_before shift place }
@@ -44,8 +44,8 @@ fn entries_before(shift: Shift) -> [Option<u8>; 9]
     ]
 }
 
-/// Of each place of the return stack where the entry that stands there behind a step of a node stood before it, by how many steps it had made; none
-/// where the step put it there.
+/// For each place of the return stack, the place that its entry after a node's next step had before it, where the node had made
+/// `step` steps; none if the step put it there.
 #[tactic(auto, using(crate::proofs::Putting::entries_so))]
 pub fn entries_from(lab: &Lab, node: NodeId, step: u32) -> [Option<u8>; 9]
     requires { step ≤ steps_of node.number lab.now.kept }
@@ -55,8 +55,8 @@ pub fn entries_from(lab: &Lab, node: NodeId, step: u32) -> [Option<u8>; 9]
     entries_before(shift_by(lab, &mut walk, node, step))
 }
 
-/// The number of the step that put the entry that stands at a place of the return stack behind so many steps of a node; 0 where it stood there at load.
-/// Takes time by how many steps the node made since.
+/// The number of the step that put the entry at a place of the return stack after `step` steps of a node; 0 if it was there at
+/// load. Takes time linear in the number of steps that the node made since.
 pub fn put_by(lab: &Lab, node: NodeId, step: u32, behind: u8) -> u32
     requires step { step ≤ steps_of node.number lab.now.kept }
     requires place { behind < 9 }

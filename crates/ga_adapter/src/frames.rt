@@ -1,4 +1,4 @@
-//! The frames of a node: where it stands, and the calls from which it did not come back.
+//! The frames of a node: its position, and its open calls.
 
 ghost use Rattle.std.specs.Prelude.{◌≡◌, ◌<◌, ◌≤◌, ◌^◌, ◌+◌, ◌-◌, ◌++◌, ◌==◌, if◌then◌else◌, min, IfOk, OnOk, length, map, string_bytes};
 ghost use Rattle.std.specs.List.{range_with_len, slice_get};
@@ -149,7 +149,7 @@ fn frame(
     }
 }
 
-/// Where a call stands, of those in a list.
+/// The position of a call, of those in a list.
 fn call_spot(calls: &[OpenCall], place: u8) -> Option<Spot>
     ensures { result ≡ call_spot (slice_get calls.now place) }
 {
@@ -159,7 +159,7 @@ fn call_spot(calls: &[OpenCall], place: u8) -> Option<Spot>
     }
 }
 
-/// Where the frame of a level stands.
+/// The position of the frame of a level.
 fn level_spot(lab: &Lab, node: NodeId, calls: &[OpenCall], level: u8) -> Option<Spot>
     requires { calls.now ≡ open_calls lab.now node }
     ensures { result ≡ level_spot lab.now node level }
@@ -204,7 +204,7 @@ fn stack_object(alloc: Global, frames: Vec<Value>, total: u64) -> Result<Value, 
     json!(in alloc; {"stackFrames": frames, "totalFrames": total})
 }
 
-/// How many of the frames that are left are asked for.
+/// How many of the remaining frames are requested.
 fn many_asked(left: u64, count: u64) -> u64
     ensures value { result ≡ (if count == 0 then left else min count left) }
     ensures within { result ≤ left }
@@ -212,7 +212,7 @@ fn many_asked(left: u64, count: u64) -> u64
     if count == 0 { left } else { count.min(left) }
 }
 
-/// The levels of frames that are asked for: the first, and the one behind the last.
+/// The levels of the requested frames: the first, and the one after the last.
 #[tactic(auto, using(crate::proofs::Lists::places_so))]
 fn levels_asked(total: u64, start: u64, count: u64) -> (u8, u8)
     requires { total ≤ 16 }
@@ -247,12 +247,12 @@ fn stack_body(
     stack_object(alloc, list, total)
 }
 
-/// The body of the response to `stackTrace` (Debug Adapter Protocol, "StackTraceRequest") for a node: of the frames from one on so many,
-/// and all that are left where `count` is 0. Frame 0 is where the node stands; the others are the calls from which it did not come
-/// back. Takes memory for the response, and time by how many steps the node made since the oldest.
+/// The body of the response to `stackTrace` (Debug Adapter Protocol, "StackTraceRequest") for a node: `count` frames from one
+/// on, or all remaining if `count` is 0. Frame 0 is the node's position; the others are its open calls. Takes memory for the
+/// response, and time linear in the number of steps that the node made since the oldest.
 ///
 /// # Errors
-/// Memory was refused.
+/// An allocation failed.
 pub fn stack_trace(
     alloc: Global,
     file: SourceFile<'_>,

@@ -21,7 +21,7 @@ fn is_same_cell(cell: u8, found: Option<u8>) -> bool
     }
 }
 
-/// Whether a label of the node stands at the cell.
+/// Whether a label of the node is at the cell.
 fn is_name_at(name: &Name, node: NodeId, cell: u8) -> bool
     ensures { result ≡ is_name_at node cell name.now }
 {
@@ -65,7 +65,7 @@ fn label_near(notes: &Notes, node: NodeId, cell: u8) -> Option<&Name>
     notes.names.get(place)
 }
 
-/// Adds how far behind its label a cell is.
+/// Adds the distance of a cell after its label.
 fn add_behind(text: &mut String, behind: u8) -> Result<(), AllocError>
     ensures { OnOk result (string_bytes text.new ≡ string_bytes text.old ++ behind_words behind) }
 {
@@ -83,7 +83,7 @@ pub(crate) fn add_label(alloc: Global, text: &mut String, name: &Name) -> Result
     text.push_str(label.as_str())
 }
 
-/// Adds the name of a cell: its label and how far behind that it is, and else its address.
+/// Adds the name of a cell: its label and its distance after that, and else its address.
 pub(crate) fn add_cell(
     alloc: Global,
     text: &mut String,
@@ -105,7 +105,7 @@ pub(crate) fn add_cell(
     }
 }
 
-/// What the source says of a cell.
+/// The note of the source for a cell.
 pub(crate) fn note_of_cell(notes: &Notes, node: NodeId, cell: u8) -> Option<&Note>
     ensures { option_map (λ note. note.now) result ≡ note_of_cell notes.now node cell }
 {
@@ -128,7 +128,7 @@ pub(crate) fn spot_word(notes: &Notes, node: NodeId, spot: Spot) -> Option<SlotW
     notes.slot_word(node, spot.cell, usize::from(spot.slot))
 }
 
-/// The line of the source on which a slot stands.
+/// The line of a slot in the source.
 pub fn line_at(notes: &Notes, node: NodeId, spot: Spot) -> Option<u32>
     ensures { result ≡ line_at notes.now node spot }
 {
@@ -155,7 +155,7 @@ fn place_on_line(words: &[ToldWord], node: NodeId, line: u32) -> Option<usize>
     words.iter().position(|told| is_on_line(told, node, line))
 }
 
-/// Whether a slot of an instruction word of the node comes from a word, and that stands on the line.
+/// Whether a slot of an instruction word of the node comes from a word, and that is on the line.
 fn is_on_line(told: &ToldWord, node: NodeId, line: u32) -> bool
     ensures { result ≡ is_on_line node line told.now }
 {

@@ -101,7 +101,7 @@ fn plain_variable(alloc: Global, name: &str, value: &str) -> Result<Value, Alloc
     json!(in alloc; {"name": name, "value": value, "variablesReference": 0u64})
 }
 
-/// A value that stands at an address of the chip, told by its text.
+/// A value at an address of the chip, by its text.
 #[tactic(auto, unfolding(crate::specs::Variables::cell_object))]
 fn cell_variable(alloc: Global, address: u32, name: &str, value: &str) -> Result<Value, AllocError>
     requires { address < 2 ^ 24 }
@@ -159,11 +159,11 @@ fn between(
     Ok(list)
 }
 
-/// The body of the response to `variables` (Debug Adapter Protocol, "VariablesRequest"): of a node's scope, from a place on so many,
-/// and all that are left where `count` is 0. `stuck` says whether the node can never go on. Takes memory for the response.
+/// The body of the response to `variables` (Debug Adapter Protocol, "VariablesRequest"): of a node's scope, `count` variables
+/// from a place on, or all remaining if `count` is 0. `stuck` is whether the node is deadlocked. Takes memory for the response.
 ///
 /// # Errors
-/// Memory was refused.
+/// An allocation failed.
 pub fn variables(
     alloc: Global,
     lab: &Lab,

@@ -1,4 +1,4 @@
-//! The numbers by which a client names what it is shown. Each means something by itself.
+//! The numbers by which a client names what it is shown. Each number determines what it names.
 
 ghost use Rattle.std.specs.Prelude.{◌≡◌, ◌≢◌, ◌<◌, ◌≤◌, ◌^◌, ℕ, IfSome, IfNone};
 ghost use Rattle.ga_adapter.specs.declared.scope.Scope.{Scope as ScopeKind};
@@ -23,7 +23,7 @@ pub fn node_of_thread(thread: u64) -> Option<NodeId>
     NodeId::from_yxx(yxx)
 }
 
-/// A frame of a node, by how many calls stand over it.
+/// A frame of a node, by its level: the number of frames above it.
 pub fn frame_of(node: NodeId, level: u8) -> u64
     requires { level < 16 }
     ensures { result ≡ frame_of node.number level }
@@ -31,7 +31,7 @@ pub fn frame_of(node: NodeId, level: u8) -> u64
     1 + 16 * u64::from(node.number) + u64::from(level)
 }
 
-/// The node of a frame and how many calls stand over it, where there is one.
+/// The node of a frame and its level, the number of frames above it; none if the number is no frame's.
 pub fn node_of_frame(frame: u64) -> Option<(NodeId, u8)>
     ensures found { IfSome result (λ at. frame_of at.0.number at.1 ≡ frame) }
     ensures level { IfSome result (λ at. at.1 < 16) }

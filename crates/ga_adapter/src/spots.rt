@@ -1,4 +1,4 @@
-//! Where a node stands.
+//! The position of a node.
 
 ghost use Rattle.std.specs.Prelude.{◌≡◌, ◌≤◌, option_map};
 ghost use Rattle.ga_node.specs.Record.{record_of};
@@ -59,7 +59,7 @@ fn spot_at(lab: &Lab, walk: &Walk<'_>, node: NodeId) -> Option<Spot>
     }
 }
 
-/// Where a node stands that is to fetch at this address.
+/// The position of a node that is to fetch at this address.
 fn due_spot(p: u32) -> Option<Spot>
     ensures { result ≡ option_map (spot 0) (cell_of_address p) }
 {
@@ -69,7 +69,7 @@ fn due_spot(p: u32) -> Option<Spot>
     }
 }
 
-/// Where a node stood behind so many of its steps, to which it is walked back.
+/// The position of a node after `step` of its steps, to which it is walked back.
 pub fn spot_back(lab: &Lab, walk: &mut Walk<'_>, node: NodeId, step: u32) -> Option<Spot>
     requires walk { walk.old ≡ standing lab.now node walk.old.step }
     requires order { step ≤ walk.old.step }
@@ -80,8 +80,9 @@ pub fn spot_back(lab: &Lab, walk: &mut Walk<'_>, node: NodeId, step: u32) -> Opt
     spot_at(lab, walk, node)
 }
 
-/// Where a node stood behind so many of its steps: the slot that it carried out next, or that of the cell that it fetched next. None
-/// where its code stood in no memory. Takes time by how many steps the node made since, or since the fetch before.
+/// The position of a node after `step` of its steps: the slot that it carried out next, or that of the cell that it fetched
+/// next. None if its code was in no memory. Takes time linear in the number of steps that the node made since, or since the
+/// fetch before.
 pub fn spot_behind(lab: &Lab, node: NodeId, step: u32) -> Option<Spot>
     requires { step ≤ steps_of node.number lab.now.kept }
     ensures { result ≡ spot_behind lab.now node step }

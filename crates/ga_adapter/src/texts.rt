@@ -69,7 +69,7 @@ pub(crate) fn add_hex6(text: &mut String, value: u32) -> Result<(), AllocError>
     text.push_str(digit(value % 16))
 }
 
-/// A number in decimal digits, behind a text.
+/// A number in decimal digits, after a text.
 pub(crate) fn numbered(alloc: Global, before: &str, number: u32) -> Result<String, AllocError>
     ensures { IfOk result (λ text. string_bytes text ≡ before.now ++ decimal number) }
 {
@@ -100,7 +100,7 @@ fn add_negative(text: &mut String, word: u32) -> Result<(), AllocError>
     }
 }
 
-/// Adds a number in decimal digits, behind a text.
+/// Adds a number in decimal digits, after a text.
 fn add_number(text: &mut String, before: &str, number: u32) -> Result<(), AllocError>
     ensures { OnOk result (string_bytes text.new ≡ string_bytes text.old ++ before.now ++ decimal number) }
 {
@@ -117,7 +117,7 @@ pub(crate) fn address_text(alloc: Global, address: u32) -> Result<String, AllocE
     Ok(text)
 }
 
-/// The name of a cell, as it is asked for.
+/// The name of a cell, by which a client requests it.
 pub(crate) fn cell_name(alloc: Global, address: u8) -> Result<String, AllocError>
     ensures { IfOk result (λ text. string_bytes text ≡ codes "[" ++ hex2_of address ++ codes "]") }
 {
