@@ -51,7 +51,7 @@ is_calling s node (suc k) = is_call (slice_get (history_of s node.number) k)
 abbrev pub open_steps : State → NodeId → ℕ → List ℕ
 open_steps s node step = filter (is_calling s node) (map (put_by s node step) (range_with_len 0 9))
 
--- an open call, with where the node stood before its step
+-- an open call, with the node's position before its step
 abbrev pub open_call : State → NodeId → ℕ → OpenCall
 open_call s node step = record { step = step; at = spot_behind s node (step - 1) }
 

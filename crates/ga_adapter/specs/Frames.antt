@@ -36,7 +36,7 @@ bare_frame id name pointer =
     object (member (codes "column") (whole_number 0) (member (codes "id") (whole_number id) (member (codes "instructionPointerReference") (string pointer)
     (member (codes "line") (whole_number 0) (member (codes "name") (string name) no_members)))))
 
--- a frame where no memory is: the code came over a port, or stood in the node at load
+-- a frame outside of memory: the code came over a port, or was in the node at load
 unfoldable pub outside_frame : ℕ → Text → Data
 outside_frame id name =
     object (member (codes "column") (whole_number 0) (member (codes "id") (whole_number id) (member (codes "line") (whole_number 0) (member (codes "name") (string name)

@@ -23,7 +23,7 @@ pub(crate) const RETURN_PLACES: usize = 9;
 pub struct OpenCall {
     /// The number of the call's step.
     pub step: u32,
-    /// Where the node stood before the call's step; none where its code stood in no memory.
+    /// The node's position before the call's step; none if its code was in no memory.
     pub at: Option<Spot>,
 }
 
@@ -105,7 +105,7 @@ pub(crate) fn shift_by(lab: &Lab, walk: &mut Walk<'_>, node: NodeId, at: u32) ->
     }
 }
 
-/// Where the entries of a window stood before a step that put one on top, which is none of them.
+/// The places of a window's entries before a step that put one on top, which is none of them.
 fn before_push(window: Window) -> Window
     requires some { 0 < window.left }
     requires within { window.place + window.left ≤ 9 }
@@ -169,7 +169,7 @@ fn before_exchange(window: Window) -> Window
     }
 }
 
-/// Where the entries of a window stood before a step that did this to them.
+/// The places of a window's entries before a step with this effect on them.
 fn window_before(window: Window, shift: Shift) -> Window
     requires some { 0 < window.left }
     requires within { window.place + window.left ≤ 9 }

@@ -27,7 +27,7 @@ fn entry_before(shift: Shift, place: u8) -> Option<u8>
     }
 }
 
-/// Where each entry stood before a shift; none where it is new, or a copy in the last place.
+/// The place of each entry before a shift; none if it is new, or a copy in the last place.
 fn entries_before(shift: Shift) -> [Option<u8>; 9]
     ensures { result ≡ map (entry_before shift) (range_with_len 0 9) }
 {

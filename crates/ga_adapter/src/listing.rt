@@ -82,10 +82,11 @@ fn all_of(alloc: Global, node: NodeId) -> Result<Vec<Value>, AllocError>
     Ok(list)
 }
 
-/// The body of the response to `scopes` (Debug Adapter Protocol, "ScopesRequest") for a frame of a node. Takes memory for the response.
+/// The body of the response to `scopes` (Debug Adapter Protocol, "ScopesRequest") for a frame of a node. Takes memory for the
+/// response.
 ///
 /// # Errors
-/// Memory was refused.
+/// An allocation failed.
 pub fn scopes(alloc: Global, node: NodeId) -> Result<Value, AllocError>
     ensures { IfOk result (λ v. view v ≡ scopes_of node.number) }
 {

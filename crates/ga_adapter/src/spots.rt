@@ -42,8 +42,8 @@ pub fn slot_and_p(node: &Node) -> (u8, u32)
     (node.get(Place::Slot) as u8, node.get(Place::P))
 }
 
-/// Where a node stood when it had made as many steps as a walk of it has. Takes time by how many steps it made since the fetch of its
-/// instruction word.
+/// The position of a node at the step of a walk of it. Takes time linear in the number of steps that it made since the fetch of
+/// its instruction word.
 fn spot_at(lab: &Lab, walk: &Walk<'_>, node: NodeId) -> Option<Spot>
     requires { walk.now ≡ standing lab.now node walk.now.step }
     ensures { result ≡ spot_behind lab.now node walk.now.step }

@@ -88,11 +88,11 @@ fn shown(alloc: Global, lab: &Lab, programs: &[NodeId]) -> Result<Vec<Value>, Al
     Ok(list)
 }
 
-/// The body of the response to `threads` (Debug Adapter Protocol, "ThreadsRequest"). `programs` are the nodes that have a program in
-/// the source. Takes memory for the response, and time by the nodes.
+/// The body of the response to `threads` (Debug Adapter Protocol, "ThreadsRequest"). `programs` are the nodes that have a
+/// program in the source. Takes memory for the response, and time linear in the number of nodes.
 ///
 /// # Errors
-/// Memory was refused.
+/// An allocation failed.
 pub fn threads(alloc: Global, lab: &Lab, programs: &[NodeId]) -> Result<Value, AllocError>
     ensures { IfOk result (λ v. view v ≡ threads_in lab.now programs.now) }
 {

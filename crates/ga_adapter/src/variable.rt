@@ -14,7 +14,7 @@ use std::alloc::{AllocError, Global};
 pub enum Variable {
     /// What the node does.
     State,
-    /// How many steps of the node are kept.
+    /// The number of steps of the node in the history.
     Step,
     /// The register P.
     P,

@@ -62,7 +62,7 @@ others_of e a b x y h = cc
 marked-free : (marks : ℕ → Bool) (e : Cause) → meets marks e ≡ false → marked marks e ≡ marks
 marked-free marks e f = rw f refl
 
--- an event that meets marks has one of its nodes of these marked
+-- an event that sees a marked node has a marked one among these nodes of it
 abbrev ShowsAll : (Cause → List ℕ) → List Cause → Type 0
 ShowsAll nodes [] = Unit {0}
 ShowsAll nodes (e ∷ es) = ((marks : ℕ → Bool) → meets marks e ≡ true → list_any marks (nodes e) ≡ true) × ShowsAll nodes es

@@ -152,7 +152,7 @@ pub equivalent_chains : (c last now : List NodeRecord) (es fs : List Event) (ts 
 equivalent_chains c last now es fs ts us links is so h k =
     chain_again (causes ts) (causes us) links (shuffled_by c last now es fs ts us is so h) k
 
--- ---- Rollbacks of lists that differ by swaps of neighbours that are apart.
+-- ---- Rollbacks of lists that differ by swaps of adjacent independent events.
 
 any_joined : (m k : ℕ → Bool) (ns : List ℕ) → list_any k ns ≡ false → list_any (λ n. m n || k n) ns ≡ list_any m ns
 any_joined m k [] f = refl
@@ -164,7 +164,7 @@ any_joined m k (n ∷ ns) f =
     or_false true = refl
     or_false false = refl
 
--- an event is dropped, or kept, whether one that is apart from it comes before it or not
+-- an event is dropped, or kept, whether one that is independent of it comes before it or not
 is_dropped : (ℕ → Bool) → (ℕ → ℕ) → (ℕ → ℕ → Bool) → Cause → Bool
 is_dropped m c cut e = meets m e || is_cut c cut e
 

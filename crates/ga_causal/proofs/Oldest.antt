@@ -115,7 +115,7 @@ marked_of marks (n ∷ ns) t = ⊎_elim
 met_at : (marks : ℕ → Bool) (ns : List ℕ) (n : ℕ) → Among ns n → marks n ≡ true → list_any marks ns ≡ true
 met_at marks ns n t h = any-mono (λ k. k == n) marks (λ k q. subst (λ z. marks z ≡ true) (sym (eqb-true k n q)) h) ns t
 
--- an event that meets an older dependent one, below the limit, sees a node with no later place
+-- an event that sees a node of an older dependent one, below the limit, sees a node with no later place
 least_cause : (es : List Cause) (i limit none : ℕ) (first : ℕ → ℕ) (e : Cause) (q : ℕ) → IsFirsts es i limit none first → q < limit → slice_index_or (dependents es i) q false ≡ true → meets (cause_touches (event_at es q)) e ≡ true → least first none (seen_by e) ≤ q
 least_cause es i limit none first e q w l f m =
     let k = marked_of (cause_touches (event_at es q)) (seen_by e) m in
@@ -123,7 +123,7 @@ least_cause es i limit none first e q w l f m =
     let b : first k.node ≤ q = w.oldest k.node q l f k.marked in
     omega arith
 
--- the least place, where there is one, is that of a dependent event below the limit, which the event meets
+-- the least place, if there is one, is that of a dependent event below the limit, of which the event sees a node
 record IsCause (es : List Cause) (i limit : ℕ) (e : Cause) (place : ℕ) : Type 0 where
   below : place < limit
   dependent : slice_index_or (dependents es i) place false ≡ true

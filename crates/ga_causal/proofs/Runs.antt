@@ -26,7 +26,7 @@ causes steps = map (λ s. s.0) steps
 pub run_more : (c : List NodeRecord) (e : Event) (es : List Event) (d last : List NodeRecord) (t : Told) (ts : List (Cause × Told)) → apply c e ≡ Some (d, t) → run d es ≡ Some (last, ts) → run c (e ∷ es) ≡ Some (last, (cause_of c e, t) ∷ ts)
 run_more c e es d last t ts h k = rw (h, k) refl
 
--- a run of one event more, taken apart
+-- the first event of a run, and the rest
 pub record FirstOf (c : List NodeRecord) (e : Event) (es : List Event) (last : List NodeRecord) (ts : List (Cause × Told)) : Type 0 where
   pub mid : List NodeRecord
   pub told : Told
@@ -67,7 +67,7 @@ Agree-marked marks e c d b t a h =
       same = λ n free. let p : (marks n ≡ false) × (cause_touches (cause_of c e) n ≡ false) = or_parts (marks n) (cause_touches (cause_of c e) n) free in sym (k.same n p.1) ∙ a.same n p.0;
     }
 
--- what a kept event does elsewhere
+-- a kept event on another chip
 pub record Same (marks : ℕ → Bool) (e : Event) (c d b : List NodeRecord) (t : Told) : Type 0 where
   pub mid : List NodeRecord
   pub done : apply b e ≡ Some (mid, t)

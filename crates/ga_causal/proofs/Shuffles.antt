@@ -1,4 +1,4 @@
--- Lists of causes that differ by swaps of neighbours that are apart, and the numbers of their steps.
+-- Lists of causes that differ by swaps of adjacent independent ones, and the numbers of their steps.
 use Rattle.std.proofs.Common.{◌≡◌, ℕ, zero, suc, ◌+◌, Bool, false, ◌||◌, cond, List, [], ◌∷◌, map, refl, sym, ◌∙◌, ap, ap₂, ⊎_elim, ◌<◌, ◌≤◌, ◌⊎◌, true, ◌==◌, subst, inl, inr, arith, eqb-true, eq-eqb}
 use Rattle.std.proofs.lemmas.Bool.{or_parts, cases_Bool, cond-false, both_ways, cond-true, or_cases, or_left, false_from_ne_true}
 use Rattle.ga_event.specs.declared.event.Cause.{Cause}
@@ -60,7 +60,7 @@ steps_rest events i = numbered_rest cause_nodes touched_free events i (λ n. 0)
 pub seen_rest : (events : List Cause) (i : ℕ) → numbered_seen (rest events i) ≡ without (dependents events i) (numbered_seen events)
 seen_rest events i = numbered_rest seen_by (λ marks e free. free) events i (λ n. 0)
 
--- one list is made from the other by swaps of neighbours that are apart
+-- one list is made from the other by swaps of adjacent independent causes
 pub data Shuffled : List Cause → List Cause → Type 0 where
   stays : {xs : List Cause} → Shuffled xs xs
   flipped : {e f : Cause} {xs : List Cause} → AreApart e f → Shuffled (e ∷ f ∷ xs) (f ∷ e ∷ xs)
@@ -214,7 +214,7 @@ others_later k f s ys h first same x i = elim (h x (inr i)) [
       omega arith)
 ]
 
--- an event is brought to the front, past events that are apart from it
+-- an event is moved to the front, past events that are independent of it
 fronted : (k : Cause) (s : ℕ → ℕ) (ys : List Cause) → In (k, numbers s k) (entries s ys) → Others k s ys → Fronted k ys
 fronted k s [] i h = absurd i
 fronted k s (f ∷ ys) (inl q) h =
@@ -231,7 +231,7 @@ not_self : (k : Cause) (s : ℕ → ℕ) (es : List Cause) (x : Cause × List �
 not_self k s es x i q =
     not_beyond k s (subst (IsBeyond k s) (sym q) (beyond_of k s x (late_of (counted s k) x es i)))
 
--- lists with the same entries differ by swaps of neighbours that are apart
+-- lists with the same entries differ by swaps of adjacent independent causes
 pub shuffled_of : (s : ℕ → ℕ) (xs ys : List Cause) → ((x : Cause × List ℕ) → In x (entries s xs) → In x (entries s ys)) → ((x : Cause × List ℕ) → In x (entries s ys) → In x (entries s xs)) → Shuffled xs ys
 shuffled_of s [] [] to from = stays
 shuffled_of s [] (f ∷ ys) to from = absurd (from (f, numbers s f) (inl refl))

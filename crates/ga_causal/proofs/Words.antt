@@ -192,7 +192,7 @@ same_chip chip last now es fs h k alike =
     let b = ran chip now fs k in
     ext_get_or (record_of nowhere) last now (sym (same_size chip last es a.0 a.1) ∙ same_size chip now fs b.0 b.1) (λ n l. same_node chip chip last now es fs n h k refl refl (alike n))
 
--- ---- Equivalent lists have the same accounts with the words.
+-- ---- Equivalent lists have the same local histories with the words.
 
 -- a look reads the same word on chips that agree at its node and the neighbours
 
@@ -239,7 +239,7 @@ two_words c d p e f told other zs h k =
     ap (λ (q : List NodeRecord × Told). (e, word_of c e) ∷ with_words q.0 (f ∷ zs)) (after_is c d e told h)
     ∙ ap (λ (q : List NodeRecord × Told). (e, word_of c e) ∷ (f, word_of d f) ∷ with_words q.0 zs) (after_is d p f other k)
 
--- the other order of two events that are apart
+-- the other order of two independent events
 swapped_alike : (n : ℕ) (c last : List NodeRecord) (e f : Event) (zs : List Event) (ts : List (Cause × Told)) → AreApart (cause_of c e) (cause_of c f) → run c (e ∷ f ∷ zs) ≡ Some (last, ts)
     → account_read n c (e ∷ f ∷ zs) ≡ account_read n c (f ∷ e ∷ zs)
 swapped_alike n c last e f zs ts h is =

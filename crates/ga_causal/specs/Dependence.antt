@@ -54,11 +54,11 @@ pub data DependsOn (events : List Cause) (cause : ℕ) : ℕ → Type 0 where
 abbrev pub is_marked : List Bool → ℕ → Bool
 is_marked flags n = slice_index_or flags n false
 
--- the marked nodes after an event: one that meets a marked node marks all its nodes
+-- the marked nodes after an event: one that sees a marked node marks all its nodes
 abbrev pub marked : (ℕ → Bool) → Cause → ℕ → Bool
 marked marks e = if meets marks e then (λ n. marks n || cause_touches e n) else marks
 
--- of each event in turn, whether it meets a marked node
+-- of each event in turn, whether it sees a marked node
 abbrev pub dependents_after : (ℕ → Bool) → List Cause → List Bool
 dependents_after marks [] = []
 dependents_after marks (e ∷ es) = meets marks e ∷ dependents_after (marked marks e) es

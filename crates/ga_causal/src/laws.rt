@@ -48,9 +48,9 @@ pub fn marks_exact()
 {}
 
 /// No larger rest keeps the numbers of the steps: a list without the event at the place `i`, in which each event keeps the
-/// numbers of its steps, has no event that depends on it. A look keeps its own numbers also where what it saw is gone, so this
-/// holds of lists without looks, and of any list where each look also keeps the number of the next step of each node at which
-/// it looks.
+/// numbers of its steps, has no event that depends on it. A look keeps its own numbers also if what it observed is removed; the
+/// law therefore holds of lists without looks, and of any list in which each look also keeps the number of the next step of
+/// each node at which it looks.
 #[tactic(auto, using(crate::proofs::Largest::largest, crate::proofs::Largest::largest_seen))]
 pub fn largest_rest()
     ensures steps { (events : List Cause) → NoneLooks events →

@@ -34,8 +34,8 @@ impl Marks {
         Marks { nodes }
     }
 
-    /// Whether the event depends on one that was taken up before: it touches a marked node, or is a look at one. If so the nodes
-    /// that it touches are marked.
+    /// Returns whether the event depends on one that was added before: it touches a marked node, or is a look at one. If so the
+    /// nodes that it touches are marked.
     pub fn take(&mut self, event: Cause) -> bool
         ensures answer { result ≡ meets (is_marked self.old) event }
         ensures marks { is_marked self.new ≡ marked (is_marked self.old) event }

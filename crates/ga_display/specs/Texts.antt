@@ -120,7 +120,7 @@ refusal_text Empty = codes "no 5 empty\n"
 refusal_text NoStep = codes "no 6 nostep\n"
 refusal_text Spent = codes "no 7 spent\n"
 
--- what to do where no further event is kept, or no memory is left, and the line's end (docs/REFERENCE.md, "Exploring")
+-- what to do if the history is full, or no memory is left, and the line's end (docs/REFERENCE.md, "Exploring")
 abbrev pub advice_text : LabFault → Text
 advice_text Waiting = codes "\n"
 advice_text Stopped = codes "\n"

@@ -74,7 +74,7 @@ CanUnapply chip (event.Pass writer reader side) (effect.Own kind saved) = ⊥
 CanUnapply chip (event.Pass writer reader side) (effect.Look kind saved) = ⊥
 
 -- The event led from one chip to the other with this effect, which is of its kind: the records and the outcome are those of the
--- definition, the event looked exactly if the effect says so, and its undo leads to the whole old chip.
+-- definition, the event looked exactly if the effect is a look's, and its undo leads to the whole old chip.
 pub record IsApplied (old : List NodeState) (event : Event) (effect : Effect) (new : List NodeState) : Type 0 where
   pub of_kind : IsOfKind event effect
   pub done : apply (records_of old) event ≡ Some (records_of new, told_of effect)

@@ -75,7 +75,7 @@ pub fn stays_steady()
 {}
 
 /// Where each value comes from that an event leaves, in two nodes in which the same is decided: it is that of one part before,
-/// or it is the same in both where both hold the same in the parts that the table of `Flow.antt` names.
+/// or it is the same in both if both have the same values in the parts that the table of `Flow.antt` names.
 pub fn flows()
     ensures own { (seen other : Seen) (n m : NodeRecord) (part : Part) → HasSizes n → HasSizes m → DecideAlike n m → IsPart part
         → Comes (io_word seen) n (io_word other) m (own_flow n part) (part_of (io_word seen) (own seen n).1 part) (part_of (io_word other) (own other m).1 part) }

@@ -1,4 +1,4 @@
--- The chip: 144 nodes, as they are kept and as records.
+-- The chip: 144 nodes, as they are stored and as records.
 use Rattle.std.specs.Prelude.{ℕ, List, map, slice_index_or, slice_set, ◌<◌}
 use Rattle.ga_node.specs.Record.{NodeState, fresh_node, NodeRecord, record_of, IsSteady}
 use Rattle.std.specs.Borrow.{Lends, MutBor, Fml}

@@ -87,7 +87,7 @@ memory_held held field memory plain =
     (lines_held (row 48)
     (lines_held (row 56) (record { holds = refl }))))))))
 
--- what the lines of a node say of its wait, stop and slot
+-- the wait, stop and slot that the lines of a node give
 lines_hold : (p : ℕ) (node : NodeRecord) → held_after held_at_load (all_writes (lines_beside (fresh_record p) node)) ≡ record { wait = wait_code node.wait; stop = node.stop; slot = node.slot }
 lines_hold p node =
     let fresh = fresh_record p in

@@ -171,7 +171,7 @@ read_size (text ∷ lines) progress line chip sized read =
     let short = short_line progress text parts.0 in
     omega (arith, less.0)
 
--- an image is far shorter than the bound of an input
+-- an image is far shorter than the limit of an input
 pub short_image : (text : List ℕ) (chip : List NodeState) → IsImage (lines_of text) chip → length text < 16777216
 short_image text chip image =
     let begun = start_room in

@@ -32,7 +32,7 @@ pub enum ImageCause {
     /// The line has more than 200 bytes.
     #[error("the line has more than 200 bytes")]
     Long,
-    /// Memory was refused.
+    /// Out of memory.
     #[error("out of memory")]
     Memory,
     /// The wait, the stop and the slot of the block before are inconsistent.

@@ -1,4 +1,5 @@
--- Looks that saw what is to go: an own event that looked saw of each neighbour just the entries with stamps below its own.
+-- Looks that observed what is to be removed: an own event that looked observed of each neighbour exactly the entries with
+-- stamps below its own.
 use Rattle.std.specs.Prelude.{◌≡◌, ℕ, ◌<◌, ◌≤◌, true, false, List, length, Some, slice_get}
 use Rattle.ga_journal.specs.Histories.{Past, Book, history}
 use Rattle.ga_journal.specs.Events.{has_looked_in}

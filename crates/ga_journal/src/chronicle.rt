@@ -63,7 +63,7 @@ impl Chronicle {
         self.journal.walk_back(node, now, from, to);
     }
 
-    /// The kept event at a place of their list, from 0 on; none past its end. It walks back from the newest.
+    /// The event at a place of the history, from 0 on; none past the end. Walks back from the newest.
     pub fn event_at(&self, place: u32) -> Option<Event>
         requires { IsWhole self.now.journal.histories self.now.journal.made }
         ensures value { result ≡ slice_get (events_of self.now.journal) place }

@@ -1,4 +1,4 @@
-//! The nodes that wait to be taken up.
+//! The pending nodes of a rollback.
 
 use ga_grid::NodeId;
 use std::marker::Model;

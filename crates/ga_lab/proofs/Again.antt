@@ -67,7 +67,7 @@ count_reached s h = subst (λ z. length z.kept < 2 ^ 64) h.is (
     omega (arith, k, l)
     )
 
--- what is kept fits the limit and the count
+-- the history fits the limit and the count
 pub fits : (load : List NodeRecord) (limit : ℕ) (calls : List MachineCall) → (length (called_all (first load limit) calls).kept ≤ (called_all (first load limit) calls).limit)
     × (length (called_all (first load limit) calls).kept ≤ (called_all (first load limit) calls).made) × ((called_all (first load limit) calls).made < 2 ^ 64)
 fits load limit calls = let k = kept_fits load limit calls in (k.0, k.1, made_below load limit calls)

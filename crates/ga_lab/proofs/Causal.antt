@@ -77,7 +77,7 @@ none_later s (step n) calls h = h
 none_later s undo calls h = h
 none_later s (rewind n k) calls h = h.1
 
--- What is kept fits the limit and the count of made events.
+-- The history fits the limit and the count of made events.
 
 record Held (s : State) : Type 0 where
   some : IsSome (replay s.load s.kept)

@@ -1,4 +1,4 @@
--- What a place held right before a step, by what is kept of the step.
+-- The value of a place right before a step, by the step's entry.
 use Rattle.std.proofs.Common.{◌≡◌, ℕ, zero, suc, ◌≤◌, List, [], ◌∷◌, ◌++◌, length, take, drop, refl, sym, ◌∙◌, ap, subst, arith, ◌+◌, ◌<◌, ◌==◌, Bool, true, false, cond, Option, Some, None, ⊎_elim}
 use Rattle.std.proofs.lemmas.List.{take-append-drop, length-set, get_or-set_same, get_or-set_other}
 use Rattle.ga_node.specs.Record.{NodeState, NodeRecord, HasSizes, record_of}
@@ -43,7 +43,7 @@ pub walked_between : (now behind last : NodeState) (to from : ℕ) (h : List Pas
 walked_between now behind last to from h l is e =
     e ∙ ap (λ (z : NodeState). walked z (drop to (take from h))) is ∙ sym (walked-append now (drop to (take from h)) (drop from h)) ∙ ap (walked now) (sym (between to from h l))
 
--- a history has as many entries as steps of its node are kept
+-- a node's history has as many entries as the history of all events has steps of the node
 pub kept_long : (chip : List NodeState) (book : Book) (n : ℕ) → IsTied chip book → length (history book.histories n) ≡ steps_of n (state_of chip book).kept
 kept_long chip book n tied = steps_log book n (whole_of chip book tied) ∙ kept_steps chip book n
 

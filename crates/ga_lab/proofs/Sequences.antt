@@ -120,7 +120,7 @@ pub called_append : (s : State) (xs ys : List MachineCall) → called_all s (xs 
 called_append s [] ys = refl
 called_append s (call ∷ xs) ys = called_append (called s call) xs ys
 
--- calls that name what they take back, after two machines that are alike
+-- calls none of which is an undo, after two machines that are alike
 alike_calls : (s z : State) (calls : List MachineCall) → AllNamed calls → Runs s → AreEquivalentStates s z → AreEquivalentStates (called_all s calls) (called_all z calls)
 alike_calls s z [] named r a = a
 alike_calls s z (step n ∷ calls) named r a = alike_calls (stepped s n) (stepped z n) calls named (call_runs s (step n) r) ((same_step s z n a).1)

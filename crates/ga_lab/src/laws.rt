@@ -23,8 +23,8 @@ ghost use Rattle.ga_causal.specs.Steps.{links_by_events};
 
 use ga_event::laws;
 
-/// Where each node of the load has a wait that fits its slot and its stop, so has each node of the machine's chip, whatever is
-/// kept.
+/// If each node of the load has a wait that fits its slot and its stop, so has each node of the machine's chip, whatever its
+/// history is.
 #[tactic(auto, using(crate::proofs::Replays::chip_steady))]
 pub fn machine_stays_steady()
     ensures { (s : State) → AreSteady s.load → AreSteady (chip_of s) }
@@ -47,7 +47,7 @@ pub fn reached()
         (s.load ≡ load) × IsSome (replay s.load s.kept) }
 {}
 
-/// Whatever is called, no more events are kept than the limit, nor than were made, and fewer than 2^64 were made.
+/// After any calls, the history has no more events than the limit, nor than were made, and fewer than 2^64 were made.
 pub fn kept_fits()
     ensures { (load : List NodeRecord) (limit : ℕ) (calls : List MachineCall) →
         let s = called_all (first load limit) calls in
@@ -184,9 +184,9 @@ pub fn redone()
         s.made < 2 ^ 64 - 1 → stepped (undone s) (actor_of e) ≡ record s { made = s.made + 1 } }
 {}
 
-/// What a rollback took is made again by steps of the same nodes in their order, of a pass by one of its writer, where no look is
-/// among it: then the same events are kept again but for the order of independent ones, and the chip is the same. (A look made
-/// again also sees what its neighbours did after it.) The count of made events must have room for them.
+/// What a rollback removed is made again by steps of the same nodes in their order, for a pass by one of its writer, if no look
+/// is among it: then the history has the same events again except for the order of independent ones, and the chip is the same.
+/// (A look made again also observes what its neighbours did after it.) The count of made events must have room for them.
 pub fn remade()
     ensures { (s : State) (n k : ℕ) → IsReached s →
         let taken = taken_from (causes_of s) (place_of (causes_of s) n k) in

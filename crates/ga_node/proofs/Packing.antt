@@ -49,7 +49,7 @@ place_back Carry kind code l is at = kind_back kind code 29 Carry (omega (arith,
 place_back Wait kind code l is at = kind_back kind code 30 Wait (omega (arith, is, at)) refl
 place_back Stop kind code l is at = kind_back kind code 31 Stop (omega (arith, is, at)) refl
 
--- a word taken apart
+-- the parts of a word
 code_in : (code value word : ℕ) → word ≡ code * 16777216 + value → value < 262144 → word / 16777216 ≡ code
 code_in code value word is l = omega (arith, is, l)
 

@@ -55,7 +55,7 @@ impl Saved {
         if self.is_full() { 7 } else { self.words.len() }
     }
 
-    /// Whether the list has seven pairs: the free bits of the sixth word then say so.
+    /// Whether the list has seven pairs, by the free bits of the sixth word.
     #[tactic(auto, using(std::proofs::lemmas::Bool::ne_eqb, crate::proofs::Packing::some_spare, crate::proofs::Packing::no_spare, crate::proofs::Packing::count_none, crate::proofs::Packing::count_one, crate::proofs::Packing::few_pairs))]
     #[inline(always)]
     pub(crate) fn is_full(&self) -> bool
@@ -237,7 +237,7 @@ pub(crate) fn unpack(word: u32) -> (Place, u32)
     (place(word), word % 0x40000)
 }
 
-/// The six words with a seventh in their free bits, where bit 32 says that there is a seventh.
+/// The six words with a seventh in their free bits, with bit 32 set, since there is a seventh.
 #[tactic(auto, using(std::proofs::Common::append_assoc, std::proofs::lemmas::List::drop_all, crate::proofs::Packing::with_spare_past, crate::proofs::Packing::words_at))]
 #[inline(never)]
 fn spread(words: &ArrayVec<u32, 6>, word: u32) -> ArrayVec<u32, 6>

@@ -69,7 +69,7 @@ code_sent told (Same part.Wait) value h = absurd (none-some _ h)
 code_sent told (Same part.Stop) value h = absurd (none-some _ h)
 code_sent told (From parts) value h = absurd (none-some _ h)
 
--- the step itself, and what stood there before it
+-- the step itself, and the value before it
 step_named : (s : State) (node : NodeId) (step k place : ℕ) (at : Part) → place_of (causes_of s) node.number step ≡ Some place → k ≤ step
     → IsNamedFor s (value_of_step node step top) (value_of_step node k at)
 step_named s node step k place at is less =

@@ -31,7 +31,7 @@ use Rattle.ga_event.specs.declared.made.Made.{Made}
 use Rattle.ga_event.specs.declared.made.Made.TheVariants as made
 use Rattle.ga_origin.proofs.Ran.{became_so}
 
--- ---- what a node held right before a step, by what is kept of the step
+-- ---- a node's value right before a step, by the step's entry
 
 -- the old value, if the step's entry has it
 pub held_old : (s : State) (n at old : ℕ) (what : Place) → at < steps_of n s.kept

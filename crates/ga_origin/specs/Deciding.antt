@@ -77,7 +77,7 @@ abbrev pub tested_at : State → NodeId → ℕ → Made → Option Value
 tested_at s node k (made.Own other step kind) = option_map (value_of_step node k) (kind_tested s node k kind)
 tested_at s node k (made.Pass writer i reader j word) = code_at s node.number k
 
--- the word of the value that decided a step: the one that stood in its part, or that was passed
+-- the word of the value that decided a step: the one in its part, or the transferred one
 abbrev pub tested_word : State → Made → Value → ℕ
 tested_word s (made.Own other step kind) value = part_of 0 (node_after s value.node.number value.step) value.part
 tested_word s (made.Pass writer i reader j word) value = word

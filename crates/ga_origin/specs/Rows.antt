@@ -15,7 +15,7 @@ use Rattle.ga_origin.specs.Origins.{value_of_step, flow_at, origin_of}
 
 -- ---- values whose steps are causes of another's (Danos and Krivine, "Reversible Communicating Systems", 2004)
 
--- the step of the second value, which is kept, depends on that of the first
+-- the step of the second value, which is in the history, depends on that of the first
 pub record IsCause (s : State) (earlier later : Value) : Type 0 where
   pub cause : ℕ
   pub effect : ℕ

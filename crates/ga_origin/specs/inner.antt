@@ -87,7 +87,7 @@ pushed op.A = Some A  -- 1b a
 pushed op.Push = Some top  -- 1d push
 pushed _ = None
 
--- where a word stood before a pop, which copies the third word of data and the second return to the last place
+-- the part of a word before a pop, which copies the third word of data and the second return to the last place
 abbrev pub popped_to_data : ℕ → Part
 popped_to_data k = if k == 9 then Data 2 else Data (k + 1)
 
@@ -211,7 +211,8 @@ misses told before at = false
 
 -- ---- a cell that is followed back over the steps of its node
 
--- ---- what is kept at hand of a node that is followed back: a register that addresses, or a cell of RAM (F18A Technology Reference DB001, opcodes: which of them write there).
+-- ---- the tracked words of a node that is followed back: a register that addresses, or a cell of RAM (F18A Technology
+-- Reference DB001, opcodes: which of them write there).
 
 -- the place in a node of a tracked word, and the word there
 abbrev pub place_of : Kept → Place

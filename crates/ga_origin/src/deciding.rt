@@ -113,7 +113,7 @@ fn taken<'l>(lab: &'l Lab, trail: &Trail<'l>, node: NodeId, place: u32) -> Optio
     }
 }
 
-// Whether the instruction word that stood in I right before the step at a place came over a port.
+// Whether the instruction word in I right before the step at a place came over a port.
 fn came_over<'l>(lab: &'l Lab, trail: &Trail<'l>, node: NodeId, place: u32) -> bool
     requires trail { trail.now ≡ standing lab.now node trail.now.step }
     requires within { place ≤ steps_of node.number lab.now.kept }

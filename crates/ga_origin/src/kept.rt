@@ -26,7 +26,7 @@ pub(crate) enum Kept {
 }
 
 impl Kept {
-    /// The place in a node of what is kept at hand.
+    /// The place in a node of a tracked word.
     fn place(self) -> Place
         ensures { result ≡ place_of self }
     {
@@ -157,7 +157,7 @@ pub(crate) fn registers_in(lab: &Lab, node: NodeId, walk: &Walk<'_>) -> Register
     }
 }
 
-/// A and B of a node right before the step at a place, by what is kept of the step.
+/// A and B of a node right before the step at a place, by the step's entry.
 #[inline(never)]
 fn registers_kept(lab: &Lab, node: NodeId, at: u32, behind: Registers) -> Registers
     requires { AreHeld lab.now node.number (at + 1) behind }

@@ -37,7 +37,7 @@ pub(crate) fn p_at(lab: &Lab, node: NodeId, place: u32) -> Option<u32>
     None
 }
 
-// What decides an opcode at a place: P is read off what is kept of the next few steps, A and B off the trail.
+// What decides an opcode at a place: P is read from the entries of the next few steps, A and B from the trail.
 fn choice_of(lab: &Lab, trail: &mut Trail<'_>, node: NodeId, place: u32, op: Op) -> Option<Choice>
     requires trail { IsTrailTo lab.now node trail.old place }
     ensures value { IfSome result (λ known. known ≡ choice (due.Run op) (node_after lab.now node.number place)) }

@@ -64,7 +64,7 @@ pub(crate) fn sender_in(made: Option<Made>) -> Option<Value>
     }
 }
 
-// The value from which one was moved or read, by the part where it stood before.
+// The value from which one was moved or read, by its part before.
 fn source_in(node: NodeId, step: u32, told: Option<Made>, from: Part) -> Option<Value>
     ensures { option_to_list result ≡ source_values node step told (Same from) }
 {

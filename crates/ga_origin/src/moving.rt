@@ -75,7 +75,7 @@ fn pushed(op: Op) -> Option<Part>
     }
 }
 
-// Where a word of the data stack stood before a pop.
+// The place of a word of the data stack before a pop.
 #[inline(always)]
 fn popped_to_data(place: u8) -> Part
     requires { place < 10 }
@@ -124,7 +124,7 @@ fn moved_to_data(op: Op, place: u8) -> Option<Part>
     }
 }
 
-// Where a word of the return stack stood before a pop.
+// The place of a word of the return stack before a pop.
 #[inline(always)]
 fn popped_to_return(place: u8) -> Part
     requires { place < 9 }

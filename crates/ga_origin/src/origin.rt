@@ -130,9 +130,9 @@ pub(crate) fn kept_step(lab: &Lab, value: Value) -> u32
     }
 }
 
-/// The newest step up to the value's own that made it, with the part in which it stood then, or step 0 where the value was loaded.
-/// What moved the value from part to part of the node alone, as `dup` or `push`, made nothing. Takes time by how many steps the node
-/// made since.
+/// The newest step up to the value's own that made it, with the value's part then, or step 0 if the value was loaded. A step
+/// that only moved the value from part to part of the node, as `dup` or `push`, made nothing. Takes time linear in the number
+/// of steps that the node made since.
 pub fn origin_of(lab: &Lab, value: Value) -> Value
     requires { IsPart value.part }
     ensures value { result ≡ origin_of lab.now value }
@@ -220,8 +220,8 @@ pub(crate) fn origin_near<'l>(
     }
 }
 
-// Where the value comes from that the step at a place leaves in a part of its node. The node is walked back to right before the step
-// only where what is kept doesn't say it.
+// The source of the value that the step at a place leaves in a part of its node. The node is walked back to right before the
+// step only if the entries don't determine it.
 pub(crate) fn flow_by_trail(
     lab: &Lab,
     trail: &mut Trail<'_>,
@@ -300,7 +300,7 @@ fn p_of(node: &Node) -> u32
     node.get(Place::P)
 }
 
-/// P right before the step at a place. The node is walked back only where what is kept doesn't say it.
+/// P right before the step at a place. The node is walked back only if the entries don't determine it.
 fn p_by_trail(lab: &Lab, trail: &mut Trail<'_>, node: NodeId, place: u32) -> u32
     requires trail { IsTrailTo lab.now node trail.old place }
     requires within { place ≤ steps_of node.number lab.now.kept }

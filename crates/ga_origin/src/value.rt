@@ -1,9 +1,9 @@
-//! Values, each by where it stood.
+//! Values, each by its node, step and part.
 
 use ga_event::Part;
 use ga_grid::NodeId;
 
-/// What stood in a part of a node right after a step of it, or at load for step 0.
+/// The value of a part of a node right after a step of it, or at load for step 0.
 #[derive(Clone, Copy, PartialEq, Eq, Debug)]
 pub struct Value {
     /// The node.
@@ -18,7 +18,7 @@ impl Value {
     ghost use Rattle.std.specs.Prelude.{◌≡◌};
     ghost use Rattle.ga_origin.specs.Rows.{is_one};
 
-    /// Whether the two stood in one part after one step.
+    /// Whether the two are of one part after one step.
     pub fn is_same(self, other: Value) -> bool
         ensures { result ≡ is_one self other }
     {

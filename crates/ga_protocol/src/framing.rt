@@ -139,10 +139,10 @@ fn without_digit(rest: &[u8]) -> Front
     }
 }
 
-/// Adds the message with this content part. Takes memory for it twice, once to be given back.
+/// Adds the message with this content part. Takes memory for it twice, once temporarily.
 ///
 /// # Errors
-/// Memory was refused; nothing is added.
+/// An allocation failed; nothing is added.
 #[tactic(auto, unfolding(crate::specs::Framing::framed))]
 pub fn push_frame(alloc: Global, out: &mut Vec<u8>, content: &[u8]) -> Result<(), AllocError>
     ensures ok { OnOk result (out.new.items ≡ out.old.items ++ framed content.now) }

@@ -3,7 +3,7 @@
 ghost use Rattle.std.specs.Prelude.{◌≡◌, ◌≤◌, ◌++◌, ℕ, List, length};
 ghost use Rattle.ga_protocol.specs.Framing.{content_limit, framed, IsMessage, BeginsOne, BeginsNone};
 
-/// What is written for a content part within the bound is its message.
+/// What is written for a content part within the limit is its message.
 pub fn written()
     ensures { (content : List ℕ) → length content ≤ content_limit → IsMessage content (framed content) }
 {}

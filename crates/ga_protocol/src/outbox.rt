@@ -93,7 +93,7 @@ impl Outbox {
     /// Adds the response to a request that was carried out.
     ///
     /// # Errors
-    /// Memory was refused; nothing is added.
+    /// An allocation failed; nothing is added.
     pub fn respond(&mut self, request: &ClientRequest, body: Value) -> Result<(), AllocError>
         ensures sent { OnOk result (IsSent self.old (next_seq self.old.seq)
             (response (next_seq self.old.seq) request.now.seq (string_bytes request.now.command) (view body)) self.new) }
@@ -104,10 +104,10 @@ impl Outbox {
         self.push(seq, message)
     }
 
-    /// Adds the response without a body to a request that was carried out and has nothing to tell.
+    /// Adds the response without a body to a request that was carried out.
     ///
     /// # Errors
-    /// Memory was refused; nothing is added.
+    /// An allocation failed; nothing is added.
     pub fn acknowledge(&mut self, request: &ClientRequest) -> Result<(), AllocError>
         ensures sent { OnOk result (IsSent self.old (next_seq self.old.seq)
             (bare_response (next_seq self.old.seq) request.now.seq (string_bytes request.now.command)) self.new) }
@@ -121,7 +121,7 @@ impl Outbox {
     /// Adds the response to a request that was refused, and why.
     ///
     /// # Errors
-    /// Memory was refused; nothing is added.
+    /// An allocation failed; nothing is added.
     pub fn refuse(&mut self, request: &ClientRequest, why: &str) -> Result<(), AllocError>
         ensures sent { OnOk result (IsSent self.old (next_seq self.old.seq)
             (error_response (next_seq self.old.seq) request.now.seq (string_bytes request.now.command) why.now) self.new) }
@@ -135,7 +135,7 @@ impl Outbox {
     /// Adds an event.
     ///
     /// # Errors
-    /// Memory was refused; nothing is added.
+    /// An allocation failed; nothing is added.
     pub fn tell(&mut self, event: &str, body: Value) -> Result<(), AllocError>
         ensures sent { OnOk result (IsSent self.old (next_seq self.old.seq)
             (event_with (next_seq self.old.seq) event.now (view body)) self.new) }
@@ -149,7 +149,7 @@ impl Outbox {
     /// Adds an event without a body.
     ///
     /// # Errors
-    /// Memory was refused; nothing is added.
+    /// An allocation failed; nothing is added.
     pub fn tell_alone(&mut self, event: &str) -> Result<(), AllocError>
         ensures sent { OnOk result (IsSent self.old (next_seq self.old.seq)
             (bare_event (next_seq self.old.seq) event.now) self.new) }

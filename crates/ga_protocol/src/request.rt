@@ -24,7 +24,7 @@ pub struct ClientRequest {
 /// Why a content part is no request.
 #[derive(Clone, Copy, PartialEq, Eq, Debug, Error)]
 pub enum RequestError {
-    /// Memory was refused.
+    /// Out of memory.
     #[error("out of memory")]
     Memory,
     /// The content part is no JSON, or nests deeper than 127.

@@ -126,7 +126,7 @@ has_step s last near glance led g = (let one = go glance.early in record { first
     go true = record { first = (let q : glance.step ≡ touching glance.node.number (take near.look es) + 1 = g.step in omega (arith, q)); within = within glance.node.number glance.step near.look g.look look_touched g.step }
     go false = record { first = (let q : glance.change ≡ touching glance.neighbour.number (take near.change es) + 1 = g.change in omega (arith, q)); within = within glance.neighbour.number glance.change near.change g.change_at change_touched g.change }
 
--- the look comes next where as many steps of its node are left as stood before it
+-- the look comes next if as many steps of its node are left as came before it
 pub looks_again : (s : State) (last : List NodeRecord) (near : Near) (glance : Glance) (b k : ℕ) → replay s.load s.kept ≡ Some last → IsGlance s near glance
     → steps_of glance.node.number (rewound s b k).kept + 1 ≡ glance.step → looks_next (chip_of (rewound s b k)) glance.node.number ≡ true
 looks_again s last near glance b k led g one =

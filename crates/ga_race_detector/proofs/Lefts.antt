@@ -116,7 +116,7 @@ known_next causes glances known at one around l m here right before i glance oth
 
 -- ---- one pass over the events
 
--- of the node and of its neighbours the lists are as far as the events have gone
+-- the lists of the node and of its neighbours, for the events so far
 pub record AreGoing (all : List Cause) (b n : ℕ) (known : ℕ → ℕ) (made : ℕ) (sweep : Sweep) (es : List Cause) : Type 0 where
   pub node : sweep.here.node.number ≡ n
   pub nodes : (side : Side) (m : ℕ) → neighbour_of n side ≡ Some m → (sweep_over sweep side).node.number ≡ m

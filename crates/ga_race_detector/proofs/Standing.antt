@@ -27,7 +27,7 @@ pub no_step : (b : Bool) (x y : ℕ) → b ≡ false → x ≡ y → cond {A = �
 no_step true x y f e = absurd (cc)
 no_step false x y f e = omega (arith, e)
 
--- what is kept of a list that meets no mark leaves a marked node as it was
+-- the kept events of a list, none of which sees a marked node, leave a marked node as it was
 pub record Ran (b : List NodeRecord) (es : List Event) (m : ℕ) : Type 0 where
   pub now : List NodeRecord
   pub led : replay b es ≡ Some now
@@ -64,7 +64,7 @@ marked_ran (e ∷ es) marks c b last ts m a mark is =
           none = steps-cons m e (events_in (kept marks (causes f.others))) ∙ no_step (touches e m) (steps_of m (events_in (kept marks (causes f.others)))) 0 apart r.none;
         }
 
--- the node after the kept events is as a prefix of the whole list leaves it
+-- the node after the kept events `ks` is as a prefix of the whole list `es` leaves it
 record Stand (c b : List NodeRecord) (es ks : List Event) (m : ℕ) : Type 0 where
   now : List NodeRecord
   led : replay b ks ≡ Some now

@@ -1,6 +1,7 @@
--- Steps that could have come out otherwise: a node took a word, and another neighbour could have given it one in its place. Which it
--- was hung on the order in which nodes happened to run (after Netzer and Miller, "Optimal tracing and replay for debugging
--- message-passing parallel programs", 1992, who speak of messages). Without looks these are all races of what is kept: laws `every_order` and `no_other_order`.
+-- Races: a node took a word, and another neighbour could have given it one in its place. Which it was depended on the order in
+-- which nodes happened to run (after Netzer and Miller, "Optimal tracing and replay for debugging message-passing parallel
+-- programs", 1992, who speak of messages). Without looks these are all races of the history: laws `every_order` and
+-- `no_other_order`.
 use Rattle.ga_event.specs.declared.event.Event.TheVariants as event
 use Rattle.ga_event.specs.declared.made.Made.TheVariants as made
 use Rattle.std.specs.Prelude.{ℕ, ◌&&◌, if◌then◌else◌, List, Option, Some, None, ◌≡◌, ◌≢◌, zero, suc, ◌+◌, ◌==◌, Bool, false, ◌||◌, [], ◌∷◌, ◌++◌, is_none, Ok}
@@ -98,7 +99,7 @@ unfoldable pub has_next_look : List NodeRecord → ℕ → Bool
 has_next_look chip zero = false
 has_next_look chip (suc n) = looks_next chip n || has_next_look chip n
 
--- an event that is kept looks, or one that comes next
+-- an event of the history looks, or one that comes next
 abbrev pub has_looks : List Cause → List NodeRecord → Bool
 has_looks causes chip = has_look causes || has_next_look chip 144
 

@@ -45,7 +45,7 @@ pub struct Races {
     pub list: Vec<Race>,
     /// The looks that could have read another word, in the order of the later of the look and the change.
     pub readings: Vec<Reading>,
-    /// Whether a kept event looks, or one that comes next: then there may be other races than those listed.
+    /// Whether an event of the history looks, or one that comes next: then there may be other races than those listed.
     pub looks: bool,
     /// Whether no node of the chip has an event.
     pub quiet: bool,

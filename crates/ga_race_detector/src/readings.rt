@@ -196,7 +196,7 @@ fn none_known(alloc: Global, many: usize) -> Result<Vec<Option<Around>>, LabFaul
     Ok(known)
 }
 
-// Notes how many steps around a look would be left, where it hangs together with the one of which these lists are.
+// Stores how many steps around a look would be left, if these lists, of another look, are of the same nodes.
 fn note(known: &mut Vec<Option<Around>>, lists: &LeftAround, of: &Glance, other: &Glance, at: usize)
     requires within { at < length known.old.items }
     requires first { 0 < (taken_of other.now).1 }
@@ -212,8 +212,8 @@ fn note(known: &mut Vec<Option<Around>>, lists: &LeftAround, of: &Glance, other:
     }
 }
 
-// How many steps around a look would be left. Where that isn't known yet, it becomes known for all from its place on that hang together
-// with it, by passes over the events for all of these.
+// How many steps around a look would be left. If that isn't known yet, it becomes known for each look from its place on with
+// the same two nodes, by passes over the events for all of these.
 fn around_of(
     alloc: Global,
     causes: &[Cause],

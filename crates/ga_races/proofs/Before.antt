@@ -18,7 +18,7 @@ use Rattle.ga_races.proofs.Exact.{replay_into}
 use Rattle.ga_races.proofs.Bound.{Apart, action_still, free_of}
 use Rattle.ga_races.proofs.Moves.{Moves, flip, lifted, moves_same, moves_behind, moves_chained, moves_swapped, moves_of, before_moved, tally, IsTallied, tallied_of, step_of, tallied_moved, tallied_one}
 
--- ---- one pass over the list: whether an action is bound to one of those that are reached
+-- ---- one pass over the list: whether an action depends directly on one of those that are reached
 
 abbrev pub meets_some : List Action → Action → Bool
 meets_some held a = list_any (λ b. are_bound b a) held
@@ -116,7 +116,7 @@ reached_before (a ∷ xs) all place (suc i) (suc j) f t =
     subst₂ (HappensBefore all) (let e : suc place + i ≡ place + suc i = omega arith in e) (let e : suc place + j ≡ place + suc j = omega arith in e)
     (reached_before xs all (suc place) i j (from_next all place a xs f) t)
 
--- ---- an event that is bound to none of the first ones comes first
+-- ---- an event that depends directly on none of the first ones comes first
 
 pub actions_into : (fs ys : List Event) (c d : List NodeRecord) → replay c fs ≡ Some d → actions c (fs ++ ys) ≡ actions c fs ++ actions d ys
 actions_into [] ys c d h = ap (λ z. actions z ys) (same_Some c d h)

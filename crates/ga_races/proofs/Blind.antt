@@ -53,14 +53,14 @@ pub look_still : (c : List NodeRecord) (e f : Event) → CanBe c f → ((n : ℕ
 look_still c (Own a) f can apart = ap (λ (z : NodeRecord). looks z) (sym ((stays c f can).same a.number (apart a.number (touches_own a))))
 look_still c (Pass w r side) f can apart = refl
 
--- and so is the word that comes to one that doesn't
+-- and so is the word of one that doesn't
 pub word_still : (c : List NodeRecord) (e f : Event) → CanBe c f → ((n : ℕ) → touches e n ≡ true → touches f n ≡ false) → is_look c e ≡ false → word_of (after c f).0 e ≡ word_of c e
 word_still c (Own a) f can apart blind =
     ap (λ (b : Bool). cond {A = Option ℕ} b (Some (io_word (seen_from (after c f).0 a.number))) None) (look_still c (Own a) f can apart ∙ blind)
     ∙ sym (ap (λ (b : Bool). cond {A = Option ℕ} b (Some (io_word (seen_from c a.number))) None) blind)
 word_still c (Pass w r side) f can apart blind = ap (λ (z : NodeRecord). Some (t z)) (sym ((stays c f can).same w.number (apart w.number (touches_writer w r side))))
 
--- there free events are apart, and an order is made by their swaps
+-- there independent events see none of each other's nodes, and an order is made by their swaps
 sees_none : (c : List NodeRecord) (e : Event) (n : ℕ) → is_look c e ≡ false → sees (cause_of c e) n ≡ true → touches e n ≡ true
 sees_none c e n blind h = subst (λ (z : List ℕ). list_any (λ m. m == n) z ≡ true) (seen_blind (cause_of c e) blind) h
 
@@ -145,7 +145,7 @@ touches_reader_too p q a =
     subst (λ (z : ℕ). touches q z ≡ true) (sym (ap reader_of a.one))
     (subst (λ (z : Event). touches z a.reader.number ≡ true) (sym a.two) (touches_reader a.second a.reader a.other))
 
--- an event that meets no mark touches no marked node
+-- an event that sees no marked node touches none
 pub no_touch : (marks : ℕ → Bool) (e : Cause) (n : ℕ) → meets marks e ≡ false → marks n ≡ true → touches e.event n ≡ false
 no_touch marks e n free m = false_from_ne_true (touches e.event n) (λ u. both_ways (list_any marks (nodes_of e.event)) (touched_free marks e free) (any_at marks (nodes_of e.event) n u m))
 

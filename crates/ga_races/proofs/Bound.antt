@@ -85,7 +85,7 @@ action_still c e f cane canf apart word =
     (fun_ext (λ n. ap not (changes_alike (touches e) (touches f) apart c (after c f).0 (after c e).0 (after (after c e).0 f).0
     (stays c f canf) (stays (after c e).0 f then) (stays c e cane) (agree_behind c e f cane canf apart word) n)))
 
--- ---- free is not bound
+-- ---- independent events are not dependent as actions
 
 -- a look reads the same word exactly where nothing is changed of what is shown to it
 unshown_of : (look : Bool) (x y : ℕ) → ◌≡◌ {A = Option ℕ} (cond look (Some x) None) (cond look (Some y) None) → (look && (not (x == y) || false)) ≡ false
@@ -142,7 +142,7 @@ free_of c e f cane then none =
     word_same c e f (action_of c e) canf apart refl refl (subst (λ (a : Action). is_shown (action_of c e) a ≡ false) (action_still c e f cane canf apart second) q.0) in
     (canf, record { apart = apart; first = first; second = second })
 
--- actions that are not bound touch no common node
+-- actions that are not dependent touch no common node
 pub unbound_apart : (a b : Action) → are_bound a b ≡ false → (n : ℕ) → touches a.cause.event n ≡ true → touches b.cause.event n ≡ false
 unbound_apart a b none = apart_of a.cause.event b.cause.event ((or_parts (list_any (touches a.cause.event) (nodes_of b.cause.event)) (is_shown a b || is_shown b a) none).0)
 

@@ -1,4 +1,4 @@
--- Where all that can be made is a beginning of a list in another order, the list has no race.
+-- If each list that can be made is a prefix of a list in another order, the list has no race.
 use Rattle.ga_causal.specs.Equivalence as equivalence
 use Rattle.std.proofs.Common.{◌≡◌, ℕ, Bool, true, false, cond, inl, inr, List, [], ◌∷◌, ◌++◌, Option, Some, None, IsSome, refl, sym, ◌∙◌, ap, subst}
 use Rattle.std.specs.List.{list_any}

@@ -28,7 +28,7 @@ pub data IsTold (c : List NodeRecord) (es : List Event) : Type 0 where
   near : {i j : ℕ} → IsNear c es i j → IsTold c es
   rivalled : {i : ℕ} {other : Event} → IsRivalled c es i other → IsTold c es
 
--- ---- the last event of a list to which a next one is bound
+-- ---- the last event of a list on which a next one depends directly
 
 record IsLast (c d : List NodeRecord) (es : List Event) (e : Event) : Type 0 where
   at : ℕ

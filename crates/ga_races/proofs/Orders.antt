@@ -210,7 +210,7 @@ no_more c es fs n (others, a) =
 pub within_steps : (c : List NodeRecord) (es fs : List Event) → ((n : ℕ) → steps_of n fs ≤ steps_of n es) → Within c es fs
 within_steps c es fs w n = omega (arith, w n, steps_read n c es, steps_read n c fs)
 
--- ---- as the laws say it
+-- ---- as the laws state it
 
 pub beginning_within : (c : List NodeRecord) (es fs : List Event) → IsSome (replay c es) → HasNoRace c es → IsSome (replay c fs) → ((n : ℕ) → steps_of n fs ≤ steps_of n es) → Completed c es fs
 beginning_within c es fs h calm k w =

@@ -184,7 +184,8 @@ mark_next xs first place has marks new met before a sound complete e = record { 
       | inr k ↦ (let q : m ≡ place = omega (arith, l, k) in here n (subst (IsOnward xs first) q r) (ap (λ (z : ℕ). has (action_at xs z) n) (sym q) ∙ h))
     ]
 
--- what happens after the first action before the later one, and isn't bound to that, lets nothing happen between them
+-- if what happens after the first action and before the later one isn't dependent with the later one, nothing happens between
+-- them
 pub none_between : (xs : List Action) (first later : ℕ) → ((m : ℕ) → m < later → HappensBefore xs first m → are_bound (action_at xs m) (action_at xs later) ≡ false)
     → (m : ℕ) → HappensBefore xs first m → HappensBefore xs m later → (false ≡ true)
 none_between xs first later none m h (directly d) = sym (none m d.before h) ∙ d.bound

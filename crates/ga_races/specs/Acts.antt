@@ -1,4 +1,4 @@
--- Actions as they are kept to be read: of each event whether it looks, and on which sides of the nodes that it touches what it shows
+-- Actions as they are stored: of each event whether it looks, and on which sides of the nodes that it touches what it shows
 -- there changes.
 use Rattle.std.specs.Prelude.{◌≡◌, ℕ, ◌<◌, Bool, true, ◌≢◌, false, ◌||◌, List, Some, None, ◌⊎◌, ◌==◌, ◌&&◌, map}
 use Rattle.ga_ports.specs.declared.side.Side.{Side}

@@ -1,8 +1,8 @@
--- Which event of a list comes before which in each order of it: happens-before (Lamport, "Time, clocks, and the ordering of events in
--- a distributed system", 1978), as the order of a trace (Mazurkiewicz, "Trace theory", 1987): two events of a list that are not free
--- of one another keep their order, and so do those that a chain of such joins. Netzer and Miller ("Optimal tracing and replay for
--- debugging message-passing parallel programs", 1992) decide by it what races. That a look keeps its place among the changes of what
--- is shown to it is this project's own, as looks are.
+-- Which event of a list comes before which in each order of it: happens-before (Lamport, "Time, clocks, and the ordering of
+-- events in a distributed system", 1978), as the order of a trace (Mazurkiewicz, "Trace theory", 1987): two dependent events of
+-- a list keep their order, and so do those that a chain of such joins. Netzer and Miller ("Optimal tracing and replay for
+-- debugging message-passing parallel programs", 1992) decide by it what races. That a look keeps its place among the changes of
+-- what is shown to it is this project's own, as looks are.
 use Rattle.std.specs.Prelude.{◌≡◌, ℕ, Bool, true, ◌||◌, ◌⊎◌, Some, zero, suc, ◌+◌, ◌<◌, ◌≤◌, ◌==◌, max, ◌↔◌, false, not, ◌&&◌, if◌then◌else◌, List, [], ◌∷◌, length, map, take, slice_index_or}
 use Rattle.ga_ports.specs.declared.side.Side.{Side}
 use Rattle.ga_ports.specs.declared.side.Side.TheVariants.{Right, Down, Left, Up}
@@ -19,7 +19,9 @@ use Rattle.ga_causal.specs.Dependence.{cause_nodes, cause_touches, no_cause}
 use Rattle.ga_causal.specs.Steps.{touching, IsStep}
 use Rattle.ga_races.specs.Orders.{AreRivals}
 
--- ---- nodes at which an event can change what the next event is: those that it touches and their neighbours (F18A Technology Reference DB001, ports; G144A12 Chip Reference DB002, links). A node's next event hangs on its own wait and stop and on the waits of its neighbours.
+-- ---- nodes at which an event can change what the next event is: those that it touches and their neighbours (F18A Technology
+-- Reference DB001, ports; G144A12 Chip Reference DB002, links). A node's next event depends on its own wait and stop and on the
+-- waits of its neighbours.
 
 -- whether the node of this number is marked or has a marked neighbour
 abbrev pub IsMarkedOrBeside : (ℕ → Bool) → ℕ → Type 0
@@ -68,7 +70,7 @@ abbrev pub are_bound : Action → Action → Bool
 are_bound first second =
     list_any (cause_touches first.cause) (cause_nodes second.cause) || (is_shown first second || is_shown second first)
 
--- the action at the place `later` is bound to the one at the place `earlier`
+-- whether the action at the place `later` depends directly on the one at the place `earlier`
 pub record IsBound (actions : List Action) (earlier later : ℕ) : Type 0 where
   pub before : earlier < later
   pub within : later < length actions
@@ -98,7 +100,7 @@ chip_at chip (event ∷ events) (suc place) = chip_at (after chip event).0 event
 abbrev pub made_at : List NodeRecord → List Event → ℕ → Event
 made_at chip events place = (action_at (actions chip events) place).cause.event
 
--- Two actions that are bound and touch no common node, and between which nothing happens.
+-- Two dependent actions that touch no common node, and between which nothing happens.
 pub record AreNear (actions : List Action) (first later : ℕ) : Type 0 where
   pub bound : IsBound actions first later
   pub apart : (n : ℕ) → touches (action_at actions first).cause.event n ≡ true → touches (action_at actions later).cause.event n ≡ false

@@ -147,7 +147,7 @@ abbrev pub is_shown_to : (ℕ → Bool) → Event → Sides → Sides → Bool
 is_shown_to marks (Own m) first second = shows_marked marks first m.number
 is_shown_to marks (Pass w r side) first second = shows_marked marks first w.number || shows_marked marks second r.number
 
--- an action is bound to one of some that touch these nodes, change what is shown to those, and look in these
+-- whether an action is dependent with one of some that touch these nodes, change what is shown to those, and look in these
 abbrev pub is_met : (ℕ → Bool) → (ℕ → Bool) → (ℕ → Bool) → EventAccess → Bool
 is_met touched shown looked act =
     list_any touched (cause_nodes act.cause)
@@ -162,8 +162,8 @@ pub record AreMarked (actions : List Action) (first place : ℕ) (has : Action �
   pub some : (n : ℕ) → marks n ≡ true → (m : ℕ) × (m < place) × IsOnward actions first m × (has (action_at actions m) n ≡ true)
   pub all : (m n : ℕ) → m < place → IsOnward actions first m → has (action_at actions m) n ≡ true → marks n ≡ true
 
--- the three sets have the nodes that the reached actions before a place touch, change what is shown to, and look in;
--- of these actions none but the first can be bound to the one at the place `later`
+-- the three sets have the nodes that the reached actions before a place touch, change what is shown to, and look in; of these
+-- actions only the first can be dependent with the one at the place `later`
 pub record AreReached (actions : List Action) (first later place : ℕ) (one two three : ℕ → Bool) : Type 0 where
   pub touched : AreMarked actions first place has_touched one
   pub shown : AreMarked actions first place has_shown two

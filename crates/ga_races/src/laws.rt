@@ -48,8 +48,8 @@ pub fn exact()
         HasNoRace chip events }
 {}
 
-/// Where a list has no race and ends where no event can be made, each order of steps is a beginning of it, and each that can't be gone
-/// on with is the list in another order: it ends on the same chip. No node makes more steps in any.
+/// If a list has no race and ends without an enabled event, each order of steps is a prefix of it, and each that can't be
+/// continued is the list in another order: it ends on the same chip. No node makes more steps in any.
 pub fn one_end()
     ensures beginning { (chip last : List NodeRecord) (events others : List Event) → replay chip events ≡ Some last → HasNoRace chip events →
         IsAtEnd last → IsSome (replay chip others) →
@@ -88,8 +88,8 @@ pub fn one_writer()
         HasOneWriter chip events → HasNoRace chip events }
 {}
 
-/// Lists that differ by swaps of neighbours that are apart are orders of one another: where neither sees what the other touches, both
-/// have the same words. The first list must be one that can be made. Orders have the same chip.
+/// Lists that differ by swaps of adjacent independent events are orders of one another: if neither sees what the other touches,
+/// both have the same words. The first list must be one that can be made. Orders have the same chip.
 #[tactic(auto, using(crate::proofs::Exact::order_of, crate::proofs::Orders::order_replay, crate::proofs::Orders::order_read))]
 pub fn orders()
     ensures swaps { (chip : List NodeRecord) (events others : List Event) → AreEquivalent chip events others → IsSome (replay chip events) →
@@ -156,10 +156,10 @@ pub fn nearest()
         ↔ (((first later : ℕ) → ¬ IsNear chip events first later) × ((place : ℕ) (other : Event) → ¬ IsContended chip events place other))) }
 {}
 
-/// Of two actions that touch a common node the earlier happens before the later. A clock can be made of those of earlier places, in one
-/// pass over a list: of some to which the place is bound, so that each to which it is bound is among them or happens before one of
-/// them. So it is enough to take the last action of each node that is touched; for a look also the last change by each neighbour;
-/// and for a change also the last look of each node to which it shows.
+/// Of two actions that touch a common node the earlier happens before the later. A clock can be made of those of earlier
+/// places, in one pass over a list: of some on which the place depends directly, if each on which it depends directly is among
+/// them or happens before one of them. It is therefore enough to take the last action of each node that is touched; for a look
+/// also the last change by each neighbour; and for a change also the last look of each node to which it shows.
 pub fn clocks()
     ensures node { (actions : List Action) (first later n : ℕ) → first < later → later < length actions →
         touches (action_at actions first).cause.event n ≡ true → touches (action_at actions later).cause.event n ≡ true →

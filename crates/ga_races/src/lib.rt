@@ -1,4 +1,4 @@
-//! What of a list of events hangs on the order in which nodes happened to run, and which nodes can never go on.
+//! What of a list of events depends on the order in which nodes happened to run, and which nodes are deadlocked.
 #![tactic(auto)]
 
 mod act;

@@ -37,7 +37,7 @@ fn act_at(acts: &[EventAccess], place: usize) -> EventAccess
     acts[place]
 }
 
-// Whether two actions of a list touch no common node, are bound, and nothing happens between them.
+// Whether two actions of a list touch no common node, are dependent, and nothing happens between them.
 fn is_near(acts: &[EventAccess], first: usize, later: usize) -> bool
     requires order { first < later }
     requires within { later < length acts.now }
@@ -51,7 +51,7 @@ fn is_near(acts: &[EventAccess], first: usize, later: usize) -> bool
     !is_between(acts, first, later)
 }
 
-// Whether two actions of a list, in any order, touch no common node, are bound, and nothing happens between them.
+// Whether two actions of a list, in any order, touch no common node, are dependent, and nothing happens between them.
 fn are_near(acts: &[EventAccess], one: usize, other: usize) -> bool
     requires one { one < length acts.now }
     requires other { other < length acts.now }

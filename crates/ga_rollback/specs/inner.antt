@@ -27,7 +27,7 @@ CanGoBack chip hs =
     (n : ℕ) (front end : List Past) (e : Past) → history hs n ≡ front ++ e ∷ end
     → CanRestore (walked (node_at chip n) end) e.saved
 
--- some of the entries that are to go are gone, and the nodes restored by them; each of them was a tick
+-- some of the entries that are to be removed are removed, and the nodes restored by them; each of them was a tick
 pub record IsRestoring (chip : List NodeState) (first : Book) (now : List NodeState) (book : Book) : Type 0 where
   pub nodes : length now ≡ length chip
   pub size : length book.histories ≡ length first.histories

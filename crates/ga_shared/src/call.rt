@@ -1,4 +1,4 @@
-//! Calls, their answers, and what is kept of them.
+//! Calls, their answers, and the receipts and log entries of them.
 
 use ga_grid::NodeId;
 use ga_lab::Made;

@@ -1,4 +1,4 @@
--- The stacks of the F18A Technology Reference (DB001): as they are kept, in registers, eight cells in a ring and a pointer,
+-- The stacks of the F18A Technology Reference (DB001): as they are stored, in registers, eight cells in a ring and a pointer,
 -- and as lists of words, the top first: ten words of data, nine of returns.
 use Rattle.std.specs.Prelude.{ℕ, List, [], ◌∷◌, ◌++◌, take, drop, slice_index, length, replicate}
 

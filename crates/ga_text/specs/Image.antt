@@ -33,7 +33,7 @@ pub record TakesText (old : Unread) (left : Bytes) (text : Text) (new : Unread) 
   pub splits : old.bytes ++ left ≡ text ++ more
   pub counts : new.taken ≡ old.taken + length text
 
--- the byte past the bound was read
+-- the byte past the limit was read
 pub record TakesPast (old : Unread) (left : Bytes) (text : Text) (new : Unread) (rest : Bytes) : Type 0 where
   pub byte : ℕ
   pub takes : TakesText old left text new (byte ∷ rest)

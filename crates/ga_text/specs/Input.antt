@@ -18,7 +18,7 @@ input_limit = 16777216
 abbrev pub block_size : ℕ
 block_size = 65536
 
--- no byte past the bound was read
+-- no byte past the limit was read
 abbrev pub IsWithin : Unread → Type 0
 IsWithin u = u.taken + length u.bytes ≤ input_limit
 
@@ -43,7 +43,7 @@ pub record TakesAll (old : Unread) (input : Bytes) (line : Line) (new : Unread) 
   pub counts : new.taken ≡ old.taken + length part
   pub none_left : new.bytes ≡ []
 
--- the byte past the bound was read
+-- the byte past the limit was read
 pub record TakesOne (old : Unread) (input : Bytes) (line : Line) (new : Unread) (rest : Bytes) : Type 0 where
   pub byte : ℕ
   pub takes : TakesAll old input line new (byte ∷ rest)

@@ -5,7 +5,7 @@ use Rattle.std.specs.Prelude.{ℕ, ◌≡◌, Bool, false, List, [], ◌∷◌, 
 abbrev pub Bytes : Type 0
 Bytes = List ℕ
 
--- bytes that are read as lines, or that say something
+-- bytes that are read as lines, or written as output
 abbrev pub Text : Type 0
 Text = Bytes
 

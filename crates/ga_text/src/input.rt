@@ -1,4 +1,4 @@
-//! The input, block by block, up to its bound.
+//! The input, block by block, up to its limit.
 ghost use Rattle.std.specs.Prelude.{◌≡◌, ◌+◌, ◌≤◌, ◌<◌, ◌++◌, ◌∷◌, true, [], length, take, drop, slice_index, Some, IfSome, IfNone, IfOk, OnErr};
 ghost use Rattle.ga_text.specs.Lines.{Bytes, HasNoFeed};
 ghost use Rattle.ga_text.specs.Input.{Unread, IsWithin, block_size};
@@ -61,7 +61,7 @@ impl Input {
         }
     }
 
-    /// Reads more, by one read, where all that was read is taken. At the bound it looks only whether the input ends there.
+    /// Reads more, by one read, if all that was read is taken. At the limit it checks only whether the input ends there.
     pub(crate) fn fill<R: Read>(&mut self, reader: &mut R) -> Fill
         requires { self.old.bytes ≡ [] }
         ensures fills { (input : Bytes) → R.remaining reader.old ≡ Some input →

@@ -1,5 +1,5 @@
-//! Text as bytes: its lines and words, digits decimal and hexadecimal, the names of nodes; input that is read up to its bound, output
-//! that is gathered before it is written, and lines that are put together.
+//! Text as bytes: its lines and words, digits decimal and hexadecimal, the names of nodes; input that is read up to its limit,
+//! output that is buffered before it is written, and lines that are put together.
 #![tactic(auto)]
 
 mod image;

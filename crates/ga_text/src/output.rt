@@ -12,7 +12,7 @@ use thiserror::Error;
 #[error("a write failed")]
 pub struct WriteFailed;
 
-/// What comes of saying something.
+/// The result of writing to the output.
 pub type Spoken = Result<(), WriteFailed>;
 
 /// The bytes of a long text that are buffered at once.

@@ -17,7 +17,7 @@ pub enum WholeRead {
     TooLong(Vec<u8>),
     /// A read failed.
     ReadFailed,
-    /// Memory was refused.
+    /// Out of memory.
     NoMemory,
 }
 

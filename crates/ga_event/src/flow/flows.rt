@@ -281,9 +281,9 @@ fn before_due(due: Due, choice: Choice, part: Part) -> Sought
     }
 }
 
-/// Where the value of a part comes from after the node's next event of its own, where it makes one (DB001, opcodes): from which
-/// parts of the node before. In two nodes in which the same is decided, as the opcode, its test and what its address names,
-/// and which hold the same in these parts, the event leaves the same value ([`crate::laws::flows`]).
+/// Where the value of a part comes from after the node's next event of its own, if it makes one (DB001, opcodes): from which
+/// parts of the node before. In two nodes in which the same is decided, as the opcode, its test and what its address names, and
+/// which have the same values in these parts, the event leaves the same value ([`crate::laws::flows`]).
 pub fn own_flow(node: &Node, part: Part) -> Flow
     requires { IsPart part }
     ensures value { flow_of result ≡ own_flow (record_of node.now) part }

@@ -37,7 +37,7 @@ abbrev pub CanGoBack : List Past → List NodeState → ℕ → Type 0
 CanGoBack history chip n =
     (front : List Past) (e : Past) → history ≡ front ++ e ∷ [] → CanRestore (node_at chip n) e.saved
 
--- the values of the last entry were written back to node n, and the entry is gone
+-- the values of the last entry were written back to node n, and the entry is removed
 pub record IsGoneBack
     (old : List Past) (chip : List NodeState) (n : ℕ) (new : List Past) (now : List NodeState) (act : Act)
     : Type 0 where

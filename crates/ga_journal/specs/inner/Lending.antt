@@ -1,4 +1,4 @@
--- Histories that lend one of theirs.
+-- A mutable reference to the history of one node.
 use Rattle.std.specs.Prelude.{ℕ, List}
 use Rattle.std.specs.Borrow.{Lends, MutBor, Fml}
 use Rattle.ga_journal.specs.inner.Histories.{Held, with_held}

@@ -55,7 +55,7 @@ passes_in (Own kind) = 0
 passes_in (Look kind) = 0
 passes_in (Passed role) = 1
 
--- the last pass is gone, where the part is an end of one
+-- the last pass is removed, if the part is an end of one
 abbrev pub IsDropped : Part → List Pass → List Pass → Type 0
 IsDropped (Own kind) old new = new ≡ old
 IsDropped (Look kind) old new = new ≡ old
@@ -77,7 +77,7 @@ abbrev pub AreNumbered : ℕ → List Entry → ℕ → Type 0
 AreNumbered n [] m = n ≡ m
 AreNumbered n (e ∷ es) m = Names e.part e.place n × AreNumbered (n + passes_in e.part) es m
 
--- one past the newest look before an entry, as it is kept with it: in the entry itself, or with its pass
+-- one past the newest look before an entry, as it is stored with it: in the entry itself, or with its pass
 abbrev pub looked_in : List Pass → Part → ℕ → ℕ
 looked_in passes (Own kind) place = place
 looked_in passes (Look kind) place = place

@@ -76,8 +76,8 @@ fn scan<B: Bounds>(histories: &B, top: u64) -> NodeId
     best
 }
 
-/// A node that had a part in the newest event, where there is one. Where the hint's last stamp is just below the top, no other
-/// node is looked at.
+/// A node that had a part in the newest event, if there is one. If the hint's last stamp is directly below the top, no other
+/// node is read.
 #[tactic(auto, using(crate::proofs::Heads::bound_le))]
 #[inline(always)]
 pub(crate) fn newest<B: Bounds>(histories: &B, top: u64, hint: NodeId) -> NodeId

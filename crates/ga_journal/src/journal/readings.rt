@@ -75,7 +75,7 @@ impl Journal {
         }
     }
 
-    /// The kept event at a place of their list, from 0 on; none past its end. It walks back from the newest.
+    /// The event at a place of the history, from 0 on; none past the end. Walks back from the newest.
     pub(crate) fn event_at(&self, place: u32) -> Option<Event>
         requires { IsWhole self.now.histories self.now.made }
         ensures value { result ≡ slice_get (events_of self.now) place }

@@ -12,7 +12,7 @@ impl Lab {
     ghost use Rattle.ga_event.specs.Told.{steps_of};
     ghost use Rattle.ga_lab.specs.Machine.{history_of, rewind_answer, rewound, stands};
 
-    /// How many steps of a node are kept.
+    /// The number of steps of a node in the history.
     pub fn steps(&self, node: NodeId) -> u32
         ensures steps { result ≡ steps_of node.number self.now.kept }
         ensures told { result ≡ length (history_of self.now node.number) }

@@ -52,7 +52,7 @@ impl<'l> Walk<'l> {
         &self.node
     }
 
-    /// A copy of the walk, to be walked back apart from it. Takes no memory.
+    /// A copy of the walk, which is walked back independently. Takes no memory.
     pub fn copy(&self) -> Walk<'l>
         ensures { result ≡ self.now }
     {

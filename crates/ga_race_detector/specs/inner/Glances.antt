@@ -96,7 +96,7 @@ lists_over lists Down = lists.down.items
 lists_over lists Left = lists.left.items
 lists_over lists Up = lists.up.items
 
--- what is known of a side, as far as the events have gone
+-- what is known of a side, for the events so far
 abbrev pub sweep_over : Sweep → Side → LeftOf
 sweep_over sweep Right = sweep.right
 sweep_over sweep Down = sweep.down

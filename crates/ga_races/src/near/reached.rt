@@ -115,7 +115,7 @@ impl Reached {
         mark_look(&mut self.looked, act);
     }
 
-    // Whether an action is bound to one of the actions that were added. If so it is added too.
+    // Returns whether an action is dependent with one of the actions that were added. If so it is added too.
     fn take(&mut self, act: &EventAccess) -> bool
         ensures answer { result ≡ is_met (is_marked self.old.touched) (is_marked self.old.shown) (is_marked self.old.looked) act.now }
         ensures touched { (n : ℕ) → is_marked self.new.touched n ≡ (is_marked self.old.touched n || (result && has_touched (action_in act.now) n)) }
@@ -129,7 +129,7 @@ impl Reached {
         true
     }
 
-    // Whether an action is bound to one of the actions that were added.
+    // Whether an action is dependent with one of the actions that were added.
     fn meets(&self, act: &EventAccess) -> bool
         ensures { result ≡ is_met (is_marked self.now.touched) (is_marked self.now.shown) (is_marked self.now.looked) act.now }
     {

@@ -4,7 +4,7 @@ use Rattle.ga_journal.specs.Logs.{Stamped, Records}
 use Rattle.ga_journal.proofs.Down.{IsDown}
 use Rattle.ga_journal.proofs.histories.Histories.walk_down.Given as goal
 
--- the causes so far are those of the events walked, and the step stood before the last of them
+-- the causes so far are those of the events walked, and the step was within the list before the last of them
 abbrev pub invariant-loop-lengths : goal.invariant-loop-lengths
 invariant-loop-lengths l =
     ((log : List Stamped) → l.kept ≡ length log → Records log (lists_of l.self) l.fn.top →
