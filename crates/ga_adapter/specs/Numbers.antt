@@ -1,5 +1,5 @@
 -- The numbers by which a client names what it is shown (Debug Adapter Protocol, "Thread.id", "StackFrame.id",
--- "Scope.variablesReference", "DisassembledInstruction.address"). Each number determines what it names, so none goes stale:
+-- "Scope.variablesReference", "DisassembledInstruction.address"). Each number determines what it names, so none becomes stale:
 -- there is no table of handles.
 use Rattle.std.specs.Prelude.{ℕ, ◌+◌, ◌*◌, ◌/◌, ◌%◌}
 use Rattle.ga_grid.specs.Grid.{yxx_of}

@@ -165,7 +165,8 @@ three_bytes n below =
     let f : n % 256 / 16 ^ 0 % 16 ≡ n / 16 ^ 0 % 16 = omega arith in
     rw (a, b, c, d, e, f) refl
 
--- whether the name at n in the table of names is this, with a space after it; in `names` the first n names
+-- whether the row and the tens of the name at n in the table of names are right; in `ones_are` its ones, with a space after
+-- them; in `names` all of the first n names
 abbrev row_is : ℕ → Bool
 row_is n = get_or NAMES (4 * n) 0 == 48 + n / 18 && get_or NAMES (4 * n + 1) 0 == 48 + n % 18 / 10
 
