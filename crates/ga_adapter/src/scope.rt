@@ -9,7 +9,7 @@ pub enum Scope {
     Data,
     /// The return stack.
     Returns,
-    /// The neighbours, and whether the node can never go on.
+    /// The neighbours, and whether the node is deadlocked.
     Links,
     /// The cells of RAM.
     Ram,

@@ -38,7 +38,7 @@ pub enum Variable {
     Cell(u8),
     /// The neighbour on a side.
     Neighbour(Side),
-    /// Whether the node can never go on.
+    /// Whether the node is deadlocked.
     Stuck,
 }
 

@@ -234,7 +234,7 @@ pub all_shuffled : (steps : List (ℕ × ℕ)) (xs ys : List Cause) → Shuffled
 all_shuffled [] xs ys h = h
 all_shuffled (step ∷ steps) xs ys h = all_shuffled steps (rewound_list xs step.0 step.1) (rewound_list ys step.0 step.1) (rewound_shuffled xs ys step.0 step.1 h)
 
--- and what is left runs
+-- and the rest runs
 rest_made : (c : List NodeRecord) (xs : List Cause) (o : Option ℕ) → Made c xs → Made c (rest_from xs o)
 rest_made c xs None m = m
 rest_made c xs (Some i) m =

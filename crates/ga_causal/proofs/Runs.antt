@@ -58,7 +58,7 @@ first_of_run c e es last ts = at_first (apply c e) refl
 pub keeps_of : (c : List NodeRecord) (e : Event) (d : List NodeRecord) (t : Told) → apply c e ≡ Some (d, t) → Agree (cause_touches (cause_of c e)) c d
 keeps_of c e d t h = subst (λ o. IfSome o (λ done. Agree (cause_touches (cause_of c e)) c done.0)) h (apply_keeps c e)
 
--- the marks go on
+-- the marks after an event
 pub Agree-marked : (marks : ℕ → Bool) (e : Event) (c d b : List NodeRecord) (t : Told) → Agree marks c b → apply c e ≡ Some (d, t) → Agree (λ n. marks n || cause_touches (cause_of c e) n) d b
 Agree-marked marks e c d b t a h =
     let k : Agree (cause_touches (cause_of c e)) c d = keeps_of c e d t h in

@@ -1,4 +1,4 @@
--- What a rollback takes can be brought to the end, where no look is among it.
+-- The events that a rollback removes can be moved to the end, if no look is among them.
 use Rattle.std.proofs.Common.{◌≡◌, ℕ, ◌+◌, ◌↔◌, false, List, [], ◌∷◌, ◌++◌, map, Some, refl, sym, ◌∙◌, ap, subst, inl, inr, append-nil, IsPermutation, zero, suc, ◌==◌, Bool, true, not, cond, eqb-true}
 use Rattle.std.proofs.lemmas.List.Sorted.{IsPermutation-map, IsPermutation-sym}
 use Rattle.ga_event.specs.declared.event.Event.{Event}

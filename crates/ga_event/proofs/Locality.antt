@@ -116,7 +116,7 @@ touch_alike marks c d (Pass w r side) a free =
 pub refusal_alike : (marks : ℕ → Bool) (c d : List NodeRecord) (event : Event) → Agree marks c d → meets marks (cause_of c event) ≡ false → refusal_of c event ≡ refusal_of d event
 refusal_alike marks c d event a free = touch_alike marks c d event a (touched_free marks (cause_of c event) free)
 
--- what it does where it can be
+-- its effect if it is enabled
 abbrev DoneAlike : (ℕ → Bool) → List NodeRecord × Told → List NodeRecord × Told → Type 0
 DoneAlike marks here there = Agree marks here.0 there.0 × (here.1 ≡ there.1)
 

@@ -1,4 +1,4 @@
--- The event that a node has next can be made.
+-- The event that a node has next is enabled.
 use Rattle.std.proofs.Common.{◌≡◌, ℕ, ◌<◌, ◌==◌, true, ◌&&◌, List, [], ◌∷◌, refl, sym, ◌∙◌, ap, subst, arith, ⊎_elim, eq-eqb, ◌+◌, length, get_or, drop, drop-cons, add-one, suc}
 use Rattle.std.specs.Prelude.{Option, Some, None, Result, Ok, Err, option_map}
 use Rattle.std.proofs.lemmas.Bool.{cases_Bool, cond-true, cond-false, and_from}

@@ -198,7 +198,7 @@ sources_all c d events n part long long' left right alike same =
     let start : Holds c d themselves c d = record { nodes = λ n part same. same.0; left = left; right = right; long = long; long_too = long' } in
     (events_hold c d themselves c d events alike start).nodes n part same
 
--- where the events can be, the chip after them is that of replaying them
+-- if the events can be made, the chip after them is that of replaying them
 pub chip_after_replay : (c d : List NodeRecord) (events : List Event) → replay c events ≡ Some d → chip_after c events ≡ d
 chip_after_replay c d events e = mapped (run c events) (λ done is. ran c events done is) e
   where

@@ -88,7 +88,7 @@ after_pass chip writer reader from to = (slice_set (slice_set chip writer (sent 
 abbrev pub IsRefusedBy : {T : Type 0} → Result T NotReady → Option NotReady → Type 0
 IsRefusedBy answer why = MatchResult answer (λ done. why ≡ None) (λ reason. why ≡ Some reason)
 
--- what the event does where it can be
+-- the result of the event if it is enabled
 abbrev pub after : List NodeRecord → Event → List NodeRecord × Told
 after chip (Own node) = after_own chip node.number (own (seen_from chip node.number) (record_at chip node.number))
 after chip (Pass writer reader side) =

@@ -61,7 +61,7 @@ next_by chip node stop (Fetch sides) = or_waiting (first_pass chip node sides)
 next_by chip node stop (Read sides) = or_waiting (first_pass chip node sides)
 next_by chip node stop (Write side) = or_waiting (pass_to chip node side (beside node side))
 
--- The event that a step of the node makes: its own where it runs; where it waits to write, the pass over its side; where it
--- waits to read, the first pass that can be. Else the node waits or is stopped.
+-- The event that a step of the node makes: its own if it runs; the pass over its side if it waits to write; the first enabled
+-- pass if it waits to read. Else the node waits or is stopped.
 abbrev pub next : List NodeRecord → NodeId → Result Event NotReady
 next chip node = next_by chip node (record_at chip node.number).stop (record_at chip node.number).wait

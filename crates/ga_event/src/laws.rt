@@ -25,7 +25,7 @@ pub fn changes_touched_alone()
         IfSome (apply chip event) (λ done. Agree (touches event) chip done.0) }
 {}
 
-/// The event that a step of a node makes can be made.
+/// The event that a step of a node makes is enabled.
 #[tactic(auto, using(crate::proofs::Nexts::next_can))]
 pub fn next_can_be_made()
     ensures { (chip : List NodeRecord) (node : NodeId) (event : Event) → next chip node ≡ Ok event → refusal_of chip event ≡ None }

@@ -320,7 +320,7 @@ pub found_by : (result : Result (List NodeState) ImageFault) (texts : List (List
 found_by (Ok chip) texts gives = image_found texts chip gives
 found_by (Err fault) texts gives = tt
 
--- an image is accepted, unless memory is refused
+-- an image is accepted, unless an allocation fails
 pub only_by : (result : Result (List NodeState) ImageFault) (texts : List (List ℕ)) (chip : List NodeState) → Gives result (reading start 1 texts) → IsImage texts chip → Gives result (Ok chip)
 only_by (Ok other) texts chip gives image = sym (image_read texts chip image) ∙ gives
 only_by (Err fault) texts chip (inl memory) image = inl memory

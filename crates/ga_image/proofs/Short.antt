@@ -105,7 +105,7 @@ short_spelled text (Node yxx) is = let same = ap length is.1 in omega arith
 short_spelled text (Words field ws) is = short_field text field ws is
 short_spelled text End is = let same = ap length is in omega arith
 
--- a field line has as many words as its field asks for
+-- a field line has the number of words of its field
 pub count_spelled : (text : List ℕ) (field : Field) (ws : List ℕ) → SpellsField text field ws → HasCount field (length ws)
 count_spelled text A ws is = is.count
 count_spelled text B ws is = is.count

@@ -124,7 +124,7 @@ line_fault _ progress text = later_fault progress (form_in progress.format text)
 unfoldable pub fault_of : Progress → Line → Option ImageCause
 fault_of progress text = if nat_lt longest (length text) then Some cause.Long else line_fault progress.stage progress text
 
--- the node whose block the next line may go on with, or else 0
+-- the node whose block the next line may continue, or else 0
 abbrev pub node_of_stage : Stage → ℕ
 node_of_stage (Block node) = node
 node_of_stage _ = 0

@@ -22,10 +22,10 @@ pub fn parse(alloc: Global, text: &[u8]) -> Result<Chip, ImageFault>
     // What is accepted is an image of that chip.
     ensures found { IfOk result (λ chip. IsImage (lines_of text.now) chip) }
 
-    // Each image is accepted with its chip, unless memory is refused.
+    // Each image is accepted with its chip, unless an allocation fails.
     ensures only { (chip : List NodeState) → IsImage (lines_of text.now) chip → Gives result (Ok chip) }
 
-    // What is refused is refused with the first fault of its lines, unless memory is refused.
+    // A text that is no image is refused with the first fault of its lines, unless an allocation fails.
     ensures refused { IfErr result (λ fault. (fault ≡ no_memory) ⊎ IsFirstFault (lines_of text.now) fault) }
 {
     match Chip::new(alloc) {

@@ -118,7 +118,7 @@ first_runs load limit calls = calls_run (first load limit) calls (record { last 
 pub reached : (load : List NodeRecord) (limit : ℕ) (calls : List MachineCall) → ((called_all (first load limit) calls).load ≡ load) × IsSome (replay (called_all (first load limit) calls).load (called_all (first load limit) calls).kept)
 reached load limit calls = (calls_load (first load limit) calls, runs_some _ (first_runs load limit calls))
 
--- After a rollback the history of each node is the first part of what it was.
+-- After a rollback the history of each node is a prefix of the one before.
 pub history_kept : (s : State) (n k m : ℕ) → IsSome (replay s.load s.kept) → (later : List Made) × (history_of s m ≡ history_of (rewound s n k) m ++ later)
 history_kept s n k m some =
     let r = runs_of s some in

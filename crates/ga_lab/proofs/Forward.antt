@@ -27,7 +27,7 @@ use Rattle.ga_lab.specs.declared.fault.LabFault.TheVariants.{Full, Spent}
 use Rattle.ga_lab.specs.Machine.{State, first, chip_of, told_next, answer_to, with_event, unless_refused, stepped, undone, actor_of, stepped_all}
 use Rattle.ga_causal.proofs.Runs.{run_more}
 
--- An event that can be made is the next of its node, a pass that of its writer.
+-- An enabled event is the next of its node, a pass that of its writer.
 
 same_side : (a b : Side) → is_side a b ≡ true → a ≡ b
 same_side Right Right h = refl

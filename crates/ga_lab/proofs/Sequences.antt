@@ -191,7 +191,7 @@ can_of c e d t h = go (refusal_of c e) h
     go None k = refl
     go (Some why) k = absurd (cc)
 
--- the second of two independent events can be made after the first
+-- the second of two independent events is enabled after the first
 can_after : (c : List NodeRecord) (e f : Event) → refusal_of c e ≡ None → refusal_of c f ≡ None → AreApart (cause_of c e) (cause_of c f) → refusal_of (after c e).0 f ≡ None
 can_after c e f ce cf h =
     let made : apply c e ≡ Some ((after c e).0, (after c e).1) = ap (λ o. unless o (after c e)) ce in

@@ -29,7 +29,7 @@ undos (suc most) = undo ∷ undos most
 abbrev pub CanCountAll : State → List MachineCall → Type 0
 CanCountAll s calls = s.made + length calls < 2 ^ 64
 
--- the event can be made
+-- whether the event is enabled
 abbrev pub CanBeMade : State → Event → Type 0
 CanBeMade s event = refusal_of (chip_of s) event ≡ None
 

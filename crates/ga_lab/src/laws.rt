@@ -54,7 +54,7 @@ pub fn kept_fits()
         (length s.kept ≤ s.limit) × (length s.kept ≤ s.made) × (s.made < 2 ^ 64) }
 {}
 
-/// After a rollback the history of each node is the first part of what it was.
+/// After a rollback the history of each node is a prefix of the one before.
 #[tactic(auto, using(crate::proofs::Called::history_kept, crate::proofs::Again::some_reached))]
 pub fn history_kept()
     ensures { (s : State) (n k m : ℕ) → IsReached s →

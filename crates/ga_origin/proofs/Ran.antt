@@ -44,7 +44,7 @@ use Rattle.ga_origin.specs.inner.{IsDueBy}
 abbrev Ended : Type 0
 Ended = List NodeRecord × List (Cause × Told)
 
--- the first of some events can be made, and then the others
+-- the first of some events is enabled, and then the others
 record Begins (chip : List NodeRecord) (e : Event) (es : List Event) (done : Ended) : Type 0 where
   rest : Ended
   can : refusal_of chip e ≡ None

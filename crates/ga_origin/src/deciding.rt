@@ -79,7 +79,8 @@ fn code_by_trail(lab: &Lab, trail: &mut Trail<'_>, node: NodeId, place: u32) -> 
     }
 }
 
-// Whether the step at a place brought an instruction word, and that over a port; none where it left the word that was there.
+// Whether the step at a place brought an instruction word over a port: false if it brought another; none if it left the word
+// that was there.
 #[inline(always)]
 fn brought<'l>(lab: &'l Lab, trail: &Trail<'l>, node: NodeId, place: u32) -> Option<bool>
     requires trail { trail.now ≡ standing lab.now node trail.now.step }

@@ -1,4 +1,4 @@
-//! A node that is followed back over its steps, with the registers that address at hand.
+//! A node that is followed back over its steps, with its tracked registers that address.
 
 ghost use Rattle.std.specs.Prelude.{◌≡◌, ◌≤◌, ◌+◌, true, IfSome};
 ghost use Rattle.ga_event.specs.Flow.{IsPart};

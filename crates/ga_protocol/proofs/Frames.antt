@@ -49,7 +49,7 @@ front_is xs ys le h =
 parts : (f d r g b c m s : List ℕ) → ((f ++ d) ++ r) ++ m ≡ (((f ++ g) ++ b) ++ c) ++ s → d ++ (r ++ m) ≡ g ++ (b ++ (c ++ s))
 parts f d r g b c m s e = append_cancel_left f (d ++ (r ++ m)) (g ++ (b ++ (c ++ s))) (simp append_assoc at e)
 
--- where digits were read, those of a message go on with them
+-- if digits were read, those of a message continue with them
 continued : (digits rest content text more after gs : List ℕ) → All IsDigit digits → All IsDigit gs → text ≡ header_part gs ++ content →
     (field ++ digits ++ rest) ++ more ≡ text ++ after →
     (es : List ℕ) × (gs ≡ digits ++ es) × (rest ++ more ≡ es ++ (header_end ++ (content ++ after)))

@@ -234,8 +234,8 @@ one_more r m k known next made e es own most is = elim (cases_lt k made) [ inl l
 abbrev pub left_by : List Cause → ℕ → ℕ → ℕ → ℕ
 left_by all r m k = touching m (rewound_list all r (suc k))
 
--- The list has the steps of node r on which the newest event of node m depends; of the others it is known what is left but for the
--- events that come.
+-- The list has the steps of node r on which the newest event of node m depends; of the others it is known what remains, except
+-- for the events that come.
 pub record IsGoing (all : List Cause) (r m : ℕ) (known : ℕ → ℕ) (made count : ℕ) (left : List ℕ) (es : List Cause) : Type 0 where
   pub own : known r ≡ made
   pub most : (n : ℕ) → known n ≤ made

@@ -64,7 +64,7 @@ same_end load limit bound calls others calm end stop =
 pub no_next : (chip : List NodeRecord) → IsAtEnd chip ↔ ((n : NodeId) (event : Event) → next chip n ≡ Ok event → ⊥)
 no_next chip = (λ end n event h. end event (next_can chip n event h), λ none event can. none (actor_of event) event (made_is_next chip event can))
 
--- a pass that can be made is offered
+-- an enabled pass is offered
 pub is_offered : (c : List NodeRecord) (w r : NodeId) (side : Side) → CanBe c (Pass w r side) → IsSome (offered c r.number side)
 is_offered c w r side can =
     let o : Open c w r side = open_of c w r side can in

@@ -238,8 +238,7 @@ race_shows c last es ts is none step other r a = let w = shows c last es ts is n
 
 -- ---- where all ends, or nothing that comes next looks
 
--- what can be made and is never made in another way looks at nothing, where the list has no look
--- none of the events that can be made looks
+-- an event that is enabled and is never made in another way looks at nothing; if the list has no look, no enabled event looks
 abbrev pub IsBlind : List NodeRecord → Type 0
 IsBlind c = (e : Event) → CanBe c e → is_look c e ≡ false
 

@@ -146,7 +146,7 @@ free_of c e f cane then none =
 pub unbound_apart : (a b : Action) → are_bound a b ≡ false → (n : ℕ) → touches a.cause.event n ≡ true → touches b.cause.event n ≡ false
 unbound_apart a b none = apart_of a.cause.event b.cause.event ((or_parts (list_any (touches a.cause.event) (nodes_of b.cause.event)) (is_shown a b || is_shown b a) none).0)
 
--- which is all that neighbours in a list can be
+-- which are all cases of neighbours in a list
 pub free_exact : (c : List NodeRecord) (e f : Event) → CanBe c e → CanBe (after c e).0 f → (are_bound (action_of c e) (action_of (after c e).0 f) ≡ false) ↔ (CanBe c f × AreFree c e f)
 free_exact c e f cane then = (
   λ none. free_of c e f cane then none,

@@ -40,7 +40,7 @@ read_touched n c e es t = ap (λ (b : Bool). cond b ((e, word_of c e) ∷ accoun
 pub read_past : (n : ℕ) (c : List NodeRecord) (e : Event) (es : List Event) → touches e n ≡ false → account_read n c (e ∷ es) ≡ account_read n (after c e).0 es
 read_past n c e es t = ap (λ (b : Bool). cond b ((e, word_of c e) ∷ account_read n (after c e).0 es) (account_read n (after c e).0 es)) t
 
--- lists that begin alike go on alike
+-- lists that begin alike continue alike
 abbrev pub Entry : Type 0
 Entry = Event × Option ℕ
 
@@ -57,7 +57,7 @@ unfolding first_entry others_of
 next_same [] a b ys zs h = same_Some a b (ap first_entry h)
 next_same (x ∷ xs) a b ys zs h = next_same xs a b ys zs (ap others_of h)
 
--- of two ways to go on, both of which lead to the one list in another order, the node's next entry is the same
+-- of two continuations, both of which lead to the one list in another order, the node's next entry is the same
 next_entry : (n : ℕ) (c now : List NodeRecord) (es before ys zs : List Event) (a b : Entry) (us vs : List Entry) → replay c before ≡ Some now
     → AreOrders c es (before ++ ys) → AreOrders c es (before ++ zs) → account_read n now ys ≡ a ∷ us → account_read n now zs ≡ b ∷ vs → a ≡ b
 next_entry n c now es before ys zs a b us vs led h k p q =

@@ -1,4 +1,4 @@
--- Taking out the nodes that may go on yet.
+-- Removing the nodes that may still continue.
 use Rattle.std.proofs.Common.{◌≡◌, ◌≢◌, ℕ, zero, suc, ◌<◌, Bool, true, false, ◌&&◌, ◌||◌, List, [], ◌∷◌, length, get_or, set, get_or-set_same, get_or-set_other, Some, None, true≢false, refl, sym, ◌∙◌, ap, subst, arith, ⊎_elim}
 use Rattle.std.specs.Prelude.{Option, not, is_some}
 use Rattle.std.proofs.lemmas.Bool.{cases_eq, cases_lt, or_left}

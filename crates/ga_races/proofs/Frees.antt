@@ -53,7 +53,7 @@ touches_writer w r s = grind (arith, eq-eqb)
 pub touches_reader : (w r : NodeId) (s : Side) → touches (Pass w r s) r.number ≡ true
 touches_reader w r s = grind (arith, eq-eqb)
 
--- an event can be made still where another was made that touches none of its nodes
+-- an event is still enabled after another that touches none of its nodes
 pub can_still : (c : List NodeRecord) (e f : Event) → ((n : ℕ) → touches e n ≡ true → touches f n ≡ false) → CanBe c f → CanBe c e → CanBe (after c f).0 e
 can_still c (Own a) f apart canf can =
     ap (λ (z : NodeRecord). refusal z) (sym ((stays c f canf).same a.number (apart a.number (touches_own a)))) ∙ can

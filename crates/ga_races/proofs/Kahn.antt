@@ -105,7 +105,7 @@ cut_at (f ∷ es) c n xs ys e word h = go (touches f n) refl h (λ zs k. cut_at 
           read = ap (λ (b : Bool). cond b ((f, word_of c f) ∷ account_read n (after c f).0 a.first) (account_read n (after c f).0 a.first)) t ∙ a.read;
         }
 
--- the beginning of a list that can be made can be made
+-- a prefix of a list that can be made can be made
 pub begins : (fs ys : List Event) (c last : List NodeRecord) → replay c (fs ++ ys) ≡ Some last → (now : List NodeRecord) × (replay c fs ≡ Some now)
 begins [] ys c last h = (c, refl)
 begins (e ∷ fs) ys c last h =

@@ -130,7 +130,7 @@ near_of c d fs e post l h apart =
           both_ways (are_bound (action_at (actions c fs) m.0) (action_of d e)) (l.last m.0 (omega (arith, k, g)) m.2.before) (ap₂ are_bound (sym (before m.0 m.2.before)) (sym there) ∙ m.2.bound);
     }
 
--- ---- the first event of a list that touches a node of an event that can be made
+-- ---- the first event of a list that touches a node of an enabled event
 
 record IsMet (c : List NodeRecord) (es : List Event) (e : Event) : Type 0 where
   mid : List Event

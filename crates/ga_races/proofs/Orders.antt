@@ -1,4 +1,4 @@
--- A list without a race: what else can be made is a beginning of it, in another order.
+-- A list without a race: each other list that can be made is a prefix of it, in another order.
 use Rattle.std.proofs.Common.{◌≡◌, ℕ, ◌≤◌, ◌+◌, Bool, true, false, cond, ◌⊎◌, inl, inr, List, [], ◌∷◌, ◌++◌, length, Option, Some, None, IsSome, true≢false, refl, sym, ◌∙◌, ap, subst, arith, append-nil, length-append}
 use Rattle.std.proofs.lemmas.Bool.{cases_eq, both_ways, false_from_ne_true}
 use Rattle.std.proofs.lemmas.List.Sums.{sum_by-cons}
@@ -63,7 +63,7 @@ no_race-tail c e es can calm step other r = calm step other (record {
   bound = r.bound;
 })
 
--- ---- an event that can be made comes first in another order, or none of the list touches its nodes and it can be made at the end
+-- ---- an enabled event comes first in another order, or none of the list touches its nodes and it is enabled at the end
 
 pub record IsFirst (c : List NodeRecord) (es : List Event) (e : Event) : Type 0 where
   pub others : List Event
@@ -104,7 +104,7 @@ brought (f ∷ es) c last e is calm can =
     apart free canf (inl b) = inl (record { others = f ∷ b.others; order = joined (later canf b.order) (swapped canf can free) })
     apart free canf (inr s) = inr (record { can = s.can; none = λ n t. untouched c f es n (backwards free n t) (s.none n t) })
 
--- ---- what else can be made
+-- ---- the other lists that can be made
 
 abbrev pub Completed : List NodeRecord → List Event → List Event → Type 0
 Completed c es fs = (others : List Event) × AreOrders c es (fs ++ others)
@@ -161,7 +161,7 @@ completed_quiet (e ∷ fs) es c last now k h calm end =
 
 -- ---- ends
 
--- an event that can be made after a list can be made on its chip
+-- an event that can be made after a list is enabled on its chip
 pub can_behind : (fs : List Event) (c now : List NodeRecord) (e : Event) (others : List Event) → replay c fs ≡ Some now → IsSome (replay c (fs ++ e ∷ others)) → CanBe now e
 can_behind [] c now e others k some =
     let there = some_of (replay c (e ∷ others)) some in

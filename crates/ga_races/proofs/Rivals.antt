@@ -199,7 +199,7 @@ rivals c w r x y s t p q differ e =
 crossed : (c : List NodeRecord) (w r x y : NodeId) (s t : Side) (n : ℕ) → Open c w r s → Open c x y t → w.number ≡ n → y.number ≡ n → ⊥
 crossed c w r x y s t n p q e k = one_way (record_at c w.number).wait s t p.writes (subst (λ (z : ℕ). reads_from (record_at c z).wait t ≡ true) (k ∙ sym e) q.reads)
 
--- two events that can be made and touch a common node are two passes to one reader
+-- two enabled events that touch a common node are two passes to one reader
 pub common_node : (c : List NodeRecord) (e f : Event) (n : ℕ) → CanBe c e → CanBe c f → e ≢ f → touches e n ≡ true → touches f n ≡ true → AreRivals e f
 common_node c (Own a) (Own b) n can canf differ t u = absurd (differ (ap Own (NodeId-same a b (at_node a.number n t ∙ sym (at_node b.number n u)))))
 common_node c (Own a) (Pass w r s) n can canf differ t u = absurd (alone c a w r s n can (open_of c w r s canf) (at_node a.number n t) (at_two w.number r.number n u))

@@ -1,4 +1,4 @@
--- Nodes that can never go on.
+-- Deadlocked nodes.
 use Rattle.std.proofs.Common.{◌≡◌, ℕ, ◌==◌, Bool, true, false, ◌&&◌, ◌||◌, List, [], ◌∷◌, Some, None, true≢false, refl, sym, ◌∙◌, ap, subst, IfSome}
 use Rattle.std.specs.Prelude.{Option, option_map, option_and_then}
 use Rattle.std.proofs.lemmas.Bool.{or_left, or_right, and_parts, ne_eqb, or_from}
@@ -19,7 +19,7 @@ use Rattle.ga_event.proofs.Locality.{apply_keeps}
 use Rattle.ga_races.specs.Acts.{AreStuck}
 use Rattle.ga_races.proofs.Rivals.{matched_of as matched, number_of}
 
--- the ends of a pass that can be
+-- the ends of an enabled pass
 record Open (chip : List NodeRecord) (w r : NodeId) (side : Side) : Type 0 where
   near : neighbour_of w.number side ≡ Some r.number
   writes : writes_to (record_at chip w.number).wait side ≡ true
@@ -31,7 +31,7 @@ opened chip w r side can =
     let ends = and_parts (is_number (neighbour_of w.number side) r.number) (writes_to (record_at chip w.number).wait side) all.0 in
     record { near = number_of (neighbour_of w.number side) r.number ends.0; writes = ends.1; reads = all.1 }
 
--- what can be made touches none of them
+-- an enabled event touches none of them
 not_passed : (chip : List NodeRecord) (marks : ℕ → Bool) (w r : NodeId) (side : Side) → AreStuck chip marks → Open chip w r side → marks w.number ≡ true → marks r.number ≡ true → ⊥
 not_passed chip marks w r side s o mw mr = true≢false (sym o.reads ∙ s.apart w.number r.number side mw mr o.near o.writes)
 

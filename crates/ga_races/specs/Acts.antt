@@ -30,7 +30,7 @@ IsSubset marks others = (n : ℕ) → n < 144 → marks n ≡ true → others n 
 abbrev pub awaits : Wait → Side → Bool
 awaits wait side = writes_to wait side || reads_from wait side
 
--- None of the marked nodes can ever go on: each waits or is stopped, each neighbour that it awaits is marked, and no two of them can
+-- The marked nodes are deadlocked: each waits or is stopped, each neighbour that it awaits is marked, and no two of them can
 -- transfer a word.
 pub record AreStuck (chip : List NodeRecord) (marks : ℕ → Bool) : Type 0 where
   pub halted : (n : ℕ) → marks n ≡ true → refusal (record_at chip n) ≢ None

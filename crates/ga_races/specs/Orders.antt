@@ -1,6 +1,6 @@
--- Other orders of the same steps, and steps that race: of which the order in which nodes happened to run decided (after Netzer and
--- Miller, "Optimal tracing and replay for debugging message-passing parallel programs", 1992, who speak of messages; that a look
--- races too is this project's own, as looks are).
+-- Other orders of the same steps, and steps that race: which the order in which nodes happened to run decided (after Netzer and
+-- Miller, "Optimal tracing and replay for debugging message-passing parallel programs", 1992, who speak of messages; that a
+-- look races too is this project's own, as looks are).
 use Rattle.std.specs.Prelude.{ℕ, zero, suc, ◌+◌, ◌%◌, nat_lt, Bool, ◌&&◌, if◌then◌else◌, List, Option, Some, None, is_ok, ◌≡◌, ◌≢◌, true, false, ◌∷◌, ◌++◌, ◌⊎◌, [], IsSome}
 use Rattle.ga_node.specs.Record.{NodeRecord}
 use Rattle.ga_grid.specs.declared.node_id.NodeId.{NodeId}
@@ -24,11 +24,11 @@ abbrev pub first_in : (ℕ → Bool) → ℕ → ℕ → Option NodeId
 first_in test n zero = None
 first_in test n (suc k) = if test (n % 144) then Some (node_id n) else first_in test (n + 1) k
 
--- the event can be made on the chip
+-- whether the event is enabled on the chip
 abbrev pub CanBe : List NodeRecord → Event → Type 0
 CanBe chip event = refusal_of chip event ≡ None
 
--- no event can be made on the chip
+-- whether no event is enabled on the chip
 abbrev pub IsAtEnd : List NodeRecord → Type 0
 IsAtEnd chip = (event : Event) → CanBe chip event → ⊥
 
@@ -49,8 +49,8 @@ pub data AreOrders : List NodeRecord → List Event → List Event → Type 0 wh
   joined : {chip : List NodeRecord} {xs ys zs : List Event}
       → AreOrders chip xs ys → AreOrders chip ys zs → AreOrders chip xs zs
 
--- A step of the list races with another event: in some order of the list the step comes next where the other event can be made too,
--- and the two are not free.
+-- A step of the list races with another event: in some order of the list the step comes next where the other event is enabled
+-- too, and the two are not independent.
 pub record IsRace (chip : List NodeRecord) (events : List Event) (step other : Event) : Type 0 where
   pub before : List Event
   pub later : List Event

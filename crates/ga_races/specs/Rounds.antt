@@ -1,5 +1,6 @@
--- Rounds: events of a node's own that leave it as it was. A node makes them where it asks again and again whether a neighbour waits for
--- it (F18A Technology Reference DB001, "io": the bits of the neighbours' reads and writes), and where it computes for ever.
+-- Rounds: events of a node's own that lead back to its record before them. A node makes them when it polls whether a neighbour
+-- waits for it (F18A Technology Reference DB001, "io": the bits of the neighbours' reads and writes), and when it computes for
+-- ever.
 use Rattle.std.specs.Prelude.{◌≡◌, ℕ, false, not, List, ◌++◌, Some, All}
 use Rattle.std.specs.List.{filter}
 use Rattle.ga_node.specs.Record.{NodeRecord}

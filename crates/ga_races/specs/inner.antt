@@ -99,13 +99,13 @@ pub record AreAlike (xs ys : List Action) : Type 0 where
 
 -- ---- what private contracts, invariants and bridges cite
 
--- the neighbour of this number, where there is one, may let a node go on that waits so for it: it isn't marked, or it can take a word
--- from the node now
+-- whether the neighbour of this number, if there is one, may free a node that waits so for it: it isn't marked, or it can take
+-- a word from the node now
 abbrev pub frees : List NodeRecord → (ℕ → Bool) → Wait → Side → Option ℕ → Bool
 frees chip marks wait side None = false
 frees chip marks wait side (Some m) = not (marks m) || (writes_to wait side && reads_from (record_at chip m).wait side)
 
--- a node awaits a neighbour that may let it go on: on this side, and in `is_freed` on any
+-- whether a node awaits a neighbour that may free it: on this side, and in `is_freed` on any
 abbrev pub is_freed_on : List NodeRecord → (ℕ → Bool) → ℕ → Side → Bool
 is_freed_on chip marks n side =
     awaits (record_at chip n).wait side && frees chip marks (record_at chip n).wait side (neighbour_of n side)

@@ -1,4 +1,4 @@
-//! Nodes that can never go on.
+//! Deadlocked nodes.
 
 ghost use Rattle.std.specs.Prelude.{◌≡◌, ◌<◌, ℕ, Bool, true, false, length, IfSome, IfNone};
 ghost use Rattle.ga_grid.specs.Chip.{records_of};
@@ -20,7 +20,7 @@ pub fn awaits(wait: &Wait, side: Side) -> bool
     writes || reads
 }
 
-// Whether the node awaits a neighbour on a side that may let it go on.
+// Whether the node awaits a neighbour on a side that may free it.
 fn is_freed_on(chip: &Chip, marks: &[bool; 144], node: NodeId, side: Side) -> bool
     ensures { result ≡ is_freed_on (records_of chip.now) (is_marked marks.now) node.number side }
 {
@@ -38,7 +38,7 @@ fn is_freed_on(chip: &Chip, marks: &[bool; 144], node: NodeId, side: Side) -> bo
     }
 }
 
-// Whether the node awaits a neighbour that may let it go on, on any side.
+// Whether the node awaits a neighbour that may free it, on any side.
 fn is_freed(chip: &Chip, marks: &[bool; 144], node: NodeId) -> bool
     ensures { result ≡ is_freed (records_of chip.now) (is_marked marks.now) node.number }
 {

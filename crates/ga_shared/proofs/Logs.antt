@@ -89,7 +89,7 @@ IsHistory-push d lab log calls e history answers given is grew counted =
       made = ap (λ s. s.made) is ∙ state_after-made d.lab e.call ∙ ap (λ a. d.lab.made + added_by a) (sym answers) ∙ ap (λ n. n + added_by e.answer) history.made ∙ sym (made_by-push d.log e) ∙ ap made_by (sym grew);
     }
 
--- ---- What closing knows of the log, the lab and the seats
+-- ---- What closing implies for the log, the lab and the seats
 
 pub AreSeated-along : (n m : ℕ) (xs ys : List Worker) → n ≡ m → xs ≡ ys → AreSeated n xs → AreSeated m ys
 AreSeated-along n m xs ys e f h = subst (λ (p : ℕ × List Worker). AreSeated p.0 p.1) (λ i. (e i, f i)) h

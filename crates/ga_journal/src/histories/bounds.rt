@@ -7,7 +7,7 @@ ghost use Rattle.ga_journal.specs.inner.Histories.{lists_of, AllRise, bound_of, 
 use super::Histories;
 use ga_grid::NodeId;
 
-/// Histories of which the newest entry can be looked for.
+/// Histories in which the newest entry can be searched for.
 pub(crate) trait Bounds {
     // The histories as they are seen.
     ghost seen: { Self → List (List Past) };
