@@ -193,7 +193,8 @@ fn unless_stored(op: Op, part: Part) -> Option<Part>
     }
 }
 
-// The part whose value an opcode leaves in a part. None for P and the slot, which nearly every step makes anew.
+// The part whose value an opcode leaves in a part. None for P and the slot, which nearly every step makes anew, nor for the
+// wait, the stop and the word from outside.
 #[inline(always)]
 fn by_op(op: Op, part: Part) -> Option<Part>
     requires { IsPart part }
@@ -212,7 +213,8 @@ fn by_op(op: Op, part: Part) -> Option<Part>
     }
 }
 
-// The part whose value a fetch leaves in a part. None for P, I and the slot, which a fetch makes anew.
+// The part whose value a fetch leaves in a part. None for P, I and the slot, which a fetch makes anew, nor for the wait, the
+// stop and the word from outside.
 #[inline(always)]
 fn by_fetch(part: Part) -> Option<Part>
     requires { IsPart part }
