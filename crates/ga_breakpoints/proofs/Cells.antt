@@ -43,7 +43,7 @@ use Rattle.ga_breakpoints.specs.inner.Words.{keeps_kind, awaits_code, keeps_word
 use Rattle.ga_breakpoints.specs.inner.Cells.{Cells, cells_left, cell_known, cell_in, asks_word, cells_with, cells_asked, comes_by, has_done_by, cells_done, counted_by, cells_from, tally_by, cells_behind}
 use Rattle.ga_breakpoints.proofs.Following.{IsCounted, IsWell, IsWord, Step, step_of, steps_more, word_more, well_more, refused_stays, well_next}
 
--- ---- A node as it stands is the one behind all its steps
+-- ---- A node's present state is its state after all its steps
 
 -- ---- events that are no steps of a node leave it
 
@@ -61,7 +61,7 @@ untouched (e ∷ es) c last ts n is none =
     let p : (touches e n ≡ false) × (steps_of n es ≡ 0) = none_of (touches e n) (steps_of n es) (steps_of n (e ∷ es)) (steps-cons n e es) none in
     (keeps_of c e f.mid f.told f.first).same n p.0 ∙ untouched es f.mid last f.others n f.then p.1
 
--- the node behind the events that hold all its steps
+-- the node after the events that include all its steps
 abbrev At : List NodeRecord → List NodeRecord → List Event → ℕ → ℕ → Type 0
 At c last es n k = record_at (unwrap_or (replay c (take (place_after es n k) es)) []) n ≡ record_at last n
 
@@ -90,7 +90,7 @@ pub none_came : (s : State) (node : NodeId) (at : Spot) (k : ℕ) → length (hi
 none_came s node at k past =
     sym (ap (λ (o : Option Made). arrives o && is_at_spot at (spot_behind s node (k + 1))) (none_past (history_of s node.number) k past))
 
--- ---- as much is told of the steps of a node as it made
+-- ---- as many events are listed for a node as it made steps
 
 told_one : (before : List Event) (c : List NodeRecord) (e : Event) → length (option_to_list (made_after before e (after c e).1)) ≡ 1
 told_one before c (event.Own n) = refl
@@ -127,7 +127,7 @@ well_of s some n =
 
 -- ---- a cell that is known
 
--- what stands at a place where one was written
+-- the entry at a place after one was written
 set_tells : (cells : Cells) (i j : ℕ) (a : Option (Option ℕ)) (x : Option ℕ) → slice_index_or (slice_set cells i a) j None ≡ Some x
     → ((j ≡ i) × (a ≡ Some x)) ⊎ ((j ≢ i) × (slice_index_or cells j None ≡ Some x))
 set_tells [] i j a x h = absurd (cc)
@@ -206,7 +206,7 @@ counted_alike told s place (one ∷ rest) cells tally some known =
     (done_alike one.watched one.node told s cells some known)
     ∙ counted_alike told s (place + 1) rest then (one_counted told s one place tally) some (known_done one.watched one.node told s cells known)
 
--- ---- behind one event more
+-- ---- after one more event
 
 last_there : (xs : List Made) (x : Made) → slice_get (xs ++ x ∷ []) (length xs) ≡ Some x
 last_there [] x = refl

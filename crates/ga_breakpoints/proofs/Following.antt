@@ -192,7 +192,7 @@ told_stays [] ys k l = absurd (omega (arith, l))
 told_stays (x ∷ xs) ys zero l = refl
 told_stays (x ∷ xs) ys (suc k) l = told_stays xs ys k (omega (arith, l))
 
--- what is told of each of its steps is there
+-- each of its steps has an event in the list
 abbrev pub IsCounted : State → ℕ → Type 0
 IsCounted s n = steps_of n s.kept ≡ length (history_of s n)
 
@@ -260,7 +260,7 @@ pub record IsWell (s : State) (n : ℕ) : Type 0 where
   pub replays : IsSome (replay s.load s.kept)
   pub counted : IsCounted s n
 
--- and one behind a step
+-- and one after a step
 pub record Step (s : State) (m : NodeId) (told : Made) : Type 0 where
   pub more : More s (stepped s m)
   pub same : told_next s more.event ≡ told
@@ -304,7 +304,7 @@ pub well_more : (s : State) (m : NodeId) (told : Made) (n : ℕ) → step_answer
 well_more s m told n h well =
     record { replays = runs_some (stepped s m) (call_runs s (call_step m) (runs_of s well.replays)); counted = counted_more s m told (step_of s m told well.replays h) n well.counted }
 
--- a node's word is the one that was followed: where the event was a step of the node, before that and behind it
+-- a node's word is the one that was followed: before the event and, if it was a step of the node, after it
 abbrev pub IsWord : State → NodeId → Option ℕ → Type 0
 IsWord s node word = word ≡ fetched_cell s node (steps_of node.number s.kept)
 

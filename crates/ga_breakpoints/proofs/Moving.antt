@@ -54,7 +54,7 @@ hit_so g r most n k told s None false at first is stop ends =
 after_more : (first : Option NodeId) (r : Running) (n k : ℕ) → n ≡ k + 1 → after_first first r n ≡ first_moved first (after_first first r k)
 after_more first r n k e = ap (after_first first r) (e ∙ add-one k)
 
--- the newest event of so many hit this
+-- the newest of `n` events hit this
 pub counted_so : (first : Option NodeId) (breakpoints : List Breakpoint) (tally : HitTally) (r : Running) (n k : ℕ) (told : Made) → n ≡ k + 1
     → told_first first (after_first first r k) ≡ Some told
     → (tally_on first breakpoints tally r n).hit ≡ (tally_behind breakpoints told (first_moved first (after_first first r k)).state (tally_on first breakpoints tally r k)).hit
@@ -92,9 +92,9 @@ went_so ends seen w r now g most n (the_end.Refused why) halt hit alike at h cou
 abbrev pub Replays : State → Type 0
 Replays s = IsSome (replay s.load s.kept)
 
--- ---- along a run, however a node goes first
+-- ---- along a run, whichever node comes first
 
--- the cells after so many events
+-- the cells after `n` events
 abbrev pub cells_on : Option NodeId → List Breakpoint → Cells → Running → ℕ → Cells
 cells_on first breakpoints cells r zero = cells
 cells_on first breakpoints cells r (suc k) =
@@ -111,7 +111,7 @@ known_on first breakpoints cells r (suc k) some known =
     known_next (after_first first r k) (chosen_first first (after_first first r k)) breakpoints (cells_on first breakpoints cells r k) (replays_on first r k some)
     (known_on first breakpoints cells r k some known)
 
--- the hits by the cells, behind the event after so many
+-- the hits by the cells, after the event with number `k`
 tally_alike : (first : Option NodeId) (breakpoints : List Breakpoint) (cells : Cells) (tally : HitTally) (r : Running) (k : ℕ) (o : Option Made) → Replays r.state → IsKnown r.state cells
     → told_first first (after_first first r k) ≡ o
     → tally_told_by breakpoints tally (cells_on first breakpoints cells r k) o (first_moved first (after_first first r k)).state
@@ -226,7 +226,7 @@ same_grain by r (suc k) =
     let first : Option NodeId = Some by.node in
     told_grain (stepped_on by r k) (told_first first (after_first first r k)) (first_moved first (after_first first r k)).state ∙ same_grain by r k
 
--- the cell of the node's word after so many events
+-- the cell of the node's word after `n` events
 abbrev pub word_on : NodeId → Option ℕ → Running → ℕ → Option ℕ
 word_on node word r zero = word
 word_on node word r (suc k) =

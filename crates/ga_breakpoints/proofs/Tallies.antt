@@ -91,7 +91,7 @@ same_hit : (p : ℕ) (counts : List ℕ) (place : ℕ) → place ≡ p → place
 same_hit p counts place at few long =
     same_count p ((counts_at counts p + 1) % 2 ^ 32) counts place at few long ∙ ap (λ (z : ℕ). (counts_at counts z + 1) % 2 ^ 32) (sym at)
 
--- the counts behind a breakpoint
+-- the counts after a breakpoint
 counted_one : (b : Bool) (x : Breakpoint) (p : ℕ) (tally : HitTally) → (cond b (hit_counted x p tally) tally).counts ≡ cond b (one_hit_more p tally.counts) tally.counts
 counted_one true x p tally = refl
 counted_one false x p tally = refl

@@ -11,7 +11,7 @@ use Rattle.ga_lab.specs.Machine.{State, history_of, rewound}
 use Rattle.ga_adapter.specs.declared.spots.Spot.{Spot}
 use Rattle.ga_adapter.specs.Spots.{spot_behind}
 
--- The machine where a node keeps so many of its steps: the next one is rolled back with all that depends on it, and nothing else.
+-- The machine in which a node keeps `n` of its steps: the next one is rolled back with all its dependents, and nothing else.
 abbrev pub gone_back : State → NodeId → ℕ → State
 gone_back s node keeps = if nat_lt keeps (steps_of node.number s.kept) then rewound s node.number (keeps + 1) else s
 
@@ -21,8 +21,9 @@ stepped_back s node = gone_back s node (steps_of node.number s.kept - 1)
 
 -- ---- what is watched of a node: that it comes to a slot, or writes a cell of RAM, of which each has two addresses. Each is something that a step does, and no state that lasts.
 
--- A step by which a node can come to a slot: no wait or stop, by which it stays where it stood, and no fetch of the slot's own word, before which it
--- came there, but for its first step: where a node stands at load it came by none.
+-- A step by which a node can arrive at a slot: not a wait or a stop, which leave it at its slot, and not the fetch of the
+-- slot's own word, since it arrived before that fetch. The first step is an exception: no step brought a node to its slot at
+-- load.
 abbrev pub arrives_by : ℕ → Kind → Bool
 arrives_by step (kind.Run code) = true
 arrives_by step kind.Fetch = step == 1
@@ -37,6 +38,6 @@ abbrev pub is_at_spot : Spot → Option Spot → Bool
 is_at_spot at None = false
 is_at_spot at (Some found) = found.cell == at.cell && found.slot == at.slot
 
--- the step behind so many of the node comes to the slot
+-- the step after the node's first `n` steps arrives at the slot
 abbrev pub comes_to : State → NodeId → Spot → ℕ → Bool
 comes_to s node at k = arrives (slice_get (history_of s node.number) k) && is_at_spot at (spot_behind s node (k + 1))

@@ -1,5 +1,5 @@
--- Breakpoints: what a node is watched for, and behind which event it did that (Debug Adapter Protocol, "SetBreakpointsRequest",
--- "SetDataBreakpointsRequest", "SetExceptionBreakpointsRequest"). Each is something that an event does, and no state that lasts.
+-- Breakpoints: what a node is watched for, and after which event it did that (Debug Adapter Protocol, "SetBreakpointsRequest",
+-- "SetDataBreakpointsRequest", "SetExceptionBreakpointsRequest"). Each is something that an event does, not a state that lasts.
 use Rattle.std.specs.Prelude.{ℕ, ◌+◌, ◌-◌, ◌%◌, ◌^◌, nat_lt, Bool, false, ◌&&◌, ◌||◌, if◌then◌else◌, is_some, List, [], ◌∷◌, slice_set, slice_index_or, Option, Some, None, option_map}
 use Rattle.std.specs.Option.{option_or}
 use Rattle.ga_grid.specs.declared.node_id.NodeId.{NodeId}
@@ -23,7 +23,7 @@ use Rattle.ga_breakpoints.specs.declared.condition.HitCount.{HitCount}
 use Rattle.ga_breakpoints.specs.declared.hits.HitTally.{HitTally}
 use Rattle.ga_breakpoints.specs.Conditions.{meets_test, is_hit_asked}
 
--- ---- where a breakpoint stands
+-- ---- where a breakpoint is
 
 -- a breakpoint that a node hits by coming to a slot of a cell
 abbrev pub on_slot : NodeId → ℕ → ℕ → Breakpoint
@@ -43,13 +43,13 @@ breakpoint_of_address node address = option_map (λ cell. on_slot node cell 0) (
 
 -- ---- what an event hits
 
--- Behind what was made, on the machine that it left: the node came to the slot by this step, or stored in the cell of RAM, of which each has two
--- addresses.
+-- After this event, on the machine that it left: the node arrived at the slot by this step, or stored in the cell of RAM. Each
+-- cell of RAM has two addresses.
 abbrev pub has_done : Watched → NodeId → Made → State → Bool
 has_done (Comes at) node told s = is_step_of node.number told && comes_to s node at (steps_of node.number s.kept - 1)
 has_done (Writes address) node told s = holds (condition.Writes node (address % 64) None) told s
 
--- behind what was made, a node did what the breakpoint watches for, and meets its condition
+-- after this event, a node did what the breakpoint watches for, and meets its condition
 abbrev pub is_hit : Made → State → Breakpoint → Bool
 is_hit told s one =
     has_done one.watched one.node told s && meets_test one.condition (record_at (chip_of s) one.node.number) (steps_of one.node.number s.kept)
@@ -62,7 +62,7 @@ counts_at counts place = slice_index_or counts place 0
 abbrev pub one_hit_more : ℕ → List ℕ → List ℕ
 one_hit_more place counts = if nat_lt place 64 then slice_set counts place ((counts_at counts place + 1) % 2 ^ 32) else counts
 
--- the place of a breakpoint, where the hit of this number is asked for
+-- the place of a breakpoint, if this hit satisfies its hit condition
 abbrev pub asked_place : Option HitCount → ℕ → ℕ → Option ℕ
 asked_place hits place number = if is_hit_asked hits number then Some place else None
 
@@ -80,13 +80,13 @@ abbrev pub counted_from : Made → State → ℕ → List Breakpoint → HitTall
 counted_from told s place [] tally = tally
 counted_from told s place (one ∷ rest) tally = counted_from told s (place + 1) rest (one_counted told s one place tally)
 
--- how often each breakpoint was hit, behind what was made, on the machine that it left
+-- the number of hits of each breakpoint after this event, on the machine that it left
 abbrev pub tally_behind : List Breakpoint → Made → State → HitTally → HitTally
 tally_behind breakpoints told s tally = counted_from told s 0 breakpoints (record tally { hit = None })
 
 -- ---- what ends a move early
 
--- what was made is the stop of a node: of any where that is asked for, and of the node that is moved
+-- the event is a stop: of any node if all stops are watched, and of the node that is moved
 abbrev pub is_stop_at : Option NodeId → Made → Bool
 is_stop_at None told = false
 is_stop_at (Some node) told = is_own_at node.number is_stop told

@@ -1,5 +1,5 @@
--- Conditions and hit conditions of breakpoints (Debug Adapter Protocol, "SourceBreakpoint"): a value that the node holds behind its step, as
--- "VariablesRequest" shows it, and how it compares with a number; and which hits are asked for.
+-- Conditions and hit conditions of breakpoints (Debug Adapter Protocol, "SourceBreakpoint"): a value that the node holds after
+-- its step, as "VariablesRequest" shows it, and how it compares with a number; and which hits count.
 use Rattle.std.specs.Prelude.{ℕ, ◌%◌, ◌==◌, nat_lt, nat_le, Bool, true, false, not, ◌&&◌, if◌then◌else◌, slice_index, Option, Some, None}
 use Rattle.std.specs.Int.{from_bool}
 use Rattle.ga_node.specs.Record.{NodeRecord}
@@ -23,7 +23,7 @@ held_data n place = if nat_lt place 10 then slice_index n.d place else 0
 abbrev pub held_return : NodeRecord → ℕ → ℕ
 held_return n place = if nat_lt place 9 then slice_index n.r place else 0
 
--- a value of a node that made so many steps; 0 where what is shown is no number
+-- a value of a node that made `n` steps; 0 if what is shown is no number
 abbrev pub held_value : NodeRecord → ℕ → Variable → ℕ
 held_value n step variable.Step = step
 held_value n step variable.P = n.p
@@ -55,7 +55,7 @@ is_so comparison.AtMost value number = nat_le value number
 is_so comparison.More value number = nat_lt number value
 is_so comparison.AtLeast value number = nat_le number value
 
--- a node that made so many steps meets a condition, where there is one
+-- a node that made `n` steps meets a condition, if there is one
 abbrev pub meets_test : Option ValueTest → NodeRecord → ℕ → Bool
 meets_test None n step = true
 meets_test (Some test) n step = is_so test.comparison (held_value n step test.variable) test.number

@@ -1,5 +1,6 @@
--- How a move ends (Debug Adapter Protocol, "ContinueRequest", "NextRequest", "StepInRequest", "StepOutRequest", "StoppedEvent"): right behind the first
--- event that hits a breakpoint, is a stop that ends it, or brings it to its end; or where no event follows.
+-- How a move ends (Debug Adapter Protocol, "ContinueRequest", "NextRequest", "StepInRequest", "StepOutRequest",
+-- "StoppedEvent"): after the first event that hits a breakpoint, is a stop that ends it, or completes it; or when no event is
+-- enabled.
 use Rattle.std.specs.Prelude.{◌≡◌, ℕ, zero, suc, ◌+◌, ◌<◌, Bool, true, false, ◌||◌, List, Option, Some, None}
 use Rattle.ga_grid.specs.declared.node_id.NodeId.{NodeId}
 use Rattle.ga_event.specs.declared.made.Made.{Made}
@@ -16,7 +17,7 @@ use Rattle.ga_breakpoints.specs.declared.going.Halt.TheVariants as the_halt
 use Rattle.ga_breakpoints.specs.Breakpoints.{tally_behind, is_stopping, ends_early}
 use Rattle.ga_breakpoints.specs.Stepping.{is_moved, stepped_on}
 
--- how often each breakpoint was hit, after so many events
+-- the number of hits of each breakpoint after `n` events
 abbrev pub tally_told : List Breakpoint → HitTally → Option Made → State → HitTally
 tally_told breakpoints tally None s = tally
 tally_told breakpoints tally (Some told) s = tally_behind breakpoints told s tally
@@ -27,8 +28,9 @@ tally_on first breakpoints tally r (suc events) =
     tally_told breakpoints (tally_on first breakpoints tally r events) (told_first first (after_first first r events))
     (first_moved first (after_first first r events)).state
 
--- A move: the node that is moved and goes first, where it is that of one; the breakpoints, and their hits after so many events; whether the stop of each
--- node ends it; and whether it comes to its end behind the event after so many, by what was made and the machine that this left.
+-- A move: the node that is moved and has precedence, if it moves one; the breakpoints, and their hits after `n` events; whether
+-- the stop of any node ends it; and whether the event after `n` events completes it, by that event and the machine that it
+-- left.
 pub record Course : Type 0 where
   pub node : Option NodeId
   pub breakpoints : List Breakpoint
@@ -36,7 +38,7 @@ pub record Course : Type 0 where
   pub stops : Bool
   pub ends : ℕ → Made → State → Bool
 
--- a move ends behind the event after so many
+-- a move ends after the event that follows `n` events
 abbrev pub halts_told : Course → ℕ → Option Made → State → Bool
 halts_told by k None s = false
 halts_told by k (Some told) s = ends_early by.breakpoints (by.tally k) by.stops by.node told s || by.ends k told s
@@ -47,13 +49,13 @@ halts_behind by r k = halts_told by k (told_first by.node (after_first by.node r
 abbrev pub NeverHalts : Course → Running → ℕ → Type 0
 NeverHalts by r events = (k : ℕ) → k < events → halts_behind by r k ≡ false
 
--- the event after so many, of which this is told, is the first behind which a move can end, and the last that was made
+-- the event after `k` events is the first after which the move can end, and the last that was made
 pub record IsFirst (by : Course) (r : Running) (events k : ℕ) (told : Made) : Type 0 where
   pub last : events ≡ k + 1
   pub before : NeverHalts by r k
   pub made : told_first by.node (after_first by.node r k) ≡ Some told
 
--- how a move ended after so many events, of at most so many that were asked for
+-- how a move ended after `k` of at most `events` events
 abbrev pub HasGone : Course → Running → ℕ → ℕ → Halt → Type 0
 HasGone by r most events (the_halt.Hit told which) =
     (k : ℕ) × IsFirst by r events k told × ((tally_behind by.breakpoints told (first_moved by.node (after_first by.node r k)).state (by.tally k)).hit ≡ Some which)

@@ -18,9 +18,9 @@ use Rattle.ga_adapter.specs.Labels.{line_at, line_start}
 use Rattle.ga_breakpoints.specs.Back.{gone_back}
 use Rattle.ga_adapter.specs.Spots.{spot_behind}
 
--- ---- places of a node: behind so many of its steps
+-- ---- places of a node: after `n` of its steps
 
--- the opcode that the step with this number carried out, by what is told of it
+-- the opcode that the step with this number executed, by its event
 abbrev pub op_told : Option Made → Option Op
 op_told (Some (made.Own node step (kind.Run code))) = Some (op_of (code % 32))
 op_told _ = None
@@ -43,8 +43,8 @@ is_jump _ = false
 abbrev pub op_at : State → NodeId → ℕ → Option Op
 op_at s node k = op_told (slice_get (history_of s node.number) k)
 
--- Of two places of which the second is a step on, the one before; where that step came back from a call that the node made behind so many steps, right
--- before the call: what the call did is gone over.
+-- Of two places, the second one step after the first, the first; if that step returned from a call that the node made after its
+-- first `n` steps, the place before the call, so that the call is stepped over.
 abbrev pub over_call : ℕ → State → NodeId → ℕ → ℕ → ℕ
 over_call began s node k call = if nat_lt began call && is_calling s node call then call - 1 else k
 
@@ -77,19 +77,20 @@ abbrev pub comes_on : Notes → NodeId → Option Spot → Option Spot → Optio
 comes_on notes node before spot op None = false
 comes_on notes node before spot op (Some line) = is_other_line line (line_on_spot notes node before) || is_jump op && begins_on notes node line spot
 
--- a line begins behind the step after so many; calls that the node made behind so many steps are gone over
+-- a line begins after the step with this number; calls that the node made after its first `n` steps are stepped over
 abbrev pub begins_behind : ℕ → Notes → State → NodeId → ℕ → Bool
 begins_behind began notes s node k =
     comes_on notes node (spot_behind s node (place_back began s node k)) (spot_behind s node (k + 1)) (op_at s node k) (line_on_spot notes node (spot_behind s node (k + 1)))
 
--- the nearest beginning of a line at a place or before it, looked for at so many places at most; the load is one
+-- the nearest beginning of a line at a place or before it, among at most `n` places; the load is one
 unfoldable pub beginning_from : Notes → State → NodeId → ℕ → ℕ → ℕ
 beginning_from notes s node zero left = 0
 beginning_from notes s node (suc k) zero = 0
 beginning_from notes s node (suc k) (suc left) =
     if begins_behind 0 notes s node k then suc k else beginning_from notes s node (place_back 0 s node k) left
 
--- `stepBack` by a line: the node is gone back to where its line began, or the line before where it stands at the beginning of one
+-- `stepBack` by a line: the node returns to the beginning of its line, or, if it is at the beginning of one, to that of the
+-- line before
 abbrev pub line_back : Notes → State → NodeId → ℕ → ℕ
 line_back notes s node zero = 0
 line_back notes s node (suc k) = beginning_from notes s node (place_back 0 s node k) (suc k)

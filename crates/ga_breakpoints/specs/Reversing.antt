@@ -27,16 +27,16 @@ stores_told cell before None = false
 stores_told cell before (Some (made.Own node step kind)) = stores_in cell before kind
 stores_told cell before (Some (made.Pass writer i reader j word)) = false
 
--- the step behind so many came to the slot, or stored in the cell of RAM, of which each has two addresses
+-- the step after the first `n` arrived at the slot, or stored in the cell of RAM, which has two addresses
 abbrev pub did : State → NodeId → Watched → ℕ → Bool
 did s node (Comes at) k = comes_to s node at k
 did s node (Writes address) k = stores_told (address % 64) (node_after s node.number k) (slice_get (history_of s node.number) k)
 
--- the step behind so many hit the breakpoint: it did what is watched, and the node met the condition behind it
+-- the step after the first `n` hit the breakpoint: it did what is watched, and the node met the condition after it
 abbrev pub has_hit : State → NodeId → Breakpoint → ℕ → Bool
 has_hit s node one k = meets_test one.condition (node_after s node.number (k + 1)) (k + 1) && did s node one.watched k
 
--- how many of so many steps hit the breakpoint
+-- how many of the first `n` steps hit the breakpoint
 abbrev pub hits_among : State → NodeId → Breakpoint → ℕ → ℕ
 hits_among s node one zero = 0
 hits_among s node one (suc k) = hits_among s node one k + from_bool (has_hit s node one k)
@@ -62,7 +62,7 @@ kept_tally s breakpoints = record { counts = hits_from s 0 breakpoints (replicat
 
 -- ---- what the newest event hit
 
--- the step behind so many of its node hit the breakpoint, which asks for its newest hit
+-- the step after the first `n` of its node hit the breakpoint, which wants its newest hit
 abbrev pub is_asked_hit : State → Breakpoint → ℕ → Bool
 is_asked_hit s one k = has_hit s one.node one k && is_hit_asked one.hits (counted_kept s one)
 
@@ -70,20 +70,20 @@ is_asked_hit s one k = has_hit s one.node one k && is_hit_asked one.hits (counte
 abbrev pub is_newest_hit : State → Breakpoint → Bool
 is_newest_hit s one = nat_lt 0 (steps_of one.node.number s.kept) && is_asked_hit s one (steps_of one.node.number s.kept - 1)
 
--- what was made, the newest event, hit the breakpoint as it is asked for
+-- the newest event hit the breakpoint and satisfied its hit condition
 abbrev pub has_been_hit : Made → State → Breakpoint → Bool
 has_been_hit told s one = is_step_of one.node.number told && is_newest_hit s one
 
 -- ---- `reverseContinue`
 
--- the number of the newest of so many steps that hit the breakpoint as it is asked for
+-- the number of the newest of the first `n` steps that hit the breakpoint and satisfied its hit condition
 abbrev pub newest_asked : State → NodeId → Breakpoint → ℕ → Option ℕ
 newest_asked s node one zero = None
 newest_asked s node one (suc k) =
     if has_hit s node one k && is_hit_asked one.hits (hits_among s node one (k + 1)) then Some (k + 1) else newest_asked s node one k
 
--- How many steps stay where the newest hit is gone back to, by one at least. A node stands behind the step by which it came to a slot, and
--- right before the one by which it wrote a cell.
+-- How many steps remain if the node returns to the newest hit, by at least one step. A node is then after the step by which it
+-- arrived at a slot, and before the one by which it wrote a cell.
 abbrev pub steps_left_by : Watched → State → NodeId → Breakpoint → Option ℕ
 steps_left_by (Comes at) s node one = newest_asked s node one (steps_of node.number s.kept - 1)
 steps_left_by (Writes address) s node one = option_map (λ step. step - 1) (newest_asked s node one (steps_of node.number s.kept))

@@ -61,7 +61,7 @@ comparison_said text =
     else if bytes_eq text (codes ">=") then Some AtLeast
     else None
 
--- ---- the number: decimal, or hexadecimal behind 0x; behind - it is below 0, modulo 2^18
+-- ---- the number: decimal, or hexadecimal after 0x; after - it is negative, modulo 2^18
 
 abbrev pub hex_digit_said : ℕ → Option ℕ
 hex_digit_said byte =

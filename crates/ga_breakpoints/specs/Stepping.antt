@@ -16,14 +16,14 @@ use Rattle.ga_breakpoints.specs.declared.stepping.Grain.{Grain}
 use Rattle.ga_breakpoints.specs.declared.stepping.Grain.TheVariants.{Instruction, Line}
 use Rattle.ga_breakpoints.specs.declared.stepping.Stepping.{Stepping}
 
--- ---- the call from which the node is to come back first, by the place of the return stack at which its entry stands
+-- ---- the call from which the node is to return first, by the place of its entry on the return stack
 
 abbrev pub is_from : ℕ → Option ℕ → Bool
 is_from place None = false
 is_from place (Some from) = from == place
 
--- The place of the call from which the node is to come back first, behind its newest step. Its entry is followed; and a call that is made
--- is one, where calls are gone over.
+-- The place of the call from which the node is to return first, after its newest step. Its entry is followed; a call that the
+-- node makes is such a call if calls are stepped over.
 abbrev pub call_behind : State → NodeId → Bool → Option ℕ → Option ℕ
 call_behind s node over (Some place) = position (is_from place) (entries_from s node (steps_of node.number s.kept - 1))
 call_behind s node over None = if over && is_calling s node (steps_of node.number s.kept) then Some 0 else None
@@ -38,7 +38,7 @@ step_in s node grain = record { node = node; grain = grain; over = false; call =
 abbrev pub step_over : State → NodeId → Grain → Stepping
 step_over s node grain = record { node = node; grain = grain; over = true; call = None; began = steps_of node.number s.kept }
 
--- back from the newest call that is open: to where its entry stands no more on the return stack
+-- return from the newest open call: until its entry is no longer on the return stack
 abbrev pub is_open_at : State → NodeId → ℕ → Bool
 is_open_at s node place = is_calling s node (put_by s node (steps_of node.number s.kept) place)
 
@@ -53,12 +53,12 @@ step_out s node = option_map (out_from s node) (open_place s node)
 
 -- ---- one event
 
--- the move behind what was made, on the machine that it left
+-- the move after this event, on the machine that it left
 abbrev pub step_seen : Stepping → Made → State → Stepping
 step_seen by told s = if is_step_of by.node.number told then record by { call = call_behind s by.node by.over by.call } else by
 
--- The newest step of the node is one by which a move of this grain can end that began behind so many. By lines a call that the node made since then is gone
--- over; by coming back from another the node comes to the rest of the line that called.
+-- The newest step of the node is one by which a move of this granularity, begun after `n` steps, can end. By lines, a call that
+-- the node made since then is stepped over; a return from another call brings the node to the rest of the calling line.
 abbrev pub reaches_end : Grain → ℕ → Notes → NodeId → State → ℕ → Bool
 reaches_end Instruction began notes node s k = true
 reaches_end Line began notes node s k = begins_behind began notes s node k
@@ -75,7 +75,7 @@ abbrev pub step_told : Stepping → Option Made → State → Stepping
 step_told by None s = by
 step_told by (Some told) s = step_seen by told s
 
--- the move after so many events
+-- the move after `n` events
 abbrev pub stepped_on : Stepping → Running → ℕ → Stepping
 stepped_on by r zero = by
 stepped_on by r (suc events) =

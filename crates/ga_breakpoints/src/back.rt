@@ -19,8 +19,8 @@ pub enum Watched {
     Writes(u8),
 }
 
-/// Takes back what a node did past so many of its steps, with all that depends on it and nothing else, and says how many events that were.
-/// Takes time by what goes.
+/// Rolls back what a node did after its first `keeps` steps, with all dependents and nothing else. Returns the number of
+/// removed events. The time is linear in that number.
 pub fn go_back(lab: &mut Lab, node: NodeId, keeps: u32) -> u32
     ensures state { lab.new ≡ gone_back lab.old node keeps }
     ensures gone { (gone : ℕ) → keeps < steps_of node.number lab.old.kept → rewind_answer lab.old node.number (keeps + 1) ≡ Ok gone → result ≡ gone }
@@ -44,7 +44,7 @@ pub fn step_back(lab: &mut Lab, node: NodeId) -> u32
     go_back(lab, node, keeps)
 }
 
-/// Whether a node can come to a slot by a step of which this is told.
+/// Whether a node can arrive at a slot by the step with this event.
 pub(crate) fn arrives(told: &Option<Made>) -> bool
     ensures { result ≡ arrives told.now }
 {
@@ -69,7 +69,8 @@ pub(crate) fn is_at_spot(at: Spot, found: Option<Spot>) -> bool
     }
 }
 
-/// Whether the step of a node after so many is one by which it came to a slot. The node is walked back to right behind it.
+/// Whether the step of a node after its first `place` steps is one by which it arrived at a slot. The node is walked back to
+/// just after it.
 pub fn comes_to(lab: &Lab, walk: &mut Walk<'_>, node: NodeId, at: Spot, place: u32) -> bool
     requires walk { walk.old ≡ standing lab.now node walk.old.step }
     requires order { place < walk.old.step }

@@ -17,7 +17,7 @@ pub struct Breakpoint {
     pub node: NodeId,
     /// What is watched: that the node comes to a slot, or writes a cell of its RAM.
     pub watched: Watched,
-    /// What has to hold of the node behind the step that did what is watched.
+    /// What must hold of the node after the step that did what is watched.
     pub condition: Option<ValueTest>,
     /// Which of the events that did what is watched end a run.
     pub hits: Option<HitCount>,
@@ -28,7 +28,7 @@ pub struct Breakpoint {
 pub struct LineBreakpoint {
     /// The breakpoint: on the first slot of the line.
     pub breakpoint: Breakpoint,
-    /// The line on which it stands, from 1 on: the one that was asked for, or a later one.
+    /// Its line, from 1 on: the requested one, or a later one.
     pub line: u32,
 }
 

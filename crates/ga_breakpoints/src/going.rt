@@ -18,7 +18,7 @@ pub enum Halt {
     Hit { made: Made, which: usize },
     /// This event was a stop, and hit no breakpoint.
     Stopped(Made),
-    /// The move came to its end behind this event, which hit no breakpoint and is no stop that ends it.
+    /// This event completed the move. It hit no breakpoint and is no stop that ends the move.
     Moved(Made),
     /// As many events were made as were asked for: the move can be gone on with.
     Cut,
@@ -28,14 +28,14 @@ pub enum Halt {
     Refused(LabFault),
 }
 
-/// How many events were made, why no more, and how the order goes on.
+/// The number of events, why the move ended, and the next schedule.
 #[derive(Clone, Copy)]
 pub struct Went {
     /// How many events were made.
     pub events: u64,
     /// Why no more events were made.
     pub halt: Halt,
-    /// Where the schedule stands: a further move by it goes on with this one.
+    /// The schedule after the last event, with which a further move continues.
     pub schedule: Schedule,
     /// How often each breakpoint was hit: a further move counts on.
     pub tally: HitTally,
@@ -82,16 +82,17 @@ pub(crate) fn went_by(run: WatchedRun, halts: &Halts<'_>, node: Option<NodeId>) 
     }
 }
 
-/// `continue` (Debug Adapter Protocol, "ContinueRequest"), a slice of at most so many events in the order of the schedule: up to the first that hits a
-/// breakpoint, or is a stop where these end it. Where it was cut, it is gone on with by the schedule that is handed back. Takes time by the events that
-/// are made, by the breakpoints, and for each node that comes to the slot number of one, once in a slice, by how long it is within its word.
+/// `continue` (Debug Adapter Protocol, "ContinueRequest"): a slice of at most `most` events in the order of the schedule, until
+/// one hits a breakpoint, or is a stop if stops end it. The returned schedule continues a slice that was cut. The time is
+/// linear in the number of events and in the number of breakpoints; in addition, for each node that arrives at the slot number
+/// of a breakpoint, once in a slice, in how long it is within its word.
 pub fn go_on(lab: &mut Lab, schedule: Schedule, halts: Halts<'_>, most: u64) -> Went
     ensures state { running lab.new result.schedule ≡ after_events (running lab.old schedule) result.events }
     ensures hits { result.tally ≡ tally_on None halts.entry.breakpoints.now halts.entry.tally (running lab.old schedule) result.events }
     ensures most { result.events ≤ most }
     ensures end { HasGone (going_on halts.entry.breakpoints.now halts.entry.tally halts.entry.stops (running lab.old schedule)) (running lab.old schedule) most result.events result.halt }
 {
-    // It is asked for what its contract says alone: the kept events can be replayed.
+    // It is called for its contract only: the history can be replayed.
     lab.chip();
     let mut watch = Halting {
         halts,

@@ -12,8 +12,8 @@ ghost use Rattle.ga_breakpoints.specs.Breakpoints.{counts_at};
 ghost use Rattle.ga_breakpoints.specs.Going.{tally_on};
 ghost use Rattle.ga_breakpoints.specs.Reversing.{kept_tally};
 
-/// Hits that are counted event by event are those that are counted over the kept events: where a run begins with these, and however it goes on, each of the
-/// first 64 breakpoints whose hits are asked for by their numbers was hit as often as the events say that are kept then.
+/// Hits counted event by event equal those counted over the history: if a run begins with the latter, then, however it
+/// continues, the count of each of the first 64 breakpoints with a hit condition is that of the history at that moment.
 pub fn kept_hits_are_counted_on()
     ensures { (first : Option NodeId) (breakpoints : List Breakpoint) (r : Running) (events place : ℕ) (one : Breakpoint) (hits : HitCount) →
         IsSome (replay r.state.load r.state.kept) → place < 64 → slice_get breakpoints place ≡ Some one → one.hits ≡ Some hits →

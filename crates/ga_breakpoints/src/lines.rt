@@ -15,7 +15,7 @@ use ga_node::Kind;
 use ga_notes::Notes;
 use ga_slots::Op;
 
-/// The opcode that a step of which this is told carried out.
+/// The opcode that the step with this event executed.
 fn op_told(told: &Option<Made>) -> Option<Op>
     ensures { result ≡ op_told told.now }
 {
@@ -50,7 +50,8 @@ fn is_jump(op: Option<Op>) -> bool
     }
 }
 
-/// Of the step at a place, the place before it; where it came back from a call that the node made behind so many steps, that of the call.
+/// Of the step at a place, the place before it; if it returned from a call that the node made after its first `began` steps,
+/// the place of that call.
 fn place_back(lab: &Lab, node: NodeId, place: u32, began: u32) -> u32
     requires { place ≤ steps_of node.number lab.now.kept }
     ensures value { result ≡ place_back began lab.now node place }
@@ -67,7 +68,7 @@ fn place_back(lab: &Lab, node: NodeId, place: u32, began: u32) -> u32
     }
 }
 
-/// The line on which a node stands at a slot.
+/// The line of a node at a slot.
 fn line_on_spot(notes: &Notes, node: NodeId, spot: Option<Spot>) -> Option<u32>
     ensures { result ≡ line_on_spot notes.now node spot }
 {
@@ -84,7 +85,7 @@ fn begins_at(notes: &Notes, node: NodeId, line: u32, spot: Spot) -> bool
     }
 }
 
-/// Whether a node that stands at a slot, by this step, came to a line: from another, or by a jump to its first slot.
+/// Whether a node that is at a slot arrived at a line by this step: from another line, or by a jump to its first slot.
 fn comes_on(
     notes: &Notes,
     node: NodeId,
@@ -106,8 +107,8 @@ fn comes_on(
     }
 }
 
-/// Where a node stood before its step at a place, over the call where it came back from one that it made behind so many steps, by the cell of its word
-/// before the step. The node is walked back there.
+/// The slot of a node before its step at a place, by the cell of its word before that step; over the call if the step returned
+/// from one that the node made after its first `began` steps. The node is walked back there.
 fn spot_before(
     lab: &Lab,
     walk: &mut Walk<'_>,
@@ -130,10 +131,10 @@ fn spot_before(
     }
 }
 
-/// Whether a line of the source begins for a node behind its step after so many, by the cells from which its words came before the step and behind it: it
-/// came there from another line, over the call where it came back from one that it made behind as many steps as are said, or by a jump to the first
-/// slot of the first word that the line begins.
-/// Takes time by how long that call was, and else as long whatever is kept.
+/// Whether a line of the source begins for a node after its step with this number, by the cells from which its words came
+/// before and after the step: it arrived from another line, stepping over the call if it returned from one that it made after
+/// its first `began` steps, or by a jump to the first slot of the first word of the line. The time is linear in the length of
+/// that call, and otherwise independent of the history.
 pub(crate) fn begins_by(
     lab: &Lab,
     notes: &Notes,
@@ -156,7 +157,7 @@ pub(crate) fn begins_by(
     comes_on(notes, node, there, spot, op_told(&told))
 }
 
-/// The nearest beginning of a line at a place or before it, looked for at so many places at most.
+/// The nearest beginning of a line at a place or before it, among at most `most` places.
 fn beginning_from(lab: &Lab, notes: &Notes, node: NodeId, from: u32, most: u32) -> u32
     requires { from ≤ steps_of node.number lab.now.kept }
     ensures { result ≡ beginning_from notes.now lab.now node from most }
@@ -183,8 +184,9 @@ fn beginning_from(lab: &Lab, notes: &Notes, node: NodeId, from: u32, most: u32) 
     0
 }
 
-/// `stepBack` by a line (Debug Adapter Protocol, "SteppingGranularity"): takes a node back to where its line began, or the line before where it stands at
-/// the beginning of one, over calls, with all that depends on what goes, and says how many events that were.
+/// `stepBack` by a line (Debug Adapter Protocol, "SteppingGranularity"): rolls a node back to the beginning of its line, or, if
+/// it is at the beginning of one, to that of the line before; steps over calls, and removes all dependents. Returns the number
+/// of removed events.
 pub fn step_back_line(lab: &mut Lab, notes: &Notes, node: NodeId) -> u32
     ensures { lab.new ≡ stepped_back_line notes.now lab.old node }
 {

@@ -44,7 +44,7 @@ fn is_from(from: Option<u8>, place: usize) -> bool
     }
 }
 
-/// Where the entry stands behind the node's newest step that stood at a place before.
+/// The place of the entry after the node's newest step, if it was at `place` before.
 fn place_behind(lab: &Lab, node: NodeId, place: usize) -> Option<usize>
     ensures { result ≡ position (is_from place) (entries_from lab.now node (steps_of node.number lab.now.kept - 1)) }
 {
@@ -53,14 +53,14 @@ fn place_behind(lab: &Lab, node: NodeId, place: usize) -> Option<usize>
     entries.iter().position(|from| is_from(*from, place))
 }
 
-/// Whether the node's newest step was a call, where calls are gone over.
+/// Whether the node's newest step was a call and calls are stepped over.
 fn is_gone_over(lab: &Lab, node: NodeId, over: bool) -> bool
     ensures { result ≡ (over && is_calling lab.now node (steps_of node.number lab.now.kept)) }
 {
     over && is_calling(lab, node, lab.steps(node))
 }
 
-/// The call from which the node is to come back first, behind its newest step.
+/// The call from which the node is to return first, after its newest step.
 fn call_behind(lab: &Lab, node: NodeId, over: bool, call: Option<usize>) -> Option<usize>
     ensures { result ≡ call_behind lab.now node over call }
 {
@@ -83,12 +83,12 @@ fn newest_step(lab: &Lab, made: &Made, node: NodeId) -> u32
     ensures step { result ≡ steps_of node.number lab.now.kept - 1 }
     ensures within { result < steps_of node.number lab.now.kept }
 {
-    // It is asked for what its contract says alone: the kept events can be replayed.
+    // It is called for its contract only: the history can be replayed.
     lab.chip();
     lab.steps(node).saturating_sub(1)
 }
 
-/// A move behind the newest event.
+/// A move after the newest event.
 fn step_seen(lab: &Lab, by: Stepping, made: &Made) -> Stepping
     ensures { result ≡ step_seen by made.now lab.now }
 {
@@ -99,7 +99,7 @@ fn step_seen(lab: &Lab, by: Stepping, made: &Made) -> Stepping
     Stepping { call, ..by }
 }
 
-/// The cell from which the word of a node came behind the newest event, where the word before it came from this one.
+/// The cell from which a node's word came, after the newest event, if the word before it came from `word`.
 fn word_seen(lab: &Lab, node: NodeId, word: Option<u8>, made: &Made) -> Option<u8>
     requires { IsNewestMade lab.now made.now }
     ensures { result ≡ word_seen node word made.now lab.now }
@@ -112,7 +112,7 @@ fn word_seen(lab: &Lab, node: NodeId, word: Option<u8>, made: &Made) -> Option<u
     word_after(lab, &walk, node, word)
 }
 
-/// Whether a move of this grain can end by a step of a node, by the cells of the words before it and behind it.
+/// Whether a move of this granularity can end by a step of a node, by the cells of the words before and after it.
 fn reaches_by(
     lab: &Lab,
     notes: &Notes,
@@ -132,7 +132,8 @@ fn reaches_by(
     }
 }
 
-/// Whether a move comes to its end by the newest event, behind which this call is to come back, by the cells of the words before it and behind it.
+/// Whether the newest event completes a move, with the call from which the node is to return after it, by the cells of the
+/// words before and after the event.
 fn is_moved_by(
     lab: &Lab,
     notes: &Notes,
@@ -191,10 +192,11 @@ fn word_begun(lab: &Lab, by: &Stepping) -> Option<u8>
     }
 }
 
-/// A slice of a move of a node, of at most so many events, in which the node makes each event that it has, and others theirs, in the order of the schedule,
-/// only while it has none: up to the first behind which the move comes to its end, a breakpoint is hit at any node, or a stop ends it. Where it was cut,
-/// it is gone on with by the same move and the schedule that is handed back. Takes time by the events that are made, by the breakpoints, for each node
-/// that comes to the slot number of one, and for a move by lines, once in a slice, by how long the node is within its word, and by how long its calls are.
+/// A slice of a move of a node, of at most `most` events. The node makes each event that it has; only while it has none do
+/// others make theirs, in the order of the schedule. The slice ends when the move is complete, a breakpoint is hit at any node,
+/// or a stop ends it. The same move and the returned schedule continue a slice that was cut. The time is linear in the number
+/// of events and of breakpoints; in addition in how long each node that arrives at the slot number of a breakpoint is within
+/// its word, and for a move by lines, once in a slice, in how long the node is within its word and in the length of its calls.
 pub fn step_on(
     lab: &mut Lab,
     schedule: Schedule,
@@ -210,7 +212,7 @@ pub fn step_on(
     ensures end { HasGone (stepping_on notes.now halts.entry.breakpoints.now halts.entry.tally halts.entry.stops stepping.old (running lab.old schedule)) (running lab.old schedule) most result.events result.halt }
 {
     let node = stepping.node;
-    // It is asked for what its contract says alone: the kept events can be replayed.
+    // It is called for its contract only: the history can be replayed.
     lab.chip();
     let mut watch = Steps {
         notes,

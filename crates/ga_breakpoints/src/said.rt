@@ -131,7 +131,7 @@ fn hex_said(text: &[u8]) -> Option<u32>
     Some(number)
 }
 
-/// A number as it is written: hexadecimal digits behind `0x`, or decimal ones without leading zeros.
+/// A number in text: hexadecimal digits after `0x`, or decimal ones without leading zeros.
 fn size_said(text: &[u8]) -> Option<u32>
     ensures { result ≡ size_said text.now }
 {

@@ -9,12 +9,12 @@ use ga_adapter::{is_calling, put_by};
 use ga_grid::NodeId;
 use ga_lab::Lab;
 
-/// How far a step goes (Debug Adapter Protocol, "SteppingGranularity").
+/// The granularity of a step (Debug Adapter Protocol, "SteppingGranularity").
 #[derive(Clone, Copy, PartialEq, Eq, Debug)]
 pub enum Grain {
     /// To the node's next step.
     Instruction,
-    /// To where a line of its source begins: another line, or the same anew behind a jump.
+    /// To the beginning of a line of its source: another line, or the same one after a jump.
     Line,
 }
 
@@ -23,13 +23,14 @@ pub enum Grain {
 pub struct Stepping {
     /// The node.
     pub node: NodeId,
-    /// How far the move goes.
+    /// The granularity of the move.
     pub grain: Grain,
-    /// Whether the calls that the node makes are gone over.
+    /// Whether the calls that the node makes are stepped over.
     pub over: bool,
-    /// The place of the return stack, from 0 on, at which the entry of a call stands from which the node is to come back first.
+    /// The place on the return stack, from 0 on, of the entry of the call from which the node is to return first.
     pub call: Option<usize>,
-    /// How many steps of the node were kept where the move began: a line goes on behind a call that the node made since.
+    /// How many steps of the node were in the history when the move began: a line continues after a call that the node made
+    /// since.
     pub began: u32,
 }
 
@@ -79,7 +80,7 @@ impl Stepping {
         }
     }
 
-    /// A move back from a call, by where its entry stands.
+    /// A move that returns from a call, by the place of its entry.
     fn out_from(lab: &Lab, node: NodeId, newest: usize) -> Self
         ensures { result ≡ out_from lab.now node newest }
     {

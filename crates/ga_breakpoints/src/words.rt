@@ -41,7 +41,7 @@ fn awaits_code(wait: Wait) -> bool
     }
 }
 
-/// Whether a step of which this is told leaves the word of a node that was so before it.
+/// Whether the step with this event leaves the word of a node that was `before` before it.
 fn keeps_word(told: &Option<Made>, before: &Node, node: NodeId) -> bool
     ensures { result ≡ keeps_word told.now (record_of before.now) node.number }
 {
@@ -58,7 +58,8 @@ fn keeps_word(told: &Option<Made>, before: &Node, node: NodeId) -> bool
     }
 }
 
-/// The cell from which the word came that stands in a node behind so many steps. Takes time by how many it made since the fetch.
+/// The cell from which the word of a node came, after its first `step` steps. The time is linear in the number of steps since
+/// the fetch.
 pub(crate) fn word_behind(lab: &Lab, node: NodeId, step: u32) -> Option<u8>
     requires { step ≤ steps_of node.number lab.now.kept }
     ensures { result ≡ fetched_cell lab.now node step }
@@ -66,8 +67,8 @@ pub(crate) fn word_behind(lab: &Lab, node: NodeId, step: u32) -> Option<u8>
     fetched_near(lab, &lab.walk(node, step), node, node, step)
 }
 
-/// The cell of a node's word behind the step at which a walk of the node stands, where the word before it came from this cell. Takes as
-/// long whatever is kept.
+/// The cell of a node's word after the step at which a walk of the node is, if the word before it came from this cell. Constant
+/// time.
 pub(crate) fn word_after(lab: &Lab, walk: &Walk<'_>, node: NodeId, word: Option<u8>) -> Option<u8>
     requires walk { walk.now ≡ standing lab.now node walk.now.step }
     requires within { walk.now.step < steps_of node.number lab.now.kept }
@@ -84,7 +85,7 @@ pub(crate) fn word_after(lab: &Lab, walk: &Walk<'_>, node: NodeId, word: Option<
     }
 }
 
-/// Where a node stands whose word came from this cell.
+/// The slot of a node whose word came from this cell.
 pub(crate) fn spot_by(node: &Node, word: Option<u8>) -> Option<Spot>
     ensures { result ≡ spot_by (record_of node.now) word }
 {
@@ -142,7 +143,7 @@ fn cell_found(lab: &Lab, cells: &mut Cells, node: NodeId) -> Option<u8>
     cell
 }
 
-/// Whether a node stands at this slot of its word, so that the word's cell has to be known.
+/// Whether a node is at this slot of its word, so that the word's cell is needed.
 fn asks_word(at: Spot, node: &Node) -> bool
     ensures { result ≡ asks_word at (record_of node.now) }
 {
@@ -150,7 +151,7 @@ fn asks_word(at: Spot, node: &Node) -> bool
     slot != 4 && slot == at.slot
 }
 
-/// The cell of a node's word, where the node stands in it at this slot: it is known from then on.
+/// The cell of a node's word, if the node is in it at this slot; it is known from then on.
 pub(crate) fn cell_at(lab: &Lab, cells: &mut Cells, node: NodeId, at: Spot) -> Option<u8>
     ensures cell { asks_word at (record_at (chip_of lab.now) node.number) ≡ true → result ≡ cell_in lab.now cells.old node }
     ensures cells { cells.new ≡ cells_asked (asks_word at (record_at (chip_of lab.now) node.number)) lab.now node cells.old }

@@ -31,7 +31,7 @@ use Rattle.ga_breakpoints.specs.declared.going.Halt.TheVariants.{Hit, Stopped, M
 abbrev pub Cells : Type 0
 Cells = List (Option (Option ℕ))
 
--- behind what was made, a node that may have taken another word is forgotten
+-- after this event, a node that may have fetched another word is forgotten
 abbrev pub cells_left : Made → Cells → Cells
 cells_left (made.Own node step kind) cells = if keeps_kind kind then cells else slice_set cells node.number None
 cells_left (made.Pass writer i reader j word) cells = slice_set cells reader.number None
@@ -44,7 +44,7 @@ cell_known s node None = fetched_cell s node (steps_of node.number s.kept)
 abbrev pub cell_in : State → Cells → NodeId → Option ℕ
 cell_in s cells node = cell_known s node (slice_index_or cells node.number None)
 
--- a node's cell is asked for where the node stands in its word at the slot, and known from then on
+-- a node's cell is needed if the node is in its word at the slot, and is known from then on
 abbrev pub asks_word : Spot → NodeRecord → Bool
 asks_word at n = not (n.slot == 4) && n.slot == at.slot
 
@@ -76,7 +76,7 @@ is_hit_by told s one cells =
 abbrev pub one_counted_by : Made → State → Breakpoint → ℕ → Cells → HitTally → HitTally
 one_counted_by told s one place cells tally = if is_hit_by told s one cells then hit_counted one place tally else tally
 
--- the breakpoints of the list from a place on are counted, where what was made hits them by the cells; and the cells behind them
+-- the breakpoints of the list from a place on are counted if this event hits them by the cells; and the cells after them
 abbrev pub counted_by : Made → State → ℕ → List Breakpoint → Cells → HitTally → HitTally
 counted_by told s place [] cells tally = tally
 counted_by told s place (one ∷ rest) cells tally =
@@ -86,7 +86,7 @@ abbrev pub cells_from : Made → State → List Breakpoint → Cells → Cells
 cells_from told s [] cells = cells
 cells_from told s (one ∷ rest) cells = cells_from told s rest (cells_done one.watched one.node told s cells)
 
--- how often each breakpoint was hit, and the cells, behind what was made, on the machine that it left
+-- the number of hits of each breakpoint, and the cells, after this event, on the machine that it left
 abbrev pub tally_by : List Breakpoint → Made → State → Cells → HitTally → HitTally
 tally_by breakpoints told s cells tally = counted_by told s 0 breakpoints (cells_left told cells) (record tally { hit = None })
 
@@ -113,7 +113,7 @@ halt_of hit stops first the_end.Made = Cut
 halt_of hit stops first the_end.Quiet = Quiet
 halt_of hit stops first (the_end.Refused why) = Refused why
 
--- ---- what watches, behind an event
+-- ---- what is watched, after an event
 
 abbrev pub with_hits : Halting → Made → State → Halting
 with_hits w told s =

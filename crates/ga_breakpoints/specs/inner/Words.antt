@@ -43,17 +43,17 @@ keeps_word None before n = false
 keeps_word (Some (made.Own node step kind)) before n = keeps_kind kind
 keeps_word (Some (made.Pass writer i reader j word)) before n = if n == reader.number then not (awaits_code before.wait) else true
 
--- ---- the cell of the word behind the step after so many, where the word before it came from this one
+-- ---- the cell of the word after the step with this number, if the word before it came from this cell
 
 abbrev pub word_after : State → NodeId → ℕ → Option ℕ → Option ℕ
 word_after s node k word =
     if keeps_word (slice_get (history_of s node.number) k) (node_after s node.number k) node.number then word else fetched_cell s node (k + 1)
 
--- the cell of a node's word, behind what was made, on the machine that it left
+-- the cell of a node's word after this event, on the machine that it left
 abbrev pub word_seen : NodeId → Option ℕ → Made → State → Option ℕ
 word_seen node word told s = if is_step_of node.number told then word_after s node (steps_of node.number s.kept - 1) word else word
 
--- ---- where a line begins, by the cells of the words before the step and behind it
+-- ---- where a line begins, by the cells of the words before and after the step
 
 abbrev pub spot_before : ℕ → State → NodeId → ℕ → Option ℕ → Option Spot
 spot_before began s node k word =
