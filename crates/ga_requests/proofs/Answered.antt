@@ -1,4 +1,4 @@
--- What is sent for a request, and what then stands.
+-- What is sent for a request, and the state after it.
 use Rattle.std.proofs.Common.{◌≡◌, ◌∙◌, ◌++◌, ◌<◌, ◌+◌, ◌&&◌, ◌||◌, arith, inl, inr, map, ℕ, zero, suc, Bool, true, false, List, [], ◌∷◌, Option, None, Result, Ok, Err, refl, sym, ap, subst}
 use Rattle.std.specs.Prelude.{OnOk}
 use Rattle.std.specs.List.{list_all, list_any}

@@ -18,7 +18,7 @@ use Rattle.ga_breakpoints.specs.declared.stepping.Grain.TheVariants.{Instruction
 use Rattle.ga_responses.specs.declared.debuggee.Debuggee.{Debuggee}
 use Rattle.ga_responses.specs.Disassembling.{program_notes}
 
--- how far one step goes: by lines where there is source and the client doesn't ask for an instruction
+-- the granularity of one step: lines if there is source and the client doesn't request an instruction
 abbrev pub grain_named : Option Text → Grain
 grain_named None = Line
 grain_named (Some name) = if bytes_eq name (codes "instruction") then Instruction else Line
@@ -30,7 +30,7 @@ grain_by (Some notes) name = grain_named name
 abbrev pub grain_asked : Debuggee → Data → Grain
 grain_asked p d = grain_by p.source (member_text (codes "granularity") d)
 
--- `stepBack`: the node is gone back, with all that depends on what goes, and nothing else changes
+-- `stepBack`: the node is rolled back, with all dependents, and nothing else changes
 abbrev pub stepped_by : Grain → Debuggee → NodeId → Debuggee
 stepped_by Instruction p node = record p { lab = stepped_back p.lab node }
 stepped_by Line p node = record p { lab = stepped_back_line (program_notes p) p.lab node }
@@ -40,7 +40,8 @@ stepped_by Line p node = record p { lab = stepped_back_line (program_notes p) p.
 abbrev pub reversed_by : Debuggee → NodeId → List Breakpoint → Debuggee
 reversed_by p node points = record p { lab = reversed_to p.lab node points }
 
--- ---- what is told of it ("OutputEvent"): how many events went and are kept, and of each other node which of its steps went
+-- ---- the text about it ("OutputEvent"): how many events were removed and kept, and which steps of each other node were
+-- removed
 
 -- how many steps of each node were kept
 abbrev pub AreStepsOf : State → List ℕ → Type 0
@@ -65,7 +66,7 @@ gone_head node removed s =
     codes "rewind " ++ name_of_node node ++ codes " " ++ decimal (steps_of node.number s.kept + 1) ++ codes ": removed " ++ decimal removed ++ codes " kept "
     ++ decimal (length s.kept) ++ codes "\n"
 
--- what is told where these many steps of each node were kept before, and so many events went
+-- the text, given how many steps each node had before and how many events were removed
 abbrev pub gone_words : NodeId → List ℕ → ℕ → State → Text
 gone_words node before removed s = gone_head node removed s ++ gone_below node.number before s 144
 

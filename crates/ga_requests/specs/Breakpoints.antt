@@ -31,7 +31,7 @@ family_number family.Data = 3
 abbrev pub is_of_another : Family → SetBy → Bool
 is_of_another kind one = not (family_number one.family == family_number kind)
 
--- the breakpoints that other requests set stay, and those that are asked for come behind them
+-- the breakpoints that other requests set remain, and the requested ones follow them
 abbrev pub left_by : Family → Configuration → Placement
 left_by kind set = record { told = []; placed = filter (is_of_another kind) set.points.placed.items; next = set.points.next_id }
 

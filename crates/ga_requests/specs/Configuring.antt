@@ -18,7 +18,7 @@ AreShown p marks = (n : ℕ) → n < 144 → marks n ≡ has_thread p.lab p.node
 abbrev pub threads_told : ClientRequest → (ℕ → Bool) → Messages
 threads_told request marks = (acknowledged request ∷ []) ++ changed_below (λ n. false) marks 144
 
--- the chip stands at load, or runs
+-- the chip is stopped at load, or runs
 abbrev pub BeginsSo : Bool → Debuggee → Execution → Messages → Execution → Type 0
 BeginsSo true p r messages new = (first : NodeId) × IsFirstShown p.lab p.nodes.items first.number
     × (messages ≡ stopped (codes "entry") (codes "at load") first.number ∷ []) × (new ≡ record r { is_configured = true })

@@ -22,7 +22,7 @@ use Rattle.ga_responses.specs.Events.{IsFirstShown}
 use Rattle.ga_requests.specs.Stopping.{stopped}
 use Rattle.ga_responses.specs.Sending.{Message, Messages, answered, acknowledged, refused_response}
 
--- a run for this goal is under way, that counts the kept hits first; or none is, and the chip stands
+-- a run for this goal is in progress, which first counts the hits in the history; or none is, and the chip is stopped
 abbrev pub begun : Execution → Goal → Execution
 begun r goal = record r { goal = Some goal; tally = None }
 
@@ -36,7 +36,7 @@ continued = object (member (codes "allThreadsContinued") (boolean true) no_membe
 abbrev pub Continues : Execution → ClientRequest → Messages → Execution → Type 0
 Continues r request messages new = (messages ≡ answered request continued ∷ []) × (new ≡ begun r Continue)
 
--- the move of a node that is asked for; none where no call is open from which it could come back
+-- the requested move of a node; none if no call is open from which it could return
 abbrev pub stepping_of : Debuggee → StepKind → NodeId → Data → Option Stepping
 stepping_of p Over node d = Some (step_over p.lab node (grain_asked p d))
 stepping_of p In node d = Some (step_in p.lab node (grain_asked p d))
@@ -73,7 +73,7 @@ abbrev pub BeginsStep : Debuggee → StepKind → Execution → ClientRequest �
 BeginsStep p kind r request message new =
     (asked : Option NodeId) × AsksOfThread (view request.arguments) asked × BeginsStepOf p kind r request asked message new
 
--- `pause`: where a run is under way it ends, and the chip stands; a thread that the client names is told, else the first
+-- `pause`: a run in progress ends, and the chip is stopped; the message names the thread of the request, else the first
 abbrev pub PausesRun : Debuggee → ClientRequest → Messages → Type 0
 PausesRun p request messages = (first : NodeId) × (asked : Option NodeId) × IsFirstShown p.lab p.nodes.items first.number
     × AsksOfThread (view request.arguments) asked

@@ -1,5 +1,5 @@
--- Where the breakpoints stand that are asked for (Debug Adapter Protocol, "SourceBreakpoint", "FunctionBreakpoint", "InstructionBreakpoint", "DataBreakpoint"),
--- and what is told of each ("Breakpoint").
+-- Where the requested breakpoints are (Debug Adapter Protocol, "SourceBreakpoint", "FunctionBreakpoint",
+-- "InstructionBreakpoint", "DataBreakpoint"), and what is sent for each ("Breakpoint").
 use Rattle.std.specs.Prelude.{◌≡◌, ℕ, ◌+◌, ◌%◌, ◌^◌, ◌==◌, nat_lt, Bool, true, false, not, ◌&&◌, ◌||◌, if◌then◌else◌, is_some, List, [], ◌∷◌, ◌++◌, take, drop, length, slice_index, position, codes, bytes_eq, string_bytes, Option, Some, None, option_map, option_and_then, Result, Ok, Err}
 use Rattle.std.specs.List.{slice_get}
 use Rattle.serde_json.specs.Data.{Data, string, boolean, object, no_members, member}
@@ -83,7 +83,7 @@ abbrev pub IsReferredBy : (NodeId × ℕ → Option Breakpoint) → Option Text 
 IsReferredBy place None point = point ≡ None
 IsReferredBy place (Some text) point = (at : Option (NodeId × ℕ)) × RefersTo text at × (point ≡ option_and_then place at)
 
--- ---- where one stands; none where there is no such place
+-- ---- the place of one; none if there is no such place
 
 abbrev pub IsPlaceOf : Debuggee → Family → Data → Option FoundPlace → Type 0
 IsPlaceOf p family.Source d found = found ≡ found_on_line (program_notes p) d
@@ -95,7 +95,7 @@ IsPlaceOf p family.Instruction d found =
 IsPlaceOf p family.Data d found =
     (point : Option Breakpoint) × IsReferredBy on_writes (member_text (codes "dataId") d) point × (found ≡ option_map on_no_line point)
 
--- ---- which of its hits end a run: a condition or a hit condition that can't be read is told, and nothing is set; null is none
+-- ---- which of its hits end a run: an unreadable condition or hit condition is reported, and nothing is set; null means none
 
 -- a member is there, and is neither text nor null
 abbrev pub is_other_kind : Option Data → Bool
@@ -137,12 +137,12 @@ then_hits before d (Ok place) = with_hits place before (is_no_text (codes "hitCo
 abbrev pub asked_there : FoundPlace → ℕ → Data → Result FoundPlace Unplaced
 asked_there place before d = then_hits before d (with_condition place (is_no_text (codes "condition") d) (member_text (codes "condition") d))
 
--- the breakpoint that is asked for, where so many stand before it; else why it is not set
+-- the requested breakpoint, given the number of breakpoints before it; else why it is not set
 abbrev pub asked_at : Option FoundPlace → ℕ → Data → Result FoundPlace Unplaced
 asked_at None before d = Err Nowhere
 asked_at (Some place) before d = asked_there place before d
 
--- ---- what is told of one, by its number
+-- ---- what is sent for one, by its number
 
 abbrev pub unfound_words : Family → Text
 unfound_words family.Source = codes "no code stands on this line or behind it"
@@ -178,7 +178,8 @@ abbrev pub told_placed : Debuggee → Family → ℕ → Result FoundPlace Unpla
 told_placed p kind id (Err why) = unverified_object id (unplaced_words kind why)
 told_placed p kind id (Ok found) = verified_on p id found.line
 
--- ---- those of a request, one after another: what was told of them, the breakpoints that are set, and the number of the next one
+-- ---- those of a request, one after another: what was sent for them, the breakpoints that are set, and the number of the next
+-- one
 
 pub record Placement : Type 0 where
   pub told : List Data

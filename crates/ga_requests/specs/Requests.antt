@@ -1,5 +1,5 @@
--- What a request that makes no event and takes none back does to a program that was launched (Debug Adapter Protocol, "Requests"): the messages that are
--- sent, in order, and what then stands.
+-- What a request that neither makes nor removes events does to a launched program (Debug Adapter Protocol, "Requests"): the
+-- messages sent, in order, and the state after them.
 use Rattle.std.specs.Prelude.{◌≡◌, List, [], ◌∷◌, codes, None}
 use Rattle.ga_protocol.specs.declared.request.ClientRequest.{ClientRequest}
 use Rattle.ga_responses.specs.declared.request_name.RequestName.{RequestName}

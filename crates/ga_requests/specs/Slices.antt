@@ -1,5 +1,6 @@
--- A slice of the run under way, made while no request has come (Debug Adapter Protocol, "ContinueRequest", "NextRequest", "StoppedEvent"): the events of the
--- order, at most so many, and why the run ends behind them, where it does. So a run in slices is one run, however it is cut.
+-- A slice of the run in progress, made while no request has come (Debug Adapter Protocol, "ContinueRequest", "NextRequest",
+-- "StoppedEvent"): the events of the schedule, at most `slice_limit`, and why the run ends after them, if it does. So a run in
+-- slices is one run, however it is cut.
 use Rattle.std.specs.Prelude.{◌≡◌, ◌≤◌, ◌<◌, ◌⊎◌, ℕ, Bool, true, false, ◌&&◌, not, ◌==◌, if◌then◌else◌, List, replicate, Option, Some, None}
 use Rattle.std.specs.List.{slice_get}
 use Rattle.ga_races.specs.Acts.{IsSubset, AreStuck}
@@ -33,7 +34,7 @@ use Rattle.ga_responses.specs.declared.debuggee.Debuggee.{Debuggee}
 use Rattle.ga_requests.specs.declared.configuration.Configuration.{Configuration}
 use Rattle.ga_responses.specs.Disassembling.{program_notes}
 
--- at most so many events are made before a request is looked for again
+-- the maximum number of events before the next look for a request
 abbrev pub slice_limit : ℕ
 slice_limit = 4096
 
@@ -65,7 +66,7 @@ abbrev pub Advances : Goal → Debuggee → Configuration → Execution → Debu
 Advances Continue p set r new next went = GoesOn p set r new next went
 Advances (Step by) p set r new next went = StepsOn by p set r new next went
 
--- ---- why the run ends behind them
+-- ---- why the run ends after them
 
 -- the node of what was made, of a pass its reader
 abbrev pub node_told : Made → NodeId
@@ -120,7 +121,7 @@ abbrev pub IsFirstNewly : (ℕ → Bool) → (ℕ → Bool) → Debuggee → Opt
 IsFirstNewly known now p None = (n : ℕ) → n < 144 → is_newly known now p n ≡ false
 IsFirstNewly known now p (Some node) = (is_newly known now p node.number ≡ true) × ((n : ℕ) → n < node.number → is_newly known now p n ≡ false)
 
--- the filter says whether the client is told
+-- the client is told only if the filter is on
 abbrev pub asked_stuck : Bool → Option NodeId → Option NodeId
 asked_stuck true stuck = stuck
 asked_stuck false stuck = None
@@ -130,8 +131,9 @@ abbrev pub is_stuck_stop : Option StopReason → Bool
 is_stuck_stop (Some (stop.Stuck node)) = true
 is_stuck_stop _ = false
 
--- The nodes of which the client was told behind a slice, before which those were stuck and behind which these are: with one that is told all are; a
--- node that came to be stuck and was not told, since the run ended for another reason, is not among them; nor is any, where the filter is off.
+-- The deadlocked nodes that were reported to the client, after a slice, by those that were deadlocked before it and are after
+-- it: if one is reported, all are. A node that became deadlocked and wasn't reported, since the run ended for another reason,
+-- is not among them; nor is any if the filter is off.
 abbrev pub reported_behind : Bool → Option StopReason → List Bool → List Bool → List Bool
 reported_behind asked result before now = if asked then (if is_stuck_stop result then now else before) else replicate 144 false
 
@@ -149,7 +151,7 @@ MakesEvents goal before p set r new next result =
     × (result ≡ stop_by set goal stuck went.halt)
     × (next ≡ goal_behind (record between { reported = reported_behind set.stuck result before now }) result)
 
--- a slice that begins with a stuck node of which the client was not told makes no event: it is told
+-- a slice that begins with an unreported deadlocked node makes no event: it reports the node
 abbrev pub MakesUnless : Option NodeId → Goal → List Bool → Debuggee → Configuration → Execution → Debuggee → Execution → Option StopReason → Type 0
 MakesUnless (Some node) goal before p set r new next result =
     (new ≡ p) × (next ≡ record r { goal = None; reported = before }) × (result ≡ Some (stop.Stuck node))

@@ -42,7 +42,7 @@ ids_hit told s placed = map (λ (one : SetBy). one.id) (filter (is_one_hit told 
 abbrev pub fault_message : Debuggee → ℕ → Text → Message
 fault_message p n behind = stopped (codes "exception") (codes "node " ++ named_activity (chip_of p.lab) n ++ behind) n
 
--- `stopped` where a run ended for this reason; where it did at no node, the first that has something to show is told
+-- `stopped` if a run ended for this reason; if it ended at no node, the message names the first node that has something to show
 abbrev pub stop_message : Debuggee → List SetBy → ℕ → StopReason → Message
 stop_message p placed first (stop.Step node) = stopped (codes "step") (codes "step") node.number
 stop_message p placed first (stop.Breakpoint node told) = hit (codes "breakpoint") (codes "breakpoint") node.number (ids_hit told p.lab placed)

@@ -34,7 +34,7 @@ fn steps_kept(lab: &Lab) -> [u32; 144]
     steps
 }
 
-/// Goes back with a node by a line or a step.
+/// Rolls a node back by a line or a step.
 fn step_by(program: &mut Debuggee, node: NodeId, grain: Grain)
     ensures { program.new ≡ stepped_by grain program.old node }
 {
@@ -46,7 +46,7 @@ fn step_by(program: &mut Debuggee, node: NodeId, grain: Grain)
     }
 }
 
-/// Goes back with a node by a line.
+/// Rolls a node back by a line.
 fn step_line(program: &mut Debuggee, node: NodeId)
     ensures { program.new ≡ stepped_by Grain.Line program.old node }
 {
@@ -60,7 +60,7 @@ fn step_line(program: &mut Debuggee, node: NodeId)
     }
 }
 
-/// Goes back with a node by a line or a step, and says what went.
+/// Rolls a node back by a line or a step, and returns what was removed.
 pub fn step_node_back(program: &mut Debuggee, node: NodeId, arguments: &Value) -> Gone
     ensures program { program.new ≡ stepped_by (grain_asked program.old (view arguments.now)) program.old node }
     ensures node { result.node ≡ node }
@@ -78,7 +78,7 @@ pub fn step_node_back(program: &mut Debuggee, node: NodeId, arguments: &Value) -
     }
 }
 
-/// Goes back with a node to the newest step that hit one of its breakpoints, and says what went.
+/// Rolls a node back to the newest step that hit one of its breakpoints, and returns what was removed.
 pub fn reverse_node(program: &mut Debuggee, node: NodeId, points: &[Breakpoint]) -> Gone
     ensures program { program.new ≡ reversed_by program.old node points.now }
     ensures node { result.node ≡ node }
@@ -95,7 +95,7 @@ pub fn reverse_node(program: &mut Debuggee, node: NodeId, points: &[Breakpoint])
     }
 }
 
-/// The line that tells of the node that was gone back.
+/// The line about the node that was rolled back.
 fn gone_head(alloc: Global, lab: &Lab, gone: &Gone) -> Result<String, AllocError>
     ensures { IfOk result (λ text. string_bytes text ≡ gone_head gone.now.node gone.now.removed lab.now) }
 {
@@ -150,7 +150,7 @@ fn add_gone(
     )
 }
 
-/// The line that tells of another node.
+/// The line about another node.
 fn gone_line(alloc: Global, node: NodeId, first: u64, before: u32) -> Result<String, AllocError>
     ensures { IfOk result (λ text. string_bytes text ≡ gone_line node.number first before) }
 {
@@ -160,7 +160,7 @@ fn gone_line(alloc: Global, node: NodeId, first: u64, before: u32) -> Result<Str
     Ok(text)
 }
 
-/// Adds the line that tells of another node.
+/// Adds the line about another node.
 fn add_line(
     alloc: Global,
     text: &mut String,

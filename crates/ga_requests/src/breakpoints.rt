@@ -38,7 +38,7 @@ fn elsewhere(alloc: Global) -> Result<Value, AllocError>
     json!(in alloc; {"message": "the program is another file", "verified": false})
 }
 
-/// What is told of each breakpoint where another file is asked for.
+/// What is sent for each breakpoint if the request names another file.
 #[tactic(auto, using(std::proofs::lemmas::List::map_push, std::proofs::lemmas::List::replicate_more))]
 fn place_nowhere(alloc: Global, count: usize) -> Result<Vec<Value>, AllocError>
     ensures { IfOk result (λ list. map view list.items ≡ replicate count elsewhere) }
@@ -85,7 +85,7 @@ fn count_asked(arguments: &Value) -> usize
     values_at(arguments, "breakpoints").len()
 }
 
-/// Tells that no breakpoint stands in another file.
+/// Reports that no breakpoint can be in another file.
 fn tell_nowhere(alloc: Global, request: &ClientRequest, out: &mut Outbox) -> Result<(), AllocError>
     ensures sent { OnOk result (Sends out.old (answered request.now (breakpoints_body (replicate (length (member_values (codes "breakpoints") (view request.now.arguments))) elsewhere))) out.new) }
     ensures err { OnErr result (out.new ≡ out.old) }
@@ -96,7 +96,7 @@ fn tell_nowhere(alloc: Global, request: &ClientRequest, out: &mut Outbox) -> Res
     out.respond(request, body)
 }
 
-/// No breakpoint is placed yet behind those that other requests set.
+/// No breakpoint is placed yet after those that other requests set.
 fn placing_new(alloc: Global, placed: Vec<SetBy>, next: u64) -> Placing
     ensures { placement_of result ≡ record { told = []; placed = placed.items; next = next } }
 {
@@ -125,7 +125,7 @@ fn placing_of(
     Ok(placing)
 }
 
-/// Sets the breakpoints that were placed, and tells of each.
+/// Sets the breakpoints that were placed, and reports each.
 fn set_placing(
     alloc: Global,
     placing: Placing,

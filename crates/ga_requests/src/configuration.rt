@@ -80,7 +80,7 @@ pub(crate) fn breakpoints_of(alloc: Global, placed: &[SetBy]) -> Result<Vec<Brea
     Ok(list)
 }
 
-/// Whether what was made, the newest event, hit a breakpoint as it is asked for.
+/// Whether this event, the newest, hit a breakpoint and satisfied its hit condition.
 #[tactic(auto, unfolding(crate::specs::Stopping::is_one_hit))]
 fn is_one_hit(lab: &Lab, made: &Made, one: SetBy) -> bool
     ensures { result ≡ is_one_hit made.now lab.now one }

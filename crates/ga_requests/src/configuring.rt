@@ -26,7 +26,7 @@ fn shown_of(program: &Debuggee) -> [bool; 144]
     shown_nodes(&program.lab, program.nodes.as_slice())
 }
 
-/// `configurationDone`: the threads are told, and the chip stands at load or runs.
+/// `configurationDone`: sends the threads; the chip is then stopped at load or runs.
 pub fn configure(
     alloc: Global,
     program: &Debuggee,
@@ -60,7 +60,7 @@ fn configure_if(
     }
 }
 
-/// Answers `configurationDone`, and tells of the threads.
+/// Answers `configurationDone`, and sends the threads.
 fn tell_threads_started(
     alloc: Global,
     request: &ClientRequest,
@@ -73,7 +73,7 @@ fn tell_threads_started(
     tell_changed(alloc, &[false; 144], now, out)
 }
 
-/// `configurationDone` for the first time: the threads are told, and the chip stands at load or runs.
+/// `configurationDone` for the first time: sends the threads; the chip is then stopped at load or runs.
 fn configure_once(
     alloc: Global,
     program: &Debuggee,
@@ -90,7 +90,7 @@ fn configure_once(
     begin_so(alloc, program, execution, stops, out)
 }
 
-/// The chip stands at load, or runs.
+/// The chip is stopped at load, or runs.
 fn begin_so(
     alloc: Global,
     program: &Debuggee,

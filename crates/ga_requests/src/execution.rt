@@ -34,20 +34,20 @@ pub enum Goal {
     Step(Stepping),
 }
 
-/// How the order goes on, and the run that is under way.
+/// The next schedule, and the run in progress.
 #[derive(Clone, Copy)]
 pub struct Execution {
-    /// How the order goes on.
+    /// The next schedule.
     pub schedule: Schedule,
-    /// What the run under way is for; none where the chip stands.
+    /// The goal of the run in progress; none if the chip is stopped.
     pub goal: Option<Goal>,
     /// How often each breakpoint was hit, while a run is under way and none was set since.
     pub tally: Option<HitTally>,
     /// Whether the client ended the configuration.
     pub is_configured: bool,
-    /// Whether the chip stands at load until the client goes on.
+    /// Whether the chip is stopped at load until the client continues.
     pub stops_on_entry: bool,
-    /// The nodes that were stuck when the client was last told of such a node, as far as they are stuck still.
+    /// The nodes that were deadlocked when a deadlock was last reported to the client, as far as they still are.
     pub reported: [bool; 144],
 }
 
@@ -238,7 +238,7 @@ fn ended_stuck(asked: bool, stuck: Option<NodeId>, other: Option<StopReason>) ->
     }
 }
 
-/// Why a run ended behind a slice that went so; none where it goes on.
+/// Why a run ended after a slice with this result; none if it continues.
 fn stop_by(
     settings: &Configuration,
     goal: Goal,
@@ -291,7 +291,7 @@ fn make_slice_for(
     }
 }
 
-/// The stuck node that the client is to be told of, where it asks for that.
+/// The deadlocked node to report to the client, if the filter is on.
 fn unreported(
     program: &Debuggee,
     settings: &Configuration,
@@ -320,7 +320,8 @@ fn is_stuck_stop(stop: &Option<StopReason>) -> bool
     }
 }
 
-/// Keeps of which nodes the client was told behind a slice: where it was told of one, all that are stuck then; none where it doesn't ask for that.
+/// Stores which deadlocked nodes were reported to the client, after a slice: if one was, all that are deadlocked then; none if
+/// the filter is off.
 fn keep_reported(
     execution: &mut Execution,
     asked: bool,
@@ -355,7 +356,7 @@ fn make_slice_of(
     }
 }
 
-/// Ends a run before it makes an event, since a node is stuck of which the client was not told.
+/// Ends a run before it makes an event, since a node is deadlocked that wasn't reported to the client.
 fn report(execution: &mut Execution, node: NodeId, stuck: &[bool; 144]) -> StopReason
     ensures reason { result ≡ StopReason.Stuck node }
     ensures next { execution.new ≡ record execution.old { goal = None; reported = stuck.now } }

@@ -1,4 +1,4 @@
-//! Where a breakpoint that is asked for stands.
+//! Where a requested breakpoint is.
 
 ghost use Rattle.std.specs.Prelude.{◌≡◌, ◌<◌, length, position, codes, option_map, option_and_then, Some, IfSome};
 ghost use Rattle.serde_json.specs.View.{view};
@@ -20,14 +20,14 @@ use ga_responses::{Debuggee, cell_referred, cells_on, offset_at};
 use ga_text::node_in;
 use serde_json::Value;
 
-/// Where a breakpoint stands, and on which line of the source, where it does on one.
+/// The place of a breakpoint, and its line in the source, if it is on one.
 #[derive(Clone, Copy, PartialEq, Eq, Debug)]
 pub struct FoundPlace {
     pub breakpoint: Breakpoint,
     pub line: Option<u32>,
 }
 
-/// Why a breakpoint that is asked for is not set.
+/// Why a requested breakpoint is not set.
 #[derive(Clone, Copy, PartialEq, Eq, Debug)]
 pub enum Unplaced {
     /// There is no such place.
@@ -42,7 +42,7 @@ pub enum Unplaced {
     Uncounted,
 }
 
-/// Where a breakpoint that is asked for stands; none where there is no such place.
+/// The place of a requested breakpoint; none if there is no such place.
 pub fn found(program: &Debuggee, family: Family, asked: &Value) -> Option<FoundPlace>
     ensures { IsPlaceOf program.now family (view asked.now) result }
 {
@@ -54,7 +54,7 @@ pub fn found(program: &Debuggee, family: Family, asked: &Value) -> Option<FoundP
     }
 }
 
-/// Why there is no such place as a breakpoint is asked for at.
+/// Why there is no such place as the request names.
 fn unfound(family: Family) -> &'static str
     ensures { result.now ≡ unfound_words family }
 {
@@ -126,7 +126,7 @@ fn on_condition(place: FoundPlace, text: &[u8]) -> Result<FoundPlace, Unplaced>
     }
 }
 
-/// A breakpoint at a place, with the condition that is asked for, where one is.
+/// A breakpoint at a place, with the requested condition, if there is one.
 fn with_condition(place: FoundPlace, asked: &Value) -> Result<FoundPlace, Unplaced>
     ensures { result ≡ with_condition place (is_no_text (codes "condition") (view asked.now)) (member_text (codes "condition") (view asked.now)) }
 {
@@ -139,7 +139,7 @@ fn with_condition(place: FoundPlace, asked: &Value) -> Result<FoundPlace, Unplac
     }
 }
 
-/// A breakpoint at a place, with the hits that a text says, where so many breakpoints stand before it.
+/// A breakpoint at a place, with the hit condition of a text, given the number of breakpoints before it.
 fn on_hits(place: FoundPlace, before: usize, text: &[u8]) -> Result<FoundPlace, Unplaced>
     ensures { result ≡ on_hits place before (hits_said text.now) }
 {
@@ -174,7 +174,7 @@ fn with_hits(place: FoundPlace, before: usize, asked: &Value) -> Result<FoundPla
     }
 }
 
-/// The breakpoint that is asked for at a place, where its condition and its hit condition can be read.
+/// The requested breakpoint at a place, if its condition and its hit condition can be parsed.
 fn asked_there(place: FoundPlace, before: usize, asked: &Value) -> Result<FoundPlace, Unplaced>
     ensures { result ≡ asked_there place before (view asked.now) }
 {
@@ -184,7 +184,7 @@ fn asked_there(place: FoundPlace, before: usize, asked: &Value) -> Result<FoundP
     }
 }
 
-/// The breakpoint that is asked for, where so many stand before it; else why it is not set.
+/// The requested breakpoint, given the number of breakpoints before it; else why it is not set.
 pub fn asked_at(
     found: Option<FoundPlace>,
     before: usize,
@@ -215,7 +215,7 @@ fn found_on_line(notes: &Notes, asked: &Value) -> Option<FoundPlace>
     })
 }
 
-/// The place of a breakpoint that stands on no line.
+/// The place of a breakpoint that is on no line.
 fn on_no_line(point: Option<Breakpoint>) -> Option<FoundPlace>
     ensures { result ≡ option_map on_no_line point }
 {
@@ -234,7 +234,7 @@ fn is_label(name: &Name, label: &[u8]) -> bool
     name.text.as_slice() == label
 }
 
-/// Where the first node's label of this name stands in the list.
+/// The place in the list of the first node's label of this name.
 fn label_place(names: &[Name], label: &[u8]) -> Option<usize>
     ensures { result ≡ position (is_label label.now) names.now }
 {
@@ -303,7 +303,7 @@ fn found_at_label(notes: &Notes, asked: &Value) -> Option<FoundPlace>
     }
 }
 
-/// A breakpoint at so many addresses behind a cell.
+/// A breakpoint a number of addresses after a cell.
 fn at_cell_on(on: u32, at: (NodeId, u8)) -> Option<Breakpoint>
     requires { on < 4096 }
     ensures { result ≡ at_cell_on on at }
@@ -316,7 +316,7 @@ fn at_cell_on(on: u32, at: (NodeId, u8)) -> Option<Breakpoint>
     }
 }
 
-/// A breakpoint at so many addresses behind the cell of a reference to memory.
+/// A breakpoint a number of addresses after the cell of a memory reference.
 fn behind_reference(reference: Option<&str>, on: u32) -> Option<Breakpoint>
     requires { on < 4096 }
     ensures { IsReferredBy (at_cell_on on) (option_map (λ text. text.now) reference.entry) result }
@@ -337,7 +337,7 @@ fn behind_text(text: &str, on: u32) -> Option<Breakpoint>
     }
 }
 
-/// How many addresses behind the reference a breakpoint is asked for.
+/// How many addresses after the reference the requested breakpoint is.
 fn cells_given(asked: &Value) -> u32
     ensures value { result ≡ cells_on (offset_given (codes "offset") (view asked.now)) }
     ensures most { result < 4096 }

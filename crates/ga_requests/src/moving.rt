@@ -45,7 +45,7 @@ pub fn begin_continue(
     Ok(())
 }
 
-/// How far one step goes: by lines where the source has them.
+/// The granularity of one step: lines if the source has them.
 pub fn grain_asked(program: &Debuggee, arguments: &Value) -> Grain
     ensures { result ≡ grain_asked program.now (view arguments.now) }
 {
@@ -75,7 +75,7 @@ pub enum StepKind {
     Out,
 }
 
-/// What is told where no such thread is asked for.
+/// The message if the request names no such thread.
 fn no_thread(kind: StepKind) -> &'static str
     ensures { result.now ≡ no_thread_words kind }
 {
@@ -86,7 +86,7 @@ fn no_thread(kind: StepKind) -> &'static str
     }
 }
 
-/// What is told where the node is stopped.
+/// The message if the node is stopped.
 fn node_stopped(kind: StepKind) -> &'static str
     ensures { result.now ≡ node_stopped_words kind }
 {
@@ -193,7 +193,7 @@ fn begin(
     Ok(())
 }
 
-/// The node of the thread that is asked for, and else another.
+/// The node of the requested thread, else another.
 fn node_or(arguments: &Value, first: NodeId) -> NodeId
     ensures { (asked : Option ANode) × AsksOfThread (view arguments.now) asked × (result ≡ unwrap_or asked first) }
 {
@@ -203,7 +203,7 @@ fn node_or(arguments: &Value, first: NodeId) -> NodeId
     }
 }
 
-/// Tells that a run ended.
+/// Reports that a run ended.
 fn tell_paused(
     alloc: Global,
     program: &Debuggee,
@@ -218,7 +218,7 @@ fn tell_paused(
     tell_stopped(alloc, "pause", "pause", node, out)
 }
 
-/// Tells that no run is under way any longer.
+/// Reports that no run is in progress any longer.
 fn tell_pause(
     alloc: Global,
     program: &Debuggee,

@@ -16,7 +16,7 @@ use std::alloc::{AllocError, Global};
 /// What came of the breakpoints of a request so far.
 #[derive(Drop)]
 pub struct Placing {
-    /// What is told of each breakpoint.
+    /// What is sent for each breakpoint.
     pub told: Vec<Value>,
     /// The breakpoints that are set.
     pub placed: Vec<SetBy>,
@@ -73,7 +73,7 @@ fn verified_on(
     }
 }
 
-/// What is told of a breakpoint.
+/// What is sent for a breakpoint.
 fn told_placed(
     alloc: Global,
     program: &Debuggee,
@@ -120,7 +120,7 @@ fn add_one(
     Ok(())
 }
 
-/// Sets a breakpoint where it was found, and tells of it.
+/// Sets a breakpoint at the place that was found, and reports it.
 fn place_found(
     alloc: Global,
     program: &Debuggee,
@@ -138,7 +138,7 @@ fn place_found(
     Ok(())
 }
 
-/// Sets a breakpoint that is asked for where it can stand, and tells of it.
+/// Sets a requested breakpoint if it has a place, and reports it.
 fn place_one(
     alloc: Global,
     program: &Debuggee,
@@ -153,7 +153,7 @@ fn place_one(
     place_found(alloc, program, family, asked, placing)
 }
 
-/// Sets each breakpoint that is asked for where it can stand, and tells of it.
+/// Sets each requested breakpoint that has a place, and reports it.
 #[tactic(auto, using(crate::proofs::Placed::places_on, crate::proofs::Placed::behind_one))]
 pub(crate) fn place_all(
     alloc: Global,

@@ -1,4 +1,4 @@
-//! What a client is told where a run ended.
+//! What is sent to a client when a run ended.
 
 ghost use Rattle.std.specs.Prelude.{◌≡◌, ◌++◌, Some, codes, string_bytes, IfOk, OnOk, OnErr};
 ghost use Rattle.serde_json.specs.View.{view};
@@ -31,7 +31,7 @@ fn words_of(why: LabFault) -> &'static str
     }
 }
 
-/// What `exceptionInfo` describes, with a text behind it.
+/// The description of `exceptionInfo`, followed by a text.
 fn text_behind(alloc: Global, info: &Value, behind: &str) -> Result<String, AllocError>
     ensures { IfOk result (λ text. (does : Text) → member_text (codes "description") (view info.now) ≡ Some does → string_bytes text ≡ does ++ behind.now) }
 {
@@ -43,7 +43,7 @@ fn text_behind(alloc: Global, info: &Value, behind: &str) -> Result<String, Allo
     Ok(text)
 }
 
-/// Tells of a node that can't go on, and why.
+/// Reports a node that can't continue, and why.
 fn tell_fault(
     alloc: Global,
     program: &Debuggee,
@@ -59,7 +59,7 @@ fn tell_fault(
     tell_stopped(alloc, "exception", text.as_str(), node, out)
 }
 
-/// Tells of the breakpoints that what was made hit.
+/// Reports the breakpoints that this event hit.
 fn tell_hits(
     alloc: Global,
     program: &Debuggee,

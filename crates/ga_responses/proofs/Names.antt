@@ -1,4 +1,4 @@
--- Each request that is known stands in the list of all.
+-- Each known request is in the list of all.
 use Rattle.std.proofs.Common.{◌≡◌, ◌<◌, ℕ, refl, arith}
 use Rattle.ga_responses.specs.declared.request_name.RequestName.{RequestName}
 use Rattle.ga_responses.specs.declared.request_name.RequestName.TheVariants as the

@@ -7,7 +7,7 @@ use Rattle.ga_grid.specs.declared.node_id.NodeId.{NodeId}
 use Rattle.ga_adapter.specs.Numbers.{named_digits, chip_address}
 use Rattle.ga_responses.specs.Disassembling.{SpellsHexadecimal, SpellsReference, RefersTo}
 
--- behind 0x the same digits stand
+-- the same digits follow 0x
 same_digits : (text first other : Text) → text ≡ codes "0x" ++ first → text ≡ codes "0x" ++ other → first ≡ other
 same_digits text first other one two = ap (λ (z : Text). drop 2 z) (sym one ∙ two)
 

@@ -19,7 +19,7 @@ use Rattle.std.proofs.lemmas.Grind.{get_or-set_at}
 use Rattle.ga_causal.specs.Dependence.{is_marked}
 use Rattle.ga_responses.specs.Events.{changed_messages, changed_below}
 
--- ---- what is told of memory, by what the request says of it
+-- ---- what is sent about memory, by what the request names
 
 pub with_reference : (p : Debuggee) (request : ClientRequest) (a b : Option Text) (message : Message) → a ≡ b → TellsReferred p request a message → TellsReferred p request b message
 with_reference p request a b message e told = subst (λ (z : Option Text). TellsReferred p request z message) e told
@@ -44,7 +44,7 @@ pub sent_next : (old : SentMessages) (xs : List Message) (between : SentMessages
     → SendsAll old (xs ++ (message ∷ [])) new
 sent_next old xs between message new first one = sent_both old xs between (message ∷ []) new first (sent_one between message new one)
 
--- what holds where a call went well, told otherwise
+-- what holds if a call succeeded, in other words
 pub ok_then : {T E P Q : Type 0} → (r : Result T E) → OnOk r P → (P → Q) → OnOk r Q
 ok_then (Ok x) p f = f p
 ok_then (Err e) p f = tt

@@ -28,12 +28,12 @@ values_or (Some items) = values_of items
 abbrev pub member_values : Text → Data → List Data
 member_values name d = values_or (option_and_then as_array (get name d))
 
--- the node of the thread that is asked for, or that there is none
+-- the node of the requested thread, or that there is none
 abbrev pub AsksOfThread : Data → Option NodeId → Type 0
 AsksOfThread d (Some node) = member_number (codes "threadId") d ≡ Some (thread_of node.number)
 AsksOfThread d None = (n : ℕ) → n < 144 → member_number (codes "threadId") d ≢ Some (thread_of n)
 
--- the node of the frame that is asked for, or that there is none
+-- the node of the requested frame, or that there is none
 abbrev pub AsksOfFrame : Data → Option NodeId → Type 0
 AsksOfFrame d (Some node) = (level : ℕ) × (level < 16) × (member_number (codes "frameId") d ≡ Some (frame_of node.number level))
 AsksOfFrame d None = (n level : ℕ) → n < 144 → level < 16 → member_number (codes "frameId") d ≢ Some (frame_of n level)

@@ -30,7 +30,7 @@ program_notes p = notes_or p.source p.unsaid
 abbrev pub IsFileOf : Debuggee → SourceFile → Type 0
 IsFileOf p file = (file.name.now ≡ string_bytes p.name) × (file.path.now ≡ string_bytes p.path)
 
--- a text that is a number in hexadecimal digits, behind 0x
+-- a text that is a number in hexadecimal digits, after 0x
 abbrev pub SpellsHexadecimal : Text → ℕ → Type 0
 SpellsHexadecimal digits number = IsNumeral 16 (without_leading_plus digits) × (digits_value 16 (without_leading_plus digits) ≡ number)
 
@@ -46,14 +46,14 @@ RefersTo text None = (n cell : ℕ) → n < 144 → cell < 256 → SpellsReferen
 abbrev pub offset_given : Text → Data → ℤ
 offset_given name d = unwrap_or (option_and_then as_i64 (option_and_then as_number (get name d))) (pos 0)
 
--- how many addresses on an offset leads, of the 4096 of a node, of which the first comes behind the last
+-- how many addresses further an offset leads, among the 4096 of a node, of which the first follows the last
 abbrev pub cells_on : ℤ → ℕ
 cells_on offset = unsigned_abs (int_rem_euclid offset (pos 4096))
 
 abbrev pub first_told : Data → ℕ → ℕ
 first_told d cell = (cell + (cells_on (offset_given (codes "offset") d) + cells_on (offset_given (codes "instructionOffset") d))) % 4096
 
--- just so many instructions are told as are asked for, and more than 4096 are refused
+-- exactly as many instructions are sent as are requested; more than 4096 are refused
 abbrev pub count_within : ℕ → Option ℕ
 count_within count = if nat_lt 4096 count then None else Some count
 

@@ -23,14 +23,14 @@ thread_body reason n = object (member (codes "reason") (string reason) (member (
 abbrev pub thread_message : Bool → ℕ → Message
 thread_message started n = event_told (codes "thread") (thread_body (thread_reason started) n)
 
--- what is told of a node that had something to show before or not, and has now or not
+-- what is sent about a node that had something to show before or not, and has now or not
 abbrev pub changed_messages : Bool → Bool → ℕ → List Message
 changed_messages false false n = []
 changed_messages false true n = thread_message true n ∷ []
 changed_messages true false n = thread_message false n ∷ []
 changed_messages true true n = []
 
--- what is told of the first nodes, of each that has something to show and had not, or the other way round
+-- what is sent about the first `n` nodes: each that has something to show and had not, or the other way round
 unfoldable pub changed_below : (ℕ → Bool) → (ℕ → Bool) → ℕ → List Message
 changed_below before now zero = []
 changed_below before now (suc n) = changed_below before now n ++ changed_messages (before n) (now n) n
@@ -40,13 +40,13 @@ abbrev pub IsFirstShown : State → List NodeId → ℕ → Type 0
 IsFirstShown s programs n =
     ((has_thread s programs n ≡ true) × ((k : ℕ) → k < n → has_thread s programs k ≡ false)) ⊎ ((n ≡ 0) × ((k : ℕ) → k < 144 → has_thread s programs k ≡ false))
 
--- the chip stands: all nodes do
+-- the chip is stopped: all nodes are
 unfoldable pub stopped_body : Text → Text → ℕ → Data
 stopped_body reason description n =
     object (member (codes "allThreadsStopped") (boolean true) (member (codes "description") (string description) (member (codes "reason") (string reason)
     (member (codes "text") (string description) (member (codes "threadId") (whole_number (thread_of n)) no_members)))))
 
--- the chip stands at breakpoints with these numbers: all nodes do
+-- the chip is stopped at breakpoints with these numbers: all nodes are
 unfoldable pub hit_object : Text → Text → ℕ → Data → Data
 hit_object reason description n ids =
     object (member (codes "allThreadsStopped") (boolean true) (member (codes "description") (string description)

@@ -45,6 +45,6 @@ schedule_by d (Some given) name = option_and_then (schedule_named d) name
 abbrev pub schedule_asked : Data → Option Schedule
 schedule_asked d = schedule_by d (get (codes "order") d) (member_text (codes "order") d)
 
--- whether the nodes are to stand at load until the client goes on
+-- whether the nodes are stopped at load until the client continues
 abbrev pub stops_on_entry : Data → Bool
 stops_on_entry d = unwrap_or (member_flag (codes "stopOnEntry") d) true

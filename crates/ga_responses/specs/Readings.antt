@@ -24,7 +24,7 @@ use Rattle.ga_responses.specs.Sending.{Message, answered, refused_response}
 
 -- ---- the response to `exceptionInfo` (Debug Adapter Protocol, "ExceptionInfoRequest"): why the node of a thread can't go on
 
--- the filter by which the node is told: it stopped, or it can never go on; and else neither
+-- the filter for the node: it stopped, or it is deadlocked; else neither
 abbrev pub exception_filter : ℕ → Bool → Text
 exception_filter stop stuck = if stop == 0 then (if stuck then codes "stuck" else codes "none") else codes "stop"
 

@@ -46,7 +46,7 @@ pub fn number_given_or(value: &Value, name: &str, other: u64) -> u64
     number_at(value, name).unwrap_or(other)
 }
 
-/// The node of the thread that is asked for.
+/// The node of the requested thread.
 pub fn node_asked(arguments: &Value) -> Option<NodeId>
     ensures { AsksOfThread (view arguments.now) result }
 {
@@ -56,7 +56,7 @@ pub fn node_asked(arguments: &Value) -> Option<NodeId>
     }
 }
 
-/// The node of the frame that is asked for.
+/// The node of the requested frame.
 pub fn framed_node_asked(arguments: &Value) -> Option<NodeId>
     ensures { AsksOfFrame (view arguments.now) result }
 {

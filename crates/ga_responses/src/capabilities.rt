@@ -81,7 +81,7 @@ fn unmet(arguments: &Value) -> Option<&'static str>
     None
 }
 
-/// Tells what this debugger can do.
+/// Sends what this debugger can do.
 fn tell_capabilities(
     alloc: Global,
     request: &ClientRequest,

@@ -15,13 +15,13 @@ pub struct Debuggee {
     pub lab: Lab,
     /// What the source says of the cells; nothing of an image.
     pub source: Option<Notes>,
-    /// What is said where there is no source.
+    /// The debug info if there is no source: empty.
     pub unsaid: Notes,
     /// The nodes that have a program in the source.
     pub nodes: Vec<NodeId>,
     /// The path of the file.
     pub path: String,
-    /// What stands behind the last slash of the path.
+    /// The part of the path after its last slash.
     pub name: String,
 }
 

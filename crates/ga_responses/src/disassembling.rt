@@ -12,7 +12,7 @@ use ga_protocol::{ClientRequest, Outbox, number_at, text_at};
 use serde_json::Value;
 use std::alloc::{AllocError, Global};
 
-/// The most instructions that are told at once.
+/// The maximum number of instructions in a response.
 const MOST_INSTRUCTIONS: u64 = 4096;
 
 /// The whole number of a member; 0 where it has none.
@@ -52,7 +52,7 @@ pub fn cells_on(offset: i64) -> u32
     offset.rem_euclid(4096).unsigned_abs() as u32
 }
 
-/// The address of the first instruction that is asked for.
+/// The address of the first requested instruction.
 fn first_told(arguments: &Value, cell: u8) -> u32
     ensures value { result ≡ first_told (view arguments.now) cell }
     ensures most { result < 4096 }
@@ -122,7 +122,7 @@ fn tell_instructions_at(
     }
 }
 
-/// How many instructions are told, where they are not too many.
+/// The number of instructions to send, if it is not too large.
 fn count_within(count: u64) -> Option<u32>
     ensures value { result ≡ count_within count }
     ensures most { IfSome result (λ count. count ≤ 4096) }
@@ -133,7 +133,7 @@ fn count_within(count: u64) -> Option<u32>
     Some(count as u32)
 }
 
-/// Tells so many instructions from a cell on, where they are not too many.
+/// Sends `count` instructions from a cell on, if they are not too many.
 fn tell_counted(
     alloc: Global,
     program: &Debuggee,
@@ -151,7 +151,7 @@ fn tell_counted(
     }
 }
 
-/// Tells so many instructions from a cell on.
+/// Sends `count` instructions from a cell on.
 fn tell_some(
     alloc: Global,
     program: &Debuggee,

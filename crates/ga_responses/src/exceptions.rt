@@ -29,11 +29,11 @@ fn described(alloc: Global, id: &str, description: &str) -> Result<Value, AllocE
     json!(in alloc; {"breakMode": "always", "description": description, "exceptionId": id})
 }
 
-/// The body of the response to `exceptionInfo` (Debug Adapter Protocol, "ExceptionInfoRequest"): the filter by which the node is told,
-/// `none` where neither holds, and what it does. `stuck` says whether it can never go on. Takes memory for the response.
+/// The body of the response to `exceptionInfo` (Debug Adapter Protocol, "ExceptionInfoRequest"): the filter for the node,
+/// `none` if neither holds, and what it does. `stuck` is whether the node is deadlocked. Allocates the response.
 ///
 /// # Errors
-/// Memory was refused.
+/// Allocation failed.
 pub fn exception_info(
     alloc: Global,
     lab: &Lab,

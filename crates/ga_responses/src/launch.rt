@@ -28,7 +28,7 @@ pub fn limit_asked(arguments: &Value) -> Option<u32>
     Some(limit as u32)
 }
 
-/// The seed that is asked for, where that can be; 0 where none is.
+/// The requested seed, if it is valid; 0 if none is requested.
 fn seed_asked(arguments: &Value) -> Option<u32>
     ensures { result ≡ seed_asked (view arguments.now) }
 {
@@ -67,7 +67,7 @@ pub fn schedule_asked(arguments: &Value) -> Option<Schedule>
     }
 }
 
-/// Whether the nodes are to stand at load until the client goes on.
+/// Whether the nodes are stopped at load until the client continues.
 pub fn stops_on_entry(arguments: &Value) -> bool
     ensures { result ≡ stops_on_entry (view arguments.now) }
 {

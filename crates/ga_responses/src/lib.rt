@@ -1,4 +1,4 @@
-//! What a client of the Debug Adapter Protocol is answered to requests that read, and the events that it is told.
+//! Responses to requests that read, and events, for a client of the Debug Adapter Protocol.
 #![tactic(auto)]
 
 mod arguments;

@@ -1,4 +1,4 @@
-//! The events that a client is told.
+//! The events that a client is sent.
 
 ghost use Rattle.std.specs.Prelude.{◌≡◌, ◌<◌, ℕ, codes, length, map, IfOk, OnOk, OnErr};
 ghost use Rattle.serde_json.specs.View.{view};
@@ -76,7 +76,7 @@ pub fn shown_nodes(lab: &Lab, programs: &[NodeId]) -> [bool; 144]
     nodes
 }
 
-/// Tells of the nodes that have something to show and had not, and the other way round.
+/// Sends the nodes that have something to show and had not, and the other way round.
 #[tactic(auto, using(crate::proofs::Sent::none_changed, crate::proofs::Sent::next_changed))]
 pub fn tell_changed(
     alloc: Global,
@@ -101,7 +101,7 @@ fn is_marked(marks: &[bool; 144], node: NodeId) -> bool
     marks[node.index()]
 }
 
-/// Tells of a node that has something to show and had not, or the other way round.
+/// Sends a node that has something to show and had not, or the other way round.
 fn tell_if_changed(
     alloc: Global,
     before: bool,
@@ -150,7 +150,7 @@ fn stopped_body(
     })
 }
 
-/// `stopped` (Debug Adapter Protocol, "StoppedEvent"): the chip stands.
+/// `stopped` (Debug Adapter Protocol, "StoppedEvent"): the chip is stopped.
 pub fn tell_stopped(
     alloc: Global,
     reason: &str,
@@ -210,7 +210,7 @@ fn hit_body(
     hit_object(alloc, reason, description, node, Value::Array(numbers))
 }
 
-/// `stopped` at breakpoints (Debug Adapter Protocol, "StoppedEvent"): the chip stands.
+/// `stopped` at breakpoints (Debug Adapter Protocol, "StoppedEvent"): the chip is stopped.
 pub fn tell_hit(
     alloc: Global,
     reason: &str,

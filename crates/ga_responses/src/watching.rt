@@ -110,7 +110,7 @@ fn ram_cell_named(text: &[u8]) -> Option<u8>
     }
 }
 
-/// What is told of a cell of RAM.
+/// What is sent about a cell of RAM.
 fn watched_cell(alloc: Global, node: NodeId, cell: Option<u8>) -> Result<Value, AllocError>
     ensures { IfOk result (λ v. view v ≡ watched_cell node cell) }
 {
@@ -128,7 +128,7 @@ fn watched_named(alloc: Global, node: NodeId, cell: u8) -> Result<Value, AllocEr
     watched_object(alloc, id.as_str(), description.as_str())
 }
 
-/// What is told of the variable of a name in the RAM of a node.
+/// What is sent about the variable of a name in the RAM of a node.
 fn watched_in_ram(alloc: Global, node: NodeId, name: Option<&str>) -> Result<Value, AllocError>
     ensures { IfOk result (λ v. view v ≡ watched_in Ram node (option_map (λ text. text.now) name.entry)) }
 {
@@ -138,7 +138,7 @@ fn watched_in_ram(alloc: Global, node: NodeId, name: Option<&str>) -> Result<Val
     }
 }
 
-/// What is told of the variable of a name in a scope.
+/// What is sent about the variable of a name in a scope.
 fn watched_in(
     alloc: Global,
     scope: Scope,
