@@ -88,7 +88,7 @@ serves_heard room m read rest text last (Err failed) h = record {
   whole = h.whole;
 }
 
--- to the end of the input or to `quit` nothing is said
+-- up to the end of the input or to `quit` nothing is written
 pub serves_silent : (room : ℕ) (m : Silent) (read rest text : List ℕ) (last : Silent) (ending : Result Ending WriteFailed) → status_of ending ≡ Done
     → Serves Silently room m read rest text last ending → text ≡ []
 serves_silent room m read rest text last (Ok Ended) e h = nothing_said m.explorer _ text last.explorer (answers_heard m _ text last h.answers)
@@ -183,7 +183,7 @@ written_none : (ending : Result Ending WriteFailed) → status_of ending ≡ Don
 written_none (Ok done) e = refl
 written_none (Err failed) e = cc
 
--- behind a text on which a machine was opened
+-- after a text that opened a machine
 pub reaches_after : (chip : Option (List ℕ)) (limit : ℕ) (text commands rest written : List ℕ) (machine : Exploring) (result : Result Exploring Status) → IsFront text (commands ++ rest) → OpensFront chip text limit machine
     → Goes (input_limit - length text) machine commands rest written result → FollowsTo chip limit (text ++ commands) rest written result
 reaches_after chip limit text commands rest written machine (Ok last) front opens g =
@@ -208,7 +208,7 @@ nothing_short : IsShort [] → ⊥
 nothing_short (inl e) = absurd (omega (arith, ap length e))
 nothing_short (inr e) = absurd (omega (arith, ap length e))
 
--- no answer tells of nothing
+-- no answer reports nothing
 pub quiet_notes : (wanting : Bool) (answer : List ℕ) → answer ≡ [] → Notes wanting answer wanting
 quiet_notes wanting answer e same = (same, λ told. nothing_short (subst IsShort e told))
 

@@ -1,4 +1,4 @@
--- Rows, marks and groups put one behind another.
+-- Rows, marks and groups appended one after another.
 use Rattle.std.proofs.Common.{⊎_elim, ◌≡◌, ℕ, zero, suc, ◌+◌, ◌==◌, ◌&&◌, ◌||◌, Bool, true, false, List, [], ◌∷◌, ◌++◌, refl, sym, ap, ◌∙◌, subst, add-one, arith, true≢false, ◌<◌, ◌≤◌, length, take, get_or, append_assoc, drop, Some, None}
 use Rattle.std.specs.Prelude.{not, if◌then◌else◌, map, nat_le, flat_map}
 use Rattle.std.specs.List.{All}
@@ -14,7 +14,7 @@ use Rattle.ga_picture.specs.Drawing.{IsRow}
 use Rattle.ga_picture.specs.Picture.{IsGroup, AreGroups, row_from}
 use Rattle.ga_picture.specs.declared.race_marks.RaceMark.{RaceMark}
 
--- ---- rows put one behind another
+-- ---- rows appended one after another
 
 rows_none : (items : List PictureItem) (fold : ℕ) → rows_below items fold zero ≡ []
 unfolding rows_below
@@ -63,7 +63,7 @@ laid_same items fold lines place rows a has = record {
   drawn = a.drawn;
 }
 
--- what the code tells of an event is what it is by the definition
+-- what the code computes for an event is its value by the definition
 pub steps_are : (items : List PictureItem) (fold place : ℕ) (item : PictureItem) (before behind steps : ℕ) → at_place items place ≡ item → before ≡ before_at items place
     → behind ≡ behind_at items place → steps ≡ drawn_with item before behind fold → steps ≡ steps_at items fold place
 steps_are items fold place item before behind steps here b f s =
@@ -96,9 +96,9 @@ steps_shown item shown steps before behind fold simple s many one = ⊎_elim
     (λ f. many f)
     (cases_Bool (is_a_pass item.cause.event))
 
--- ---- groups one behind another
+-- ---- groups one after another
 
--- the groups of these classes behind a head
+-- the groups of these classes after a head
 abbrev pub AreBehind : List ℕ → List (List ℕ) → List ℕ → Type 0
 AreBehind head classes text = (groups : List ℕ) × AreGroups classes groups × (text ≡ head ++ groups)
 
@@ -123,9 +123,9 @@ classes_next f xs at x within is =
 pub classes_all : {A : Type 0} (f : A → List ℕ) (xs : List A) (at : ℕ) (head text : List ℕ) → length xs ≤ at → AreBehind head (map f (take at xs)) text → AreBehind head (map f xs) text
 classes_all f xs at head text past b = subst (λ z. AreBehind head (map f z) text) (take_all at xs past) b
 
--- ---- marks put one behind another
+-- ---- marks appended one after another
 
--- the first row of the rest is that of the event, or the search goes on behind it
+-- the first row of the rest is that of the event, or the search continues after it
 pub row_next : (rows : List PictureRow) (start place at : ℕ) (d : PictureRow) (same : Bool) → at < length rows → same ≡ ((get_or rows at d).place + start == place)
     → row_from (drop at rows) start place at ≡ (if same then Some at else row_from (drop (at + 1) rows) start place (at + 1))
 row_next rows start place at d same l e =

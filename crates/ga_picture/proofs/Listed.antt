@@ -109,7 +109,7 @@ arrow_drawn e lines columns w r side k j is at to h = record {
   head = subst (λ z. IsLineOf lines (slice_index columns z) r.number) (sym to) (h r.number (reader_touches e w r side is));
 }
 
--- ---- which nodes run behind the events of a list, gone through from its end
+-- ---- which nodes run after the events of a list, visited from its end
 
 -- what holds once the events from a place on are gone through
 pub record ArePlain (ready : ℕ → Bool) (events : List Cause) (from : ℕ) (flags : List Bool) (runs : ℕ → Bool) : Type 0 where

@@ -312,7 +312,7 @@ alone_none items tally flags a held none off n = (
   λ b. absurd (both_ways _ (none b.other (touched_small items b.other b.beside)) (not_free_joined items tally b.other a held b.beside b.joined)),
 )
 
--- ---- what is told of them
+-- ---- what the foot has of them
 
 abbrev told_at : List PictureItem → ℕ → ByItself
 told_at items n = record { node = node_id n; steps = steps_made items n }

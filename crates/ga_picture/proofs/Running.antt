@@ -50,7 +50,7 @@ before_more items place runs more item a here sizes within counts = record {
       ∙ sym (before_one n shade items place) ∙ ap (run_before n shade items) (sym (add-one place));
 }
 
--- the runs from a place on, with what was told of each event from there on
+-- the runs from a place on, with the number computed for each event from there on
 pub record AreBehind (items : List PictureItem) (from : ℕ) (told : List ℕ) (runs : Runs) : Type 0 where
   pub size : length told ≡ length items
   pub sizes : HasNodes runs

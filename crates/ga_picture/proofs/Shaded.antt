@@ -1,4 +1,4 @@
--- The events on which one depends, and colours and lines put one behind another.
+-- The events on which one depends, and colours and lines appended one after another.
 use Rattle.std.proofs.Common.{◌≡◌, ℕ, ◌==◌, Bool, true, false, List, [], ◌∷◌, refl, sym, subst, ⊎_elim, eqb-true, eq-eqb, ◌+◌, ◌<◌, ◌≤◌, ◌⊎◌, ◌↔◌, ◌||◌, length, set, replicate, ◌∙◌, inl, inr, arith, IsTrue, slice_index_or, length-set, get_or-set_same, get_or-set_other, zero, suc, ◌++◌, Some, ap, slice_get, slice_index, length-append, Option}
 use Rattle.std.specs.List.{list_any}
 use Rattle.std.proofs.lemmas.Bool.{or_left, or_right, or_cases, both_ways, cases_eq, cases_Bool}
@@ -152,9 +152,9 @@ grounds_not es last at flags marks l u g f =
       ];
     }
 
--- ---- lines put one behind another, and what stands at an index of a list that grows
+-- ---- lines appended one after another, and the entry at an index of a growing list
 
--- nothing stands in an empty list
+-- an empty list has no entry
 pub none_at : {A : Type 0} (i : ℕ) (x : A) → slice_get [] i ≡ Some x → ⊥
 none_at i x e = let b : i < 0 = slice_get_within [] i x e in omega arith
 

@@ -20,7 +20,7 @@ use Rattle.ga_picture.specs.declared.by_itself.ByItself.{ByItself}
 
 -- ---- what is drawn
 
--- a rollback of the step takes the event at the place; without such a step none goes
+-- a rollback of the step removes the event at the place; without such a step none is removed
 abbrev pub Goes : List Cause → Option ℕ → ℕ → Type 0
 Goes events None place = ⊥
 Goes events (Some step) place = DependsOn events step place
@@ -71,7 +71,7 @@ abbrev pub shade_of : Shape → Shade
 shade_of (Mark line look steps shade) = shade
 shade_of (Arrow from to shade) = shade
 
--- how many events it stands for
+-- how many events it represents
 abbrev pub steps_drawn : Shape → ℕ
 steps_drawn (Mark line look steps shade) = steps
 steps_drawn (Arrow from to shade) = 1
@@ -100,8 +100,8 @@ pub record IsDrawing (items : List PictureItem) (fold : ℕ) (drawing : Drawing)
 
 -- ---- nodes that work by themselves
 
--- Nodes that work by themselves have no line: each of their events is concurrent with each event of another node (Danos and Krivine,
--- "Reversible Communicating Systems", 2004), so that what is drawn of the others tells as much without them.
+-- Independent nodes have no line: each of their events is concurrent with each event of another node (Danos and Krivine,
+-- "Reversible Communicating Systems", 2004), so the picture of the others shows as much without them.
 
 -- the event at the place touches the node, and isn't left out
 pub record IsDrawnOf (items : List PictureItem) (place node : ℕ) : Type 0 where
@@ -115,7 +115,7 @@ pub record IsFree (items : List PictureItem) (node : ℕ) : Type 0 where
   pub apart : (place by other : ℕ) → IsDrawnOf items place node → IsDrawnOf items by other → other ≢ node
       → AreApart (at_place items place).cause (at_place items by).cause
 
--- The node works by itself, beside nodes of which that can't be said.
+-- The node is independent, and not all nodes are.
 pub record IsByItself (items : List PictureItem) (node : ℕ) : Type 0 where
   pub works : IsTouched items node
   pub free : IsFree items node

@@ -20,19 +20,20 @@ use Rattle.ga_picture.specs.declared.view.View.{View}
 
 -- ---- a session whose answers are dropped
 
--- the answer tells that memory was wanting: to a command, or to an event of a run
+-- the answer reports out of memory: of a command, or of an event of a run
 abbrev pub IsShort : Text → Type 0
 IsShort answer = (answer ≡ advised_text Memory) ⊎ (take 7 answer ≡ codes "memory ")
 
--- the line is answered as exploring may answer it, and nothing is said
+-- the line is answered as exploring may answer it, and nothing is written
 abbrev pub Hears : Exploring → Line → Text → Exploring → Type 0
 Hears s line said new = (said ≡ []) × (answer : Text) × Explores s line answer new
 
--- the line is answered as exploring may answer it, nothing is said, and no memory was wanting for it
+-- the line is answered as exploring may answer it, nothing is written, and no allocation failed for it
 abbrev pub Follows : Exploring → Line → Text → Exploring → Type 0
 Follows s line said new = (said ≡ []) × (answer : Text) × Explores s line answer new × (¬ IsShort answer)
 
--- The text, an image or source, was accepted, and so was the image that is given for its chip, if one is; and the lines behind it were followed to this machine and this ending.
+-- The text, an image or source, was accepted, and so was the image that gives its chip, if there is one; and the lines after it
+-- led to this machine and this ending.
 pub record Followed (A : Answering Exploring) (chip : Option Text) (limit : ℕ) (read rest : Bytes) (written : Text) (last : Exploring) (ending : Result Ending WriteFailed) : Type 0 where
   pub text : Text
   pub commands : Bytes
@@ -60,7 +61,7 @@ pub data Unreached (chip : Option Text) (limit : ℕ) (read rest : Bytes) (text 
   short : (last : Exploring) → (ending : Result Ending WriteFailed) → status_of ending ≡ Done → Followed Hears chip limit read rest [] last ending
       → Declines Memory text status → Unreached chip limit read rest text status
 
--- Where the input was followed to its end, or to `quit`, nothing is written, and the machine is the one behind all lines.
+-- If the input was executed to its end, or to `quit`, nothing is written, and the machine is the one after all lines.
 abbrev pub FollowsTo : Option Text → ℕ → Bytes → Bytes → Text → Result Exploring Status → Type 0
 FollowsTo chip limit read rest text (Ok last) =
     (text ≡ []) × (ending : Result Ending WriteFailed) × (status_of ending ≡ Done) × Followed Follows chip limit read rest [] last ending
@@ -68,7 +69,7 @@ FollowsTo chip limit read rest text (Err status) = Unreached chip limit read res
 
 -- ---- what a session that ends with a picture may write, and its status
 
--- a step that is asked for doesn't stand; or all do, and memory was wanting for the picture
+-- a requested step doesn't exist; or all do, and an allocation failed for the picture
 abbrev pub HasNoPicture : State → View → LabFault → Type 0
 HasNoPicture s view Waiting = ⊥
 HasNoPicture s view Stopped = ⊥

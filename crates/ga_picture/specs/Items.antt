@@ -24,7 +24,7 @@ abbrev pub runs_on : (ℕ → Bool) → List Cause → ℕ → Bool
 runs_on ready [] n = ready n
 runs_on ready (e ∷ es) n = if cause_touches e n then not (is_a_pass e.event) else runs_on ready es n
 
--- an own event without a look, of a node that runs behind it: a fetch or an opcode, and neither a wait nor a stop
+-- an own event that is no look, of a node that runs after it: a fetch or an opcode, and neither a wait nor a stop
 abbrev pub is_plain : (ℕ → Bool) → Cause → Bool
 is_plain runs e = not (is_a_pass e.event) && (not e.look && runs (actor e.event))
 
@@ -35,7 +35,7 @@ is_plain_at ready events place = is_plain (runs_on ready (drop (place + 1) event
 abbrev pub is_asked_step : Option ℕ → Option ℕ → ℕ → Bool
 is_asked_step cause rewind place = is_number cause place || is_number rewind place
 
--- the colour is that of what is asked for
+-- the colour is that of a requested event
 abbrev pub is_asked_shade : View → Shade → Bool
 is_asked_shade view Red = true
 is_asked_shade view Black = is_some view.cause
@@ -49,8 +49,8 @@ is_narrow view = view.only && (is_some view.cause || is_some view.rewind)
 abbrev pub is_left_out : View → Bool → Shade → Bool
 is_left_out view idle shade = (not view.all && (idle && not (is_asked_shade view shade))) || (is_narrow view && not (is_asked_shade view shade))
 
--- The node of an event has to be drawn for it: the event is asked for, or is a pass, a wait or a stop. Where steps that could have come
--- out otherwise are asked for, so is a look.
+-- The node of an event must be drawn for it: the event is requested, or is a pass, a wait or a stop. If races are requested, so
+-- must that of a look.
 abbrev pub holds_node : View → Cause → Shade → Bool → Bool
 holds_node view e shade plain =
     view.all || (is_asked_shade view shade || (is_a_pass e.event || not (plain || (e.look && not view.races))))
@@ -61,8 +61,8 @@ item_of view e shade plain named idle =
     let out = is_left_out view idle shade in
     record { cause = e; shade = shade; plain = plain && (not named && not out); out = out; holds = holds_node view e shade plain }
 
--- what is known of the kept events: these, their colours, the nodes that are ready behind them, the idle ones, and the places of the
--- steps that are asked for
+-- what is known of the history: its events, their colours, the nodes that are ready after them, the idle ones, and the places
+-- of the requested steps
 pub record Known : Type 0 where
   pub events : List Cause
   pub shades : List Shade
@@ -83,8 +83,8 @@ items_of known view from to = map (item_at known view) (range_with_len from (to 
 
 -- ---- runs of fetches and opcodes of a node, which are drawn as one mark
 
--- What comes between two events of a run has no part in their node, so they can be told together: no event there touches the node or
--- looks at it.
+-- What happens between two events of a run doesn't involve their node, so they can be drawn together: no event there touches
+-- the node or looks at it.
 
 abbrev pub is_same_run : Shade → Shade → Bool
 is_same_run Black Black = true
@@ -103,7 +103,7 @@ no_item = record { cause = no_cause; shade = Black; plain = false; out = true; h
 abbrev pub at_place : List PictureItem → ℕ → PictureItem
 at_place items place = slice_index_or items place no_item
 
--- how many events a run of the node in this colour has with this one, where it had so many
+-- how many events a run of the node in this colour has with this one, if it had `n` without it
 abbrev pub run_with : ℕ → Shade → PictureItem → ℕ → ℕ
 run_with n shade item count =
     if item.plain && (cause_touches item.cause n && is_same_run item.shade shade) then count + 1
@@ -119,14 +119,14 @@ unfoldable pub run_in_front : ℕ → Shade → List PictureItem → ℕ
 run_in_front n shade [] = 0
 run_in_front n shade (item ∷ items) = run_with n shade item (run_in_front n shade items)
 
--- how many of the run of the event at a place come before it, and how many behind it
+-- how many events of the run of the event at a place come before it, and how many after it
 abbrev pub before_at : List PictureItem → ℕ → ℕ
 before_at items place = run_before (actor (at_place items place).cause.event) (at_place items place).shade items place
 
 abbrev pub behind_at : List PictureItem → ℕ → ℕ
 behind_at items place = run_in_front (actor (at_place items place).cause.event) (at_place items place).shade (drop (place + 1) items)
 
--- how many events are drawn together with the one at a place: its run, where that has at least so many
+-- how many events are drawn together with the one at a place: its run, if that has at least `fold` events
 abbrev pub drawn_with : PictureItem → ℕ → ℕ → ℕ → ℕ
 drawn_with item before behind fold =
     let run = before + behind + 1 in if item.plain && (not (fold == 0) && nat_le fold run) then run else 1
@@ -138,7 +138,7 @@ steps_at items fold place = drawn_with (at_place items place) (before_at items p
 abbrev pub has_row : List PictureItem → ℕ → ℕ → Bool
 has_row items fold place = not (at_place items place).out && ((steps_at items fold place == 1) || (before_at items place == 0))
 
--- the places that have rows, of the first so many
+-- the places that have rows, of the first `n`
 unfoldable pub rows_below : List PictureItem → ℕ → ℕ → List ℕ
 rows_below items fold zero = []
 rows_below items fold (suc place) = rows_below items fold place ++ (if has_row items fold place then place ∷ [] else [])

@@ -25,7 +25,7 @@ use Rattle.ga_picture.specs.declared.placing.Drawing.{Drawing}
 use Rattle.ga_picture.specs.declared.item.PictureItem.{PictureItem}
 use Rattle.ga_picture.specs.Items.{Known, items_of}
 
--- ---- the text, as far as it is said of what it consists
+-- ---- the text, as far as its parts are specified
 
 -- how a group of a colour begins
 abbrev pub class_of : Shade → List ℕ
@@ -70,7 +70,8 @@ abbrev pub step_of : Otherwise → NodeId × ℕ
 step_of (Pass race) = (race.reader, race.step)
 step_of (Look reading) = (reading.node, reading.step)
 
--- the index of the row of the event at a place, where it has one; so many of the oldest events are left out, and so many rows stand before
+-- the index of the row of the event at a place, if it has one; `start` of the oldest events are left out, and `at` rows come
+-- before
 abbrev pub row_from : List PictureRow → ℕ → ℕ → ℕ → Option ℕ
 row_from [] start place before = None
 row_from (row ∷ rows) start place before = if row.place + start == place then Some before else row_from rows start place (before + 1)
@@ -101,7 +102,7 @@ marks_of events start rows races readings = marks_of_passes events start rows ra
 
 -- ---- what a picture shows of a machine's kept events
 
--- the step stands, where one is given
+-- the step exists, if one is given
 abbrev pub stands_for : State → Option (NodeId × ℕ) → Bool
 stands_for s None = true
 stands_for s (Some step) = stands s step.0.number step.1
@@ -115,11 +116,11 @@ abbrev pub place_for : List Cause → Option (NodeId × ℕ) → Option ℕ
 place_for events None = None
 place_for events (Some step) = place_of events step.0.number step.1
 
--- the events behind the last one that is looked at are left out
+-- the events after the last one that is in view are left out
 abbrev pub end_in : List Cause → View → ℕ
 end_in events view = min (length events) view.to
 
--- so many of the oldest events are left out
+-- how many of the oldest events are left out
 abbrev pub start_in : List Cause → View → ℕ
 start_in events view = min (end_in events view) view.from
 
@@ -132,8 +133,8 @@ known_of events ready idle view shades =
 abbrev pub items_in : List Cause → (ℕ → Bool) → (ℕ → Bool) → View → List Shade → List PictureItem
 items_in events ready idle view shades = items_of (known_of events ready idle view shades) view (start_in events view) (end_in events view)
 
--- Each event that is looked at is drawn, unless it is left out, in the colour that it has by its dependence on the step whose causes are
--- asked for and on the one whose rollback is. Nodes that work by themselves are left out, and told.
+-- Each event in view is drawn, unless it is left out, in the colour that it has by its dependence on the step whose causes are
+-- requested and on the one whose rollback is. Independent nodes are left out, and listed at the foot.
 pub record IsPictureOf (events : List Cause) (ready idle : ℕ → Bool) (view : View) (drawing : Drawing) : Type 0 where
   pub shades : List Shade
   pub shaded : AreShades events (place_for events view.cause) (place_for events view.rewind) shades
@@ -154,7 +155,7 @@ pub record IsPicture (s : State) (view : View) (drawing : Drawing) : Type 0 wher
   pub are_idle : MarksIdle s idle
   pub drawn : IsPictureOf (causes_of s) ready idle view drawing
 
--- where they are asked for, the marks of the passes and looks that `races` tells: of the looks all that a near change leads to
+-- if requested, the marks of the passes and looks that `races` prints: of the looks all that a near change leads to
 pub record AreRaceMarks (s : State) (view : View) (rows : List PictureRow) (marks : List RaceMark) : Type 0 where
   pub readings : List Reading
   pub told : All (IsTold s None) readings

@@ -85,15 +85,15 @@ pub record HasJoined (tally : Tally) : Type 0 where
 
 -- ---- what private contracts, invariants and bridges cite
 
--- where memory is not told to be wanting afterwards, it was not before, nor for this answer
+-- if no failed allocation is noted afterwards, none was before, nor for this answer
 abbrev pub Notes : Bool → Text → Bool → Type 0
 Notes before answer after = after ≡ false → (before ≡ false) × (¬ IsShort answer)
 
--- exploring may answer the line so, here nothing is said, and it is noted whether memory was wanting
+-- exploring may answer the line so, nothing is written here, and it is noted whether an allocation failed
 abbrev pub HearsLine : Exploring → Bool → Line → Text → Exploring → Bool → Type 0
 HearsLine s before line said new after = (said ≡ []) × (answer : Text) × Explores s line answer new × Notes before answer after
 
--- From this machine the commands are followed, up to so many bytes of them.
+-- From this machine the commands are executed, up to `room` bytes of them.
 abbrev pub Goes : ℕ → Exploring → Bytes → Bytes → Text → Result Exploring Status → Type 0
 Goes room s read rest text (Ok last) =
     (text ≡ []) × (ending : Result Ending WriteFailed) × (status_of ending ≡ Done) × Serves Follows room s read rest [] last ending
@@ -115,7 +115,7 @@ known_by events shades ready idle cause rewind =
 abbrev pub known_in : Facts → (ℕ → Bool) → Known
 known_in facts ready = known_by facts.events.now facts.shades.now ready (is_marked facts.idle.now) facts.cause facts.rewind
 
--- There are few events, each with its colour and whether it is plain; the one place is not behind the other, and this not past them all.
+-- There are few events, each with its colour and whether it is plain; `from` is not after `to`, and `to` not past them all.
 pub record AreKnownBetween (facts : Facts) (from to : ℕ) : Type 0 where
   pub order : from ≤ to
   pub within : to ≤ length facts.events.now
@@ -123,12 +123,12 @@ pub record AreKnownBetween (facts : Facts) (from to : ℕ) : Type 0 where
   pub shades : length facts.shades.now ≡ length facts.events.now
   pub plain : length facts.plain.now ≡ length facts.events.now
 
--- the events that are plain are those that are so where these nodes are ready behind the events
+-- the events that are plain are those that are so if these nodes are ready after the events
 abbrev pub ArePlainAs : (ℕ → Bool) → Facts → Type 0
 ArePlainAs ready facts =
     (place : ℕ) → place < length facts.events.now → slice_index_or facts.plain.now place false ≡ is_plain_at ready facts.events.now place
 
--- what is drawn of events that are looked at, and which nodes are told at the foot
+-- what is drawn of events in view, and which nodes are listed at the foot
 pub record AreListed (looked items : List PictureItem) (told : List ByItself) : Type 0 where
   pub alone : ℕ → Bool
   pub are_alone : (n : ℕ) → IsTrue (alone n) ↔ IsByItself looked n
@@ -141,7 +141,7 @@ pub record AreItemsOf (events : List Cause) (ready idle : ℕ → Bool) (view : 
   pub shaded : AreShades events (place_for events view.cause) (place_for events view.rewind) shades
   pub listed : AreListed (items_in events ready idle view shades) items told
 
--- ---- the lines of the first nodes, as they are put one behind another
+-- ---- the lines of the first nodes, as they are appended one after another
 
 -- Of the nodes below a number, those that are used have lines, and no others, by their numbers; and each has its index noted.
 pub record AreLines (used : ℕ → Bool) (lines : List NodeId) (columns : List ℕ) (bound : ℕ) : Type 0 where

@@ -17,7 +17,7 @@ use ga_grid::{NODES, NodeId, neighbour};
 use ga_ports::Side;
 use std::alloc::Global;
 
-/// A node that works by itself, and has no line.
+/// An independent node, which has no line.
 #[derive(Clone, Copy, PartialEq, Eq)]
 pub struct ByItself {
     /// The node.

@@ -15,10 +15,10 @@ use ga_text::{Input, Writer, write_all};
 use std::alloc::Global;
 use std::io::{Read, Write};
 
-/// Reads an image or source and then commands, as a session of exploring does, and carries them out without an answer, up to `quit`
-/// or the end of the input. Gives what stands then. Where that is not reached, it writes why, and gives the status: a refused image
-/// gets its refusal, and so does want of memory for a command; of a fault in source `errors` is told; where a read fails, or the
-/// commands go past the input's bound, there is nothing to go on with.
+/// Reads an image or source and then commands, as a session of exploring does, and executes them without an answer, up to
+/// `quit` or the end of the input. Returns the state after them. If that isn't reached, it writes why, and returns the status:
+/// a refused image gets its refusal, and so does a command that ran out of memory; a fault in source is written to `errors`; if
+/// a read fails, or the commands exceed the input's bound, nothing can be drawn.
 ///
 /// # Errors
 /// The status of a session that ends so.

@@ -25,7 +25,7 @@ pub struct PictureItem {
     pub plain: bool,
     /// Whether the event is left out.
     pub out: bool,
-    /// Whether the event's node has to be drawn for it: a pass, a wait or a stop, or one that is asked for.
+    /// Whether the event's node must be drawn for it: a pass, a wait or a stop, or a requested one.
     pub holds: bool,
 }
 
@@ -179,7 +179,7 @@ fn is_narrow(view: View) -> bool
     view.only && (view.cause.is_some() || view.rewind.is_some())
 }
 
-/// Whether the colour is that of what is asked for.
+/// Whether the colour is that of a requested event.
 fn is_asked(view: View, shade: Shade) -> bool
     ensures { result ≡ is_asked_shade view shade }
 {
@@ -200,8 +200,8 @@ pub(crate) fn actor(event: Event) -> NodeId
     }
 }
 
-/// Of each event, whether it is a fetch or an opcode that doesn't look: an own event, behind which its node runs. So its next event
-/// is one of its own; or there is none, and the node is ready.
+/// For each event, whether it is a fetch or an opcode that doesn't look: an own event after which its node runs. So its next
+/// event is its own; or there is none, and the node is ready.
 pub(crate) fn plain_events(
     alloc: Global,
     events: &[Cause],
@@ -222,7 +222,7 @@ pub(crate) fn plain_events(
     Ok(flags)
 }
 
-/// Whether an event is an own one without a look, of a node that runs behind it.
+/// Whether an event is an own one and no look, of a node that runs after it.
 fn is_plain(event: Cause, runs: &[bool; 144]) -> bool
     ensures { result ≡ is_plain (is_marked runs.now) event }
 {

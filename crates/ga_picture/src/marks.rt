@@ -1,4 +1,4 @@
-//! What stands in the group of an event: its title, its mark or arrow, and its label.
+//! The content of an event's group: its title, its mark or arrow, and its label.
 
 use crate::placing::{Drawing, Shape};
 use crate::text::x_of;
@@ -10,7 +10,7 @@ use ga_slots::Op;
 use ga_word::Word18;
 use std::alloc::AllocError;
 
-/// Adds what is drawn of an event at a height, behind a title that tells of it.
+/// Adds the drawing of an event at a height, after a title that describes it.
 pub(crate) fn push_event(
     text: &mut String,
     drawing: &Drawing,
@@ -63,7 +63,7 @@ fn push_own(
     }
 }
 
-/// Adds a box for so many own events of a node, of which the first is told.
+/// Adds a box for `steps` own events of a node, of which the first is described.
 fn push_many(
     text: &mut String,
     at: (u32, u64),
@@ -133,7 +133,7 @@ fn word_of(kind: Kind) -> &'static str {
     }
 }
 
-/// Adds the text of an own event as a session tells it, with the opcode's name.
+/// Adds the text of an own event as a session prints it, with the opcode's name.
 fn push_own_title(text: &mut String, made: Option<&Made>, kind: Kind) -> Result<(), AllocError> {
     match (made, kind) {
         (Some(made), Kind::Run(_)) => {
@@ -144,7 +144,7 @@ fn push_own_title(text: &mut String, made: Option<&Made>, kind: Kind) -> Result<
     }
 }
 
-/// Adds the text of an event as a session tells it.
+/// Adds the text of an event as a session prints it.
 fn push_title(text: &mut String, made: Option<&Made>) -> Result<(), AllocError> {
     match made {
         Some(made) => write!(text, "<title>{made}</title>"),

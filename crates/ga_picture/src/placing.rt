@@ -20,8 +20,8 @@ use std::alloc::Global;
 /// What is drawn of an event, on lines that are named by their index from the left, 0 for the first.
 #[derive(Clone, Copy, PartialEq, Eq)]
 pub enum Shape {
-    /// So many own events of a node, one or a run of them: a mark on its line. A look also has dashed lines to the lines of the node's
-    /// neighbours.
+    /// `steps` own events of a node, one or a run of them: a mark on its line. A look also has dashed lines to the lines of the
+    /// node's neighbours.
     Mark {
         line: u8,
         look: bool,
@@ -68,8 +68,8 @@ pub struct Drawing {
     pub by_itself: Vec<ByItself>,
 }
 
-/// Lays the events out that are not left out: each has a row, but a run of at least so many events of a node has one together, where
-/// its first stands. 0 stands for no such number. Which nodes work by themselves is taken over.
+/// Lays out the events that are not left out: each has a row, but a run of at least `fold` events of a node has one together,
+/// at its first. 0 means no such number. Takes over which nodes are independent.
 ///
 /// # Errors
 /// `Memory`, also for more than 2^32 - 1 events, which no lab keeps.
@@ -109,14 +109,14 @@ pub fn layout(
     })
 }
 
-/// Whether an event has a row, which is drawn together with so many, and has so many of its run before it.
+/// Whether an event has a row: one drawn together with `steps` events, with `before` of its run before it.
 fn has_row(item: &PictureItem, steps: u32, before: u32) -> bool
     ensures { result ≡ (not item.now.out && ((steps == 1) || (before == 0))) }
 {
     !item.out && (steps == 1 || before == 0)
 }
 
-/// How many events are drawn together with this one, which has so many of its run before and behind it.
+/// How many events are drawn together with this one, which has `before` events of its run before and `behind` after it.
 fn drawn_with(item: &PictureItem, before: u32, behind: u32, fold: u32) -> u32
     requires { before + behind + 1 < 2 ^ 32 }
     ensures { result ≡ drawn_with item.now before behind fold }

@@ -1,4 +1,4 @@
-//! Marks of the steps that could have come out otherwise, and what stands in their groups.
+//! Marks of races, and the content of their groups.
 
 ghost use Rattle.std.specs.Prelude.{◌≡◌, ◌+◌, ◌==◌, ◌++◌, ◌<◌, ◌^◌, length, IfOk, OnOk};
 ghost use Rattle.ga_picture.specs.Picture.{step_of, row_from, mark_at, mark_of_race, marks_of};
@@ -29,7 +29,7 @@ pub struct RaceMark {
     pub what: Otherwise,
 }
 
-/// The rows of a picture of some events, of which so many of the oldest are left out.
+/// The rows of a picture of some events, of which `start` of the oldest are left out.
 #[derive(Clone, Copy)]
 pub(crate) struct Shown<'k> {
     pub(crate) events: &'k [Cause],
@@ -112,7 +112,7 @@ fn is_at(row: PictureRow, start: u32, place: u32) -> bool
     u64::from(row.place) + u64::from(start) == u64::from(place)
 }
 
-/// How far from a ring the other word stands, and how far the one behind it.
+/// The distance from a circle to the other word, and to the one after it.
 const NEXT: u32 = 9;
 
 const BEHIND: u32 = 66;
@@ -132,7 +132,7 @@ pub(crate) fn push_race(
     push_label(text, at, &mark.what)
 }
 
-/// Adds what `races` tells of a step that could have come out otherwise.
+/// Adds what `races` prints of a race.
 fn push_title(text: &mut String, what: &Otherwise) -> Result<(), AllocError> {
     match what {
         Otherwise::Pass(race) => push_pass_title(text, race),
@@ -150,7 +150,7 @@ fn push_label(text: &mut String, at: (u32, u64), what: &Otherwise) -> Result<(),
     }
 }
 
-/// Where the node of a row's event stands from the left: a pass is the reader's.
+/// The line of a row's event, from the left: for a pass the reader's.
 fn line_of(row: &PictureRow) -> u32 {
     match row.shape {
         Shape::Mark { line, .. } => x_of(line),
@@ -164,8 +164,8 @@ fn push_ring(text: &mut String, at: (u32, u64)) -> Result<(), AllocError> {
     write!(text, "<circle cx='{x}' cy='{y}' r='7'/>")
 }
 
-/// Adds another word below the ring, left or right of it by the names of the node and the neighbour on whom it hangs: next to it
-/// for one in the same row of the chip, behind that for one in another.
+/// Adds another word below the circle, left or right of it by the names of the node and of the neighbour from which it comes:
+/// next to it if both are in one row of the chip, further away otherwise.
 fn push_word(
     text: &mut String,
     at: (u32, u64),
@@ -192,13 +192,13 @@ fn push_word(
     }
 }
 
-/// Adds a step, as the title tells it.
+/// Adds a step, as the title has it.
 fn push_step(text: &mut String, node: NodeId, step: u32) -> Result<(), AllocError> {
     let name = node.yxx();
     write!(text, "{name:03} {step}")
 }
 
-/// Adds what `races` tells of a pass.
+/// Adds what `races` prints of a pass.
 fn push_pass_title(text: &mut String, race: &Race) -> Result<(), AllocError> {
     let (writer, other) = (race.writer.yxx(), race.other.yxx());
     let (word, offered) = (race.word.get(), race.offered.get());
@@ -212,7 +212,7 @@ fn push_pass_title(text: &mut String, race: &Race) -> Result<(), AllocError> {
     write!(text, ", step {other:03}</title>")
 }
 
-/// Adds what `races` tells of a look.
+/// Adds what `races` prints of a look.
 fn push_look_title(text: &mut String, reading: &Reading) -> Result<(), AllocError> {
     let (word, other, name) = (reading.word.get(), reading.other.get(), reading.node.yxx());
     text.push_str("<title>")?;

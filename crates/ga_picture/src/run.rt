@@ -11,10 +11,10 @@ use ga_text::write_all;
 use std::alloc::Global;
 use std::io::{Read, Write};
 
-/// Reads an image or source and then commands, as a session of exploring does, and carries them out without an answer. At the end
-/// of the input, or at `quit`, it writes a picture of the kept events. A refused image gets its refusal, and so does a view of a
-/// step that doesn't stand, and want of memory for the picture or for a command. Of a fault in source `errors` is told. At most
-/// `limit` events are kept.
+/// Reads an image or source and then commands, as a session of exploring does, and executes them without an answer. At the end
+/// of the input, or at `quit`, it writes a picture of the history. A refused image gets its refusal, and so does a view of a
+/// step that doesn't exist, and a picture or command that ran out of memory. A fault in source is written to `errors`. The
+/// history has at most `limit` events.
 pub fn draw_session<R: Read, W: Write, E: Write>(
     alloc: Global,
     reader: &mut R,

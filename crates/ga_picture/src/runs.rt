@@ -44,7 +44,7 @@ impl Runs {
         }
     }
 
-    /// Goes past an event: it is one more of its run, or ends the runs of the nodes that it touches or looks at.
+    /// Processes an event: it is one more of its run, or ends the runs of the nodes that it touches or looks at.
     #[tactic(auto, using(crate::proofs::Running::with_added, crate::proofs::Running::within_added, crate::proofs::Running::with_ended))]
     pub(crate) fn pass(&mut self, item: &PictureItem)
         requires sizes { HasNodes self.old }
@@ -105,7 +105,7 @@ fn is_same(one: Shade, other: Shade) -> bool
     }
 }
 
-/// Of each event, how many events of its run come behind it.
+/// For each event, the number of later events in its run.
 pub(crate) fn runs_behind(alloc: Global, items: &[PictureItem]) -> Result<Vec<u32>, Memory>
     requires few { length items.now < 2 ^ 32 }
     requires simple { All IsSimple items.now }

@@ -7,12 +7,12 @@ ghost use Rattle.ga_causal.specs.Dependence.{DependsOn};
 use ga_causal::{Cause, Memory, Nodes, closure};
 use std::alloc::Global;
 
-/// How an event stands out. In print each colour has its weight too.
+/// How an event is emphasized. In print each colour has its weight too.
 #[derive(Clone, Copy, PartialEq, Eq)]
 pub enum Shade {
     /// As any event; where the causes of a step are asked for, it is one of them.
     Black,
-    /// The step that is asked for doesn't depend on the event.
+    /// The requested step doesn't depend on the event.
     Grey,
     /// A rollback takes the event.
     Red,
@@ -65,7 +65,7 @@ fn going(alloc: Global, events: &[Cause], rewind: Option<u32>) -> Result<Vec<boo
     }
 }
 
-/// The colour of an event that goes, or leads to the step that is asked for.
+/// The colour of an event that is removed, or is a cause of the requested step.
 fn shade_for(goes: bool, leads: bool) -> Shade
     ensures red { goes ≡ true → result ≡ Shade.Red }
     ensures black { goes ≡ false → leads ≡ true → result ≡ Shade.Black }

@@ -22,7 +22,7 @@ use std::io::Write;
 pub struct Silent {
     /// What answers.
     pub explorer: Explorer,
-    /// Memory was wanting for an answer, or for what it tells.
+    /// An allocation failed for an answer, or for what it reports.
     pub short: bool,
 }
 
@@ -61,7 +61,7 @@ impl Silent {
         }
     }
 
-    /// Takes note of an answer that tells of want of memory.
+    /// Notes an answer that reports out of memory.
     fn note(&mut self, said: &mut Writer<'_, Vec<u8>>)
         ensures same { self.new.explorer ≡ self.old.explorer }
         ensures noted { (answer : Bytes) → IsSaid (Some said.old.stream.now.items) [] answer said.old.pending.items → Notes self.old.short answer self.new.short }
@@ -73,7 +73,7 @@ impl Silent {
     }
 }
 
-/// Whether an answer tells that memory was wanting.
+/// Whether an answer reports out of memory.
 fn is_short(answer: &[u8]) -> bool
     ensures { IsTrue result ↔ IsShort answer.now }
 {

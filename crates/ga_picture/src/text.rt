@@ -14,12 +14,12 @@ use ga_grid::NodeId;
 use ga_node::Kind;
 use std::alloc::{AllocError, Global};
 
-/// The widths of what stands left of the first line and right of the last one, and between two lines.
+/// The widths left of the first line and right of the last one, and between two lines.
 const MARGIN: u32 = 70;
 
 const BETWEEN: u32 = 120;
 
-/// The heights of what stands above the first event and below the last one, and between two events.
+/// The heights above the first event and below the last one, and between two events.
 const HEAD: u64 = 52;
 
 const ROW: u64 = 18;
@@ -27,8 +27,8 @@ const ROW: u64 = 18;
 /// The bytes that are taken at once for what is drawn of an event, which is rarely more.
 const EVENT_ROOM: usize = 512;
 
-/// What the classes look like: `k` black, `g` grey, `r` red, `c` of steps that could have come out otherwise. Red is heavier too, so
-/// that it stands out in print. Each text has a white rim, and so is read over lines.
+/// The look of the classes: `k` black, `g` grey, `r` red, `c` of races. Red is heavier too, so that it is visible in print.
+/// Each text has a white rim, and so can be read over lines.
 const STYLE: &str = "<style>
 text{font:11px ui-monospace,Menlo,Consolas,'DejaVu Sans Mono',monospace;fill:#111;paint-order:stroke;stroke:#fff;stroke-width:3px}
 line,path,circle{stroke:#111;fill:none;stroke-width:1.2}
@@ -140,17 +140,17 @@ fn class(shade: Shade) -> &'static str
     }
 }
 
-/// Where a line stands from the left.
+/// The distance of a line from the left.
 pub(crate) fn x_of(line: u8) -> u32 {
     MARGIN + BETWEEN * u32::from(line)
 }
 
-/// Where a row stands from above.
+/// The distance of a row from the top.
 pub(crate) fn y_of(row: usize) -> u64 {
     (row as u64).saturating_mul(ROW).saturating_add(HEAD)
 }
 
-/// What stands before the events: the size, the classes, of each node its name and a thin line, when it runs and waits, and the foot.
+/// The part before the events: the size, the classes, each node's name and thin line, when it runs and waits, and the foot.
 fn head(alloc: Global, drawing: &Drawing, mades: &[Made]) -> Result<String, AllocError> {
     let mut text = String::new(alloc);
     let width = x_of(drawing.lines.len().min(144) as u8).saturating_add(20);
@@ -170,7 +170,7 @@ fn head(alloc: Global, drawing: &Drawing, mades: &[Made]) -> Result<String, Allo
     Ok(text)
 }
 
-/// Adds a line for each node that works by itself.
+/// Adds a line for each independent node.
 fn push_foot(text: &mut String, drawing: &Drawing) -> Result<(), AllocError> {
     for (at, lone) in drawing.by_itself.iter().enumerate() {
         let y = y_of(drawing.rows.len().saturating_add(at)).saturating_add(4);
@@ -227,7 +227,7 @@ fn push_tracks(
 /// Where the picture of the events begins.
 const TOP: u64 = 36;
 
-/// How a node stands since a height of the picture.
+/// The state of a node from a height of the picture on.
 #[derive(Clone, Copy)]
 struct Track {
     since: Option<u64>,
@@ -282,7 +282,7 @@ impl Tracks {
         Ok(())
     }
 
-    /// The end of the picture: who waits goes on waiting.
+    /// The end of the picture: a node that waits continues to wait.
     fn end(&self, text: &mut String, bottom: u64) -> Result<(), AllocError> {
         for (line, track) in self.tracks.iter().take(144).enumerate() {
             let x = x_of(line as u8);

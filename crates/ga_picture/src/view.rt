@@ -41,7 +41,7 @@ pub struct View {
     pub to: u32,
     /// Whether idle nodes and those that work by themselves have lines too.
     pub all: bool,
-    /// Whether what is neither a cause of the first step nor goes with the second is left out, where one is given.
+    /// Whether events are left out that are neither causes of the first step nor removed with the second, if one is given.
     pub only: bool,
     /// From how many events on a run of fetches and opcodes of a node is drawn as one; 0 for none.
     pub fold: u32,
@@ -93,7 +93,7 @@ fn all_stand(lab: &Lab, view: View) -> bool
     stands(lab, view.cause) && stands(lab, view.rewind)
 }
 
-/// Whether a step stands, where one is given.
+/// Whether a step exists, if one is given.
 fn stands(lab: &Lab, step: Option<Step>) -> bool
     ensures { result ≡ stands_for lab.now step }
 {
@@ -248,7 +248,7 @@ fn listed_between(
     Ok(Listed { items, by_itself })
 }
 
-/// From where to where events are drawn, of so many.
+/// The first and the last event to draw, of `count`.
 fn span(count: usize, view: View) -> (usize, usize)
     ensures end { result.1 ≡ min count view.to }
     ensures start { result.0 ≡ min result.1 view.from }
@@ -271,8 +271,8 @@ fn place(events: &[Cause], step: Option<Step>) -> Option<u32>
     }
 }
 
-/// What is told of the kept events from one place on, in order: each report is the next one of the node that made the event,
-/// a pass's of its writer. Ends at an event without a report.
+/// The events of the history from one place on, in order, as reports: each is the next one of the node that made the event, of
+/// a pass its writer's. Ends at an event without a report.
 ///
 /// # Errors
 /// `Memory` alone.
@@ -309,7 +309,7 @@ fn reports(
     Ok(reports)
 }
 
-/// Counts the steps of an event, and tells whose it is, a pass's of its writer, and how many that node had before.
+/// Counts the steps of an event, and returns its node, of a pass its writer, and how many steps that node had before.
 fn next_step(steps: &mut [u32; 144], event: Event) -> (NodeId, u32) {
     match event {
         Event::Own(node) => (node, count(steps, node)),
@@ -320,7 +320,7 @@ fn next_step(steps: &mut [u32; 144], event: Event) -> (NodeId, u32) {
     }
 }
 
-/// Counts a step of a node, and tells how many it had before.
+/// Counts a step of a node, and returns how many it had before.
 fn count(steps: &mut [u32; 144], node: NodeId) -> u32 {
     let before = steps[node.index()];
     steps[node.index()] = before.saturating_add(1);
