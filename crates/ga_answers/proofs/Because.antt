@@ -15,7 +15,7 @@ one_more : (notes : Option Notes) (s : State) (node : NodeId) (more k : ℕ)
 unfolding decisions_text
 one_more notes s node more k = refl
 
--- no more are to be told, or none is left
+-- no more may be written, or none is left
 pub no_more : (notes : Option Notes) (s : State) (node : NodeId) (left k : ℕ) → left ≡ zero → decisions_text notes s node left k ≡ []
 unfolding decisions_text
 no_more notes s node zero k e = refl
@@ -27,7 +27,7 @@ none_left notes s node left k some e =
     ∙ one_more notes s node (left - 1) k
     ∙ ap (from_newest notes s node (decisions_text notes s node (left - 1))) (sym e)
 
--- the newest is told first, and then those before it
+-- the newest is written first, and then those before it
 pub next_decision : (notes : Option Notes) (s : State) (node : NodeId) (left less k now : ℕ) (decision : Decision) → 0 < left → less ≡ left - 1
     → Some decision ≡ newest_decided s node k → now + 1 ≡ decision.step
     → decisions_text notes s node left k ≡ decision_text notes s node decision ++ decisions_text notes s node less now
@@ -37,7 +37,7 @@ next_decision notes s node left less k now decision some e is step =
     ∙ ap (from_newest notes s node (decisions_text notes s node less)) (sym is)
     ∙ ap (λ (n : ℕ). decision_text notes s node decision ++ decisions_text notes s node less n) (let f : decision.step - 1 ≡ now = omega (arith, step) in f)
 
--- where the step stands, and where it doesn't
+-- if the step exists, and if it doesn't
 pub because_here : (notes : Option Notes) (s : State) (node : NodeId) (step most : ℕ) → stands s node.number step ≡ true
     → decisions_text notes s node most (step - 1) ≡ because_text notes s node step most
 because_here notes s node step most is =

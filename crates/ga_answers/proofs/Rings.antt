@@ -53,7 +53,7 @@ longer : (m : ℕ) (out : List ℕ) (names : Option (List ℕ))
 longer m out None = refl
 longer m out (Some names) = simp append_assoc
 
--- it goes on
+-- it continues
 pub goes_on : (chip : List NodeRecord) (first left more m : ℕ) (next : Option ℕ) (out new whole : List ℕ) → left ≡ suc more → m ≢ first → first ≤ m
     → next ≡ sole_awaited chip m → new ≡ (out ++ codes " ") ++ name_text m
     → closed out (ring_names chip first left (Some m)) ≡ whole → closed new (ring_names chip first more next) ≡ whole

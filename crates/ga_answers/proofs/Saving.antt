@@ -20,7 +20,7 @@ use Rattle.ga_answers.proofs.Saying.{no_lines}
 same_Some : {A : Type 0} (x y : A) → Some x ≡ Some y → x ≡ y
 same_Some x y h = cc
 
--- the line of an event, and those behind it
+-- the line of an event, and those after it
 next_of : (events : List Event) (i : ℕ)
     → flat_map with_feed (drop i (map saved_line events)) ≡ line_at (slice_get events i) ++ flat_map with_feed (drop (i + 1) (map saved_line events))
 next_of [] zero = refl
@@ -36,7 +36,7 @@ next_saved s i text e = next_of s.kept i ∙ ap (λ (z : List ℕ). z ++ flat_ma
 pub all_saved : (s : State) (i : ℕ) → length s.kept ≤ i → flat_map with_feed (drop i (saved_lines s)) ≡ []
 all_saved s i past = no_lines with_feed (saved_lines s) i (let q : length (map saved_line s.kept) ≡ length s.kept = length-map s.kept saved_line in omega arith)
 
--- what is told at a place is told of the event there
+-- the report at a place is of the event there
 pub record ToldOf (events : List Event) (i : ℕ) (m : Made) : Type 0 where
   pub here : Event
   pub is : slice_get events i ≡ Some here
@@ -76,7 +76,7 @@ none_of (e ∷ es) (suc i) past = none_of es i (omega arith)
 pub none_at : (s : State) (i : ℕ) → length s.kept ≤ i → [] ≡ line_at (slice_get s.kept i)
 none_at s i past = ap line_at (sym (none_of s.kept i past))
 
--- the lines of a list of events are those that are told of them
+-- the lines of a list of events are those of their reports
 lines_listed : (told : List (Cause × Told)) → flat_map cause_line (map (λ (x : Cause × Told). x.0) told) ≡ flat_map with_feed (map saved_line (events_told told))
 lines_listed [] = refl
 lines_listed (x ∷ xs) = ap (λ (z : List ℕ). with_feed (saved_line x.0.event) ++ z) (lines_listed xs)

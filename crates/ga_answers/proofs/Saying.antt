@@ -1,4 +1,4 @@
--- A text that is said line by line.
+-- A text that is written line by line.
 use Rattle.std.proofs.Common.{◌≡◌, ℕ, List, ◌++◌, Option, Result, subst, ◌+◌, ◌<◌, ◌≤◌, [], ◌∷◌, Ok, Err, length, get_or, drop, refl, sym, ap, ◌∙◌, append_assoc, arith, zero, suc, ◌-◌, Some, None, ◌==◌, Bool, false, codes, add-one, true, cond, nat_le, min, ◌⊎◌, inl, inr}
 use Rattle.ga_text.specs.Output.{IsSaidOrCut, IsSaid, IsCut}
 use Rattle.ga_text.specs.declared.output.WriteFailed.{WriteFailed}
@@ -92,7 +92,7 @@ pub none_left : {A : Type 0} (xs : List A) → length xs ≡ 0 → xs ≡ []
 none_left [] e = refl
 none_left (x ∷ xs) e = absurd (omega (arith, e))
 
--- one text behind another
+-- one text after another
 pub joined_said : {T : Type 0} (result : Result T WriteFailed) (contents : Option (List ℕ)) (before said text more pending : List ℕ)
     → IsSaidOrCut result contents before ((said ++ text) ++ more) pending → IsSaidOrCut result contents before (said ++ (text ++ more)) pending
 joined_said (Ok done) contents before said text more pending h = said_assoc contents before said text more pending h
@@ -108,7 +108,7 @@ no_step : (s : State) (node : NodeId) (cell : ℕ) → cell_writes s node cell z
 unfolding cell_writes
 no_step s node cell = refl
 
--- a step that wrote nothing is told by nothing
+-- a step that wrote nothing has no line
 passed : (s : State) (node : NodeId) (cell k : ℕ) → written_at s node.number cell k ≡ None → cell_writes s node cell (suc k) ≡ cell_writes s node cell k
 passed s node cell k is = one_step s node cell k ∙ ap (λ (o : Option CellWrite). written_text node o ++ cell_writes s node cell k) is
 
@@ -121,7 +121,7 @@ no_write s node cell (suc k) e = go (written_at s node.number cell k) refl (λ h
     go None is before h = passed s node cell k is ∙ before h
     go (Some wrote) is before h = absurd (cc)
 
--- the newest is told first, and then those before it
+-- the newest is written first, and then those before it
 newest : (s : State) (node : NodeId) (cell left : ℕ) (wrote : CellWrite) → Some wrote ≡ newest_written s node.number cell left
     → cell_writes s node cell left ≡ written_text node (Some wrote) ++ cell_writes s node cell (wrote.step - 1)
 newest s node cell zero wrote e = absurd (cc)
@@ -142,9 +142,9 @@ pub next_write : (s : State) (node : NodeId) (cell left : ℕ) (wrote : CellWrit
     → cell_writes s node cell left ≡ line ++ cell_writes s node cell (wrote.step - 1)
 next_write s node cell left wrote line e is = newest s node cell left wrote e ∙ ap (λ z. z ++ cell_writes s node cell (wrote.step - 1)) (sym is)
 
--- ---- A tree that was told
+-- ---- A tree that was written
 
--- the first row tells whether the step asked for made the value
+-- whether the step of the query made the value can be read off the first row
 by_first : (s : State) (step : ℕ) (value : Value) (rows : List Row) → slice_get rows 0 ≡ Some (made_row s (row_at 0 value)) → is_first step rows ≡ ((origin_of s value).step == step)
 by_first s step value [] e = absurd (cc)
 by_first s step value (row ∷ rows) e = ap (λ (r : Row). r.value.step == step) (same_Some _ _ e)
@@ -153,7 +153,7 @@ pub made_by : (s : State) (step : ℕ) (value : Value) (rows : List Row) (is_who
     → is_first step rows ≡ ((origin_of s value).step == step)
 made_by s step value rows is_whole told cut = by_first s step value rows (first_told s value rows is_whole told (λ no. let long = cut no in omega (arith, long)))
 
--- all that is told
+-- the whole text
 pub tree_told : (notes : Option Notes) (s : State) (node : NodeId) (step : ℕ) (value : Value) (rows told : List Row) (is_whole : Bool) (first last : List ℕ) → AreRows s [] (row_at 0 value ∷ []) rows is_whole
     → length rows ≤ most_rows → (is_whole ≡ false → length rows ≡ most_rows) → told ≡ rows → first ≡ rows_by notes s node step (is_first step told) told → last ≡ more_text is_whole
     → TellsTree notes s node step value (first ++ last)
@@ -258,7 +258,7 @@ placed notes s node k step is some =
     ∙ ap (λ (n : ℕ). passed_text node n (slice_get (history_of s node.number) (step - 1)) (node_after s node.number n) ++ step_tail notes s node n)
     (let e : step ≡ step - 1 + 1 = omega (arith, some) in e)
 
--- where the step stands, and where not
+-- if the step exists, and if it doesn't
 pub around_here : (notes : Option Notes) (s : State) (node : NodeId) (step around first last : ℕ) → stands s node.number step ≡ true → first ≡ step - 1 - around
     → last ≡ lesser (step + around) (steps_of node.number s.kept) → places_text notes s node first (last - first) ≡ around_text notes s node step around
 around_here notes s node step around first last is e f =

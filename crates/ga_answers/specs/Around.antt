@@ -1,4 +1,5 @@
--- The texts of `at`: the steps around one, each with registers behind it (docs/REFERENCE.md, "Exploring"; this project's own).
+-- The texts of `at`: the steps around one, each with the registers after it (docs/REFERENCE.md, "Exploring"; this project's
+-- own).
 use Rattle.std.specs.Prelude.{ℕ, zero, suc, ◌+◌, ◌-◌, nat_le, if◌then◌else◌, [], ◌++◌, codes, Option, Some, None}
 use Rattle.std.specs.List.{slice_get}
 use Rattle.ga_text.specs.Lines.{Text}
@@ -16,7 +17,7 @@ use Rattle.ga_notes.specs.declared.notes.Notes.{Notes}
 use Rattle.ga_answers.specs.Deeds.{deed_text}
 use Rattle.ga_answers.specs.Tails.{step_tail}
 
--- the registers behind a step: T, S, R, A, B and P
+-- the registers after a step: T, S, R, A, B and P
 abbrev pub behind_text : NodeRecord → Text
 behind_text node =
     register_text (codes "t") (t node)
@@ -26,17 +27,17 @@ behind_text node =
     ++ register_text (codes "b") node.b
     ++ register_text (codes "p") node.p
 
--- a step with this number, of which this is told, and the node right behind it
+-- a step with this number and this report, and the node just after it
 abbrev pub passed_text : NodeId → ℕ → Option Made → NodeRecord → Text
 passed_text node step None behind = []
 passed_text node step (Some made) behind = step_text node step ++ codes " " ++ deed_text made node.number ++ behind_text behind
 
--- the step behind so many of the node
+-- the step after the first `k` of the node
 abbrev pub place_text : Option Notes → State → NodeId → ℕ → Text
 place_text notes s node k =
     passed_text node (k + 1) (slice_get (history_of s node.number) k) (node_after s node.number (k + 1)) ++ step_tail notes s node (k + 1)
 
--- what is told of so many steps of the node, from the step behind so many on
+-- the text of `n` steps of the node, from the step after the first `k` on
 unfoldable pub places_text : Option Notes → State → NodeId → ℕ → ℕ → Text
 places_text notes s node k zero = []
 places_text notes s node k (suc more) = place_text notes s node k ++ places_text notes s node (k + 1) more
@@ -45,7 +46,7 @@ places_text notes s node k (suc more) = place_text notes s node k ++ places_text
 abbrev pub lesser : ℕ → ℕ → ℕ
 lesser m n = if nat_le m n then m else n
 
--- the steps of a node up to so many before and behind one, where it stands
+-- the steps of a node up to `around` before and after one, if it exists
 abbrev pub around_text : Option Notes → State → NodeId → ℕ → ℕ → Text
 around_text notes s node step around =
     if stands s node.number step

@@ -17,7 +17,7 @@ use Rattle.ga_answers.specs.Deeds.{deed_text}
 use Rattle.ga_answers.specs.Tails.{step_tail}
 use Rattle.ga_answers.specs.Trees.{part_name, tree_row_text}
 
--- the register that a step of the node's own tested, with its word; a word that was passed is told already
+-- the register that a step of the node's own tested, with its word; a transferred word is in the text already
 abbrev pub tested_text : Made → Part → ℕ → Text
 tested_text (Own node step kind) at word = register_text (part_name at) word
 tested_text (Pass writer i reader j word) at other = []
@@ -27,7 +27,7 @@ abbrev pub decided_text : NodeId → Decision → Text
 decided_text node decision =
     step_text node decision.step ++ codes " " ++ deed_text decision.made node.number ++ tested_text decision.made decision.tested.part decision.word
 
--- the line of a decision, and below it the line of where the value was made, as `whence` tells it
+-- the line of a decision, and below it the line of the value's origin, as `whence` prints it
 abbrev pub decision_text : Option Notes → State → NodeId → Decision → Text
 decision_text notes s node decision =
     decided_text node decision ++ (step_tail notes s node decision.step ++ tree_row_text notes s 1 (row_at 0 decision.source))
@@ -37,12 +37,12 @@ abbrev pub from_newest : Option Notes → State → NodeId → (ℕ → Text) �
 from_newest notes s node before None = []
 from_newest notes s node before (Some decision) = decision_text notes s node decision ++ before (decision.step - 1)
 
--- at most so many decisions, of so many steps of a node, the newest first
+-- at most `left` decisions among the first `k` steps of a node, the newest first
 unfoldable pub decisions_text : Option Notes → State → NodeId → ℕ → ℕ → Text
 decisions_text notes s node zero k = []
 decisions_text notes s node (suc more) k = from_newest notes s node (decisions_text notes s node more) (newest_decided s node k)
 
--- the decisions before a step, where it stands
+-- the decisions before a step, if it exists
 abbrev pub because_text : Option Notes → State → NodeId → ℕ → ℕ → Text
 because_text notes s node step most =
     if stands s node.number step then decisions_text notes s node most (step - 1) else refusal_text NoStep

@@ -21,7 +21,7 @@ kind_name (kind.Stop number) = codes "stop " ++ decimal number
 abbrev pub pass_text : Text → ℕ → Text → NodeId → ℕ → Text
 pass_text way word end other step = way ++ hex6_of word ++ end ++ step_text other step
 
--- what is told of a step, as it was for this node
+-- the text of a step, from the view of this node
 abbrev pub deed_text : Made → ℕ → Text
 deed_text (Own node step kind) n = kind_name kind
 deed_text (Pass writer i reader j word) n =

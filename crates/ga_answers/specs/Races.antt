@@ -25,12 +25,12 @@ race_text race =
 abbrev pub races_head : ℕ → Text
 races_head count = codes "races " ++ decimal count ++ codes "\n"
 
--- where no step is told and nothing looks: whether some node has an event
+-- if no step is listed and no node looks: whether some node has an event
 abbrev pub calm_line : Bool → Text
 calm_line true = codes "every order ends on this chip\n"
 calm_line false = codes "no other order, as long as no node makes more steps\n"
 
--- the last line where nothing looks: of one node nothing is said of the whole; told steps say enough
+-- the last line if no node looks: about one node nothing is said of the whole; listed steps suffice
 abbrev pub order_line : Option NodeId → List Race → Bool → Text
 order_line None [] quiet = calm_line quiet
 order_line None (race ∷ races) quiet = []
@@ -66,7 +66,8 @@ abbrev pub races_text : State → Option NodeId → List Reading → Text
 races_text s only readings =
     listed_text only (races_asked s only) readings (has_looks (causes_of s) (chip_of s)) (is_none (first_ready (chip_of s)))
 
--- all passes are told, and looks of which each could have read otherwise, all that a near change leads to, or memory is wanting
+-- all races of passes are listed, and the looks that could have read another word, all that a near change leads to; or an
+-- allocation failed
 abbrev pub TellsRaces : State → Option NodeId → Text → Type 0
 TellsRaces s only answer =
     ((readings : List Reading) × All (IsTold s only) readings × NoneMissed s only readings × (answer ≡ races_text s only readings)) ⊎ (answer ≡ advised_text Memory)

@@ -1,4 +1,4 @@
--- What `save` tells: the kept events as commands of the debugger (docs/REFERENCE.md, "Exploring"; this project's own).
+-- The answer of `save`: the history as commands of the debugger (docs/REFERENCE.md, "Exploring"; this project's own).
 use Rattle.std.specs.Prelude.{List, [], ◌∷◌, ◌++◌, codes, map, flat_map}
 use Rattle.ga_text.specs.Lines.{Text, Line}
 use Rattle.ga_grid.specs.declared.node_id.NodeId.{NodeId}

@@ -11,14 +11,14 @@ use Rattle.ga_display.specs.Texts.{advised_text}
 use Rattle.ga_answers.specs.Texts.{effects_answer}
 use Rattle.ga_answers.specs.Waiting.{who_text}
 
--- It is told what a rollback would take, or memory is wanting where one could be made.
+-- The answer is what a rollback would remove, or out of memory if one is possible.
 abbrev pub TellsEffects : State → NodeId → ℕ → Text → Type 0
 TellsEffects s node step answer =
     (answer ≡ effects_answer (effects_of s node.number step) (rewind_answer s node.number step))
     ⊎ (IsOk (rewind_answer s node.number step) × (answer ≡ advised_text Memory))
 
--- Of each node that waits it is told for whom, unless it is idle, and which nodes can never go on: of all such sets of nodes the
--- greatest.
+-- For each node that waits, unless it is idle, the answer has for whom it waits; and which nodes are deadlocked: the greatest
+-- set of such nodes.
 pub record TellsWho (s : State) (answer : Text) : Type 0 where
   pub marks : ℕ → Bool
   pub stuck : AreStuck (chip_of s) marks

@@ -36,7 +36,7 @@ fault_word Spent = codes "spent "
 abbrev pub which_text : ℕ → ℕ → Text
 which_text conditions which = if nat_lt 1 conditions then codes " by " ++ decimal (which + 1) else []
 
--- how many events were made up to one of so many conditions, why no more, and what to do where there is no room for more
+-- how many events were made until one of the conditions held, why the run ended, and what to do if there is no room for more
 abbrev pub run_text : ℕ → ℕ → End → Text
 run_text conditions events (Reached made which) = codes "reached " ++ decimal events ++ which_text conditions which ++ codes " " ++ made_text made
 run_text conditions events Made = codes "made " ++ decimal events ++ codes "\n"
@@ -67,7 +67,7 @@ cell_text s n =
     if nat_lt (steps_of n s.kept) 1 then codes "  ."
     else doing_text (record_at (chip_of s) n).wait (record_at (chip_of s) n).stop
 
--- so many nodes of a row, from this one on
+-- `n` nodes of a row, from this one on
 unfoldable pub cells_text : State → ℕ → ℕ → Text
 cells_text s n zero = []
 cells_text s n (suc more) = cell_text s n ++ cells_text s (n + 1) more
@@ -97,7 +97,7 @@ effects_head events nodes = codes "effects " ++ decimal events ++ codes " " ++ d
 abbrev pub effects_text : ℕ → List RollbackEffect → Text
 effects_text events effects = effects_head events (length effects) ++ flat_map effect_text effects
 
--- what is told of a rollback, by what `rewind` would answer
+-- the text about a rollback, by what `rewind` would answer
 abbrev pub effects_answer : List RollbackEffect → Result ℕ LabFault → Text
 effects_answer effects (Ok events) = effects_text events effects
 effects_answer effects (Err why) = advised_text why

@@ -47,7 +47,7 @@ part_name part.Wait = codes "wait"
 part_name part.Stop = codes "stop"
 part_name part.Outside = codes "outside"
 
--- The name of a part stands behind what a step did, but for T, the instruction word and a cell, which go without saying.
+-- The name of a part follows what a step did, but for T, the instruction word and a cell, which are implied.
 abbrev pub mark_text : Part → Text
 mark_text (part.Data k) = if k == 0 then [] else codes " " ++ data_name k
 mark_text (part.Ram k) = []
@@ -55,7 +55,7 @@ mark_text (part.Rom k) = []
 mark_text part.I = []
 mark_text at = codes " " ++ part_name at
 
--- what a step did of which this is told
+-- what a step with this report did
 abbrev pub told_step_text : Option Made → ℕ → Text
 told_step_text None n = []
 told_step_text (Some made) n = deed_text made n
@@ -75,14 +75,14 @@ unfoldable pub blanks : ℕ → Text
 blanks zero = []
 blanks (suc level) = codes "  " ++ blanks level
 
--- a line, so many levels deeper than the row
+-- a line, `depth` levels deeper than the row
 abbrev pub tree_row_text : Option Notes → State → ℕ → Row → Text
 tree_row_text notes s deeper row = blanks (row.depth + deeper) ++ (value_text s row.value ++ value_tail notes s row.value)
 
 abbrev pub head_text : Option Notes → State → NodeId → ℕ → Text
 head_text notes s node step = did_text s node step ++ step_tail notes s node step
 
--- The step asked for is the first row where it made the value. Else it is told before the rows, which stand one level deeper.
+-- The step of the query is the first row if it made the value. Otherwise it comes before the rows, which are one level deeper.
 abbrev pub rows_by : Option Notes → State → NodeId → ℕ → Bool → List Row → Text
 rows_by notes s node step made rows =
     if made then flat_map (tree_row_text notes s 0) rows else head_text notes s node step ++ flat_map (tree_row_text notes s 1) rows
@@ -90,12 +90,12 @@ rows_by notes s node step made rows =
 abbrev pub tree_rows_text : Option Notes → State → NodeId → ℕ → Value → List Row → Text
 tree_rows_text notes s node step value rows = rows_by notes s node step ((origin_of s value).step == step) rows
 
--- the line behind the rows of a tree, where these are not all
+-- the line after the rows of a tree, if these are not all
 abbrev pub more_text : Bool → Text
 more_text true = []
 more_text false = codes "more\n"
 
--- The rows of the value are told, all or as many as may be; or memory is wanting.
+-- The rows of the value are written, all or as many as allowed; or an allocation failed.
 pub record TellsTree (notes : Option Notes) (s : State) (node : NodeId) (step : ℕ) (value : Value) (answer : Text) : Type 0 where
   pub rows : List Row
   pub is_whole : Bool
@@ -104,7 +104,7 @@ pub record TellsTree (notes : Option Notes) (s : State) (node : NodeId) (step : 
   pub cut : is_whole ≡ false → length rows ≡ most_rows
   pub text : answer ≡ tree_rows_text notes s node step value rows ++ more_text is_whole
 
--- what is told of a step for which this value is asked; the step alone where it made none
+-- the text about a step for which this value is queried; the step alone if it made none
 abbrev pub TellsAsked : Option Notes → State → NodeId → ℕ → Option Value → Text → Type 0
 TellsAsked notes s node step None answer = answer ≡ head_text notes s node step
 TellsAsked notes s node step (Some value) answer = (answer ≡ advised_text Memory) ⊎ TellsTree notes s node step value answer

@@ -1,5 +1,5 @@
--- The texts of `who`: what each node that waits waits for, which nodes can never go on, the rings among them, and how many nodes are
--- idle, of which no more is said (docs/REFERENCE.md, "Exploring"; this project's own).
+-- The texts of `who`: for whom each waiting node waits, which nodes are deadlocked, the wait cycles among them, and how many
+-- nodes are idle, which aren't listed (docs/REFERENCE.md, "Exploring"; this project's own).
 use Rattle.std.specs.Prelude.{ℕ, zero, suc, ◌+◌, ◌==◌, nat_le, Bool, ◌&&◌, not, if◌then◌else◌, List, [], ◌∷◌, ◌++◌, codes, decimal, Option, Some, None, option_map}
 use Rattle.ga_text.specs.Lines.{Text}
 use Rattle.ga_ports.specs.declared.side.Side.{Side}
@@ -50,19 +50,19 @@ line_by (wait.Write side) line = line
 abbrev pub waiting_text : List NodeRecord → ℕ → Text
 waiting_text chip n = line_by (record_at chip n).wait (awaiting_text chip n)
 
--- a text of each of so many nodes from this one on
+-- a text for each of `n` nodes from this one on
 unfoldable pub each_node : (ℕ → Text) → ℕ → ℕ → Text
 each_node text n zero = []
 each_node text n (suc more) = text n ++ each_node text (n + 1) more
 
--- what is told of a node that waits, where it is not idle
+-- the text about a node that waits, if it is not idle
 abbrev pub busy_text : List NodeRecord → (ℕ → Bool) → ℕ → Text
 busy_text chip idle n = if idle n then [] else waiting_text chip n
 
 abbrev pub all_waiting : List NodeRecord → (ℕ → Bool) → Text
 all_waiting chip idle = each_node (busy_text chip idle) 0 144
 
--- a node's name behind a space, where this holds of it
+-- a node's name after a space, if this holds of it
 abbrev pub name_if : Bool → ℕ → Text
 name_if named n = if named then codes " " ++ name_text n else []
 
@@ -70,7 +70,7 @@ name_if named n = if named then codes " " ++ name_text n else []
 abbrev pub busy_names : (ℕ → Bool) → (ℕ → Bool) → Text
 busy_names marks idle = each_node (λ n. name_if (marks n && not (idle n)) n) 0 144
 
--- of how many of the first so many nodes a test holds
+-- for how many of the first `n` nodes a test holds
 unfoldable pub node_count : (ℕ → Bool) → ℕ → ℕ
 node_count test zero = 0
 node_count test (suc n) = node_count test n + (if test n then 1 else 0)
@@ -112,8 +112,8 @@ sole right down left up = None
 abbrev pub sole_awaited : List NodeRecord → ℕ → Option ℕ
 sole_awaited chip n = sole (awaited_at chip n Right) (awaited_at chip n Down) (awaited_at chip n Left) (awaited_at chip n Up)
 
--- The names of the nodes by which a ring goes on to its first node, each awaited by the one before alone, where at most so many are
--- left: none where it doesn't come back there, or comes by a node of a lower number, which is the first of that ring.
+-- The names of the nodes by which a wait cycle leads to its first node, each awaited only by the one before, if at most `left`
+-- are left: none if it doesn't return there, or passes a node of a lower number, which is the first of that cycle.
 unfoldable pub ring_names : List NodeRecord → ℕ → ℕ → Option ℕ → Option Text
 ring_names chip first left None = None
 ring_names chip first zero (Some m) = None

@@ -16,7 +16,7 @@ written_text node None = []
 written_text node (Some written) =
     step_text node written.step ++ codes " " ++ deed_text written.made node.number ++ codes " " ++ hex6_of written.word ++ codes "\n"
 
--- the steps that wrote the cell, of so many steps of a node, the newest first
+-- the steps that wrote the cell, among the first `k` steps of a node, the newest first
 unfoldable pub cell_writes : State → NodeId → ℕ → ℕ → Text
 cell_writes s node cell zero = []
 cell_writes s node cell (suc k) = written_text node (written_at s node.number cell k) ++ cell_writes s node cell k

@@ -11,7 +11,7 @@ use Rattle.ga_origin.specs.declared.listing.Row.{Row}
 
 -- ---- what private contracts cite
 
--- the node whose step was told: of a pass the writer
+-- the node of a reported step: of a pass the writer
 abbrev pub actor_in : Made → NodeId
 actor_in (Own node step kind) = node
 actor_in (Pass writer k reader j word) = writer

@@ -1,4 +1,4 @@
-//! The steps around one, each with registers behind it, told line by line.
+//! The steps around one, each with the registers after it, written line by line.
 
 ghost use Rattle.std.specs.Prelude.{◌≡◌, ◌<◌, ◌≤◌, ◌+◌, ◌-◌};
 ghost use Rattle.ga_text.specs.Output.{Says};
@@ -14,7 +14,7 @@ use ga_notes::Notes;
 use ga_text::{Spoken, TextBuffer, Writer};
 use std::io::Write;
 
-/// `at NNN K [N]`: tells the steps of a node up to so many before and behind one. Takes no memory.
+/// `at NNN K [N]`: writes the steps of a node up to N before and after one. Allocates nothing.
 ///
 /// # Errors
 /// A write failed.
@@ -75,7 +75,7 @@ impl<'l> Outlook<'l> {
         there.say_own_tail(writer)
     }
 
-    /// What is told of the step to which the node is walked back.
+    /// The text of the step to which the node is walked back.
     fn place_line(&self) -> TextBuffer
         requires { 0 < self.now.near.step }
         ensures { result.items ≡ passed_text self.now.node self.now.near.step (slice_get (history_of self.now.lab.now self.now.node.number) (self.now.near.step - 1))

@@ -1,4 +1,4 @@
-//! The steps at which a value decided where a node went on, told line by line.
+//! The steps at which a value decided where a node continued, written line by line.
 
 ghost use Rattle.std.specs.Prelude.{◌≡◌, ◌+◌, ◌-◌, ◌≤◌, ◌<◌, ◌^◌, ◌++◌};
 ghost use Rattle.arrayvec.specs.ArrayVec.{array_vec_len};
@@ -24,8 +24,8 @@ use std::io::Write;
 /// The most bytes of a register that was tested, with its word.
 const TESTED_ROOM: usize = 1 + PART_ROOM + 1 + WORD_ROOM;
 
-/// `because NNN K [N]`: tells the last steps of a node before one at which a value decided where it went on, the newest first, each
-/// with the step that made the value. Takes no memory.
+/// `because NNN K [N]`: writes the last steps of a node before one at which a value decided where it continued, the newest
+/// first, each with the step that made the value. Allocates nothing.
 ///
 /// # Errors
 /// A write failed.

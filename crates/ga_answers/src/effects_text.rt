@@ -1,4 +1,4 @@
-//! What a rollback would take, told line by line.
+//! What a rollback would remove, written line by line.
 
 ghost use Rattle.std.specs.Prelude.{◌≡◌};
 ghost use Rattle.ga_text.specs.Output.{Says, SaysExactly};
@@ -14,7 +14,7 @@ use ga_text::{Spoken, TextBuffer, Writer, push_number, push_step, push_text};
 use std::alloc::Global;
 use std::io::Write;
 
-/// `effects NNN K`: tells what `rewind NNN K` would take. Nothing is taken back.
+/// `effects NNN K`: writes what `rewind NNN K` would remove. Nothing is removed.
 ///
 /// # Errors
 /// A write failed.

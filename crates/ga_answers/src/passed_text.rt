@@ -1,4 +1,4 @@
-//! A step of a node with the registers behind it, as one line.
+//! A step of a node with the registers after it, as one line.
 
 ghost use Rattle.std.specs.Prelude.{◌≡◌, ◌<◌, ◌≤◌, ◌+◌, ◌^◌, ◌++◌, Some, codes};
 ghost use Rattle.arrayvec.specs.ArrayVec.{array_vec_len};
@@ -18,10 +18,10 @@ use ga_word::Word18;
 /// The bytes of a register: a space, its name, a space and a word.
 const REGISTER_ROOM: usize = b" t ".len() + WORD_ROOM;
 
-/// The bytes of the registers behind a step.
+/// The bytes of the registers after a step.
 const BEHIND_ROOM: usize = 6 * REGISTER_ROOM;
 
-/// A step: its number, what it did, and the registers behind it.
+/// A step: its number, what it did, and the registers after it.
 pub(crate) fn step_line(node: NodeId, step: u32, made: Made, behind: &Node) -> TextBuffer
     ensures { result.items ≡ passed_text node step (Some made) (record_of behind.now) }
 {

@@ -1,4 +1,4 @@
-//! Steps that could have come out otherwise, told line by line.
+//! Races, written line by line.
 
 ghost use Rattle.std.specs.Prelude.{◌≡◌, ◌≤◌, ◌+◌, ◌++◌, flat_map, codes};
 ghost use Rattle.arrayvec.specs.ArrayVec.{array_vec_len};
@@ -24,8 +24,7 @@ use std::io::Write;
 /// The most bytes of a word and the node that it comes from.
 const FROM_ROOM: usize = WORD_ROOM + b" from ".len() + NODE_ROOM;
 
-/// `races` or `races NNN`: tells the steps that could have come out otherwise, of all nodes or of one, and what holds of other orders.
-/// Nothing is taken back.
+/// `races` or `races NNN`: writes the races of all nodes or of one, and what holds of other interleavings. Nothing is removed.
 ///
 /// # Errors
 /// A write failed.
@@ -57,7 +56,7 @@ fn say_found<W: Write>(only: Option<NodeId>, races: &Races, writer: &mut Writer<
     say_rest(readings, last, writer)
 }
 
-/// Says that so many lines of steps follow, then each of these passes.
+/// Writes that `count` lines of steps follow, then each of these passes.
 fn say_list<W: Write>(races: &[Race], count: u64, writer: &mut Writer<'_, W>) -> Spoken
     ensures { Says result (λ text. text ≡ race_lines_text races.now count)
         W.contents writer.old writer.new }
@@ -109,8 +108,8 @@ fn head_line(count: u64) -> TextBuffer
     out
 }
 
-/// A look with the word that it read, another that it could have read, the change before or behind which it would have, and the
-/// commands that make it read that.
+/// A look with the word that it read, another that it could have read, the change before or after which it would have read
+/// that, and the commands that lead there.
 fn reading_line(reading: Reading) -> TextBuffer
     ensures { result.items ≡ reading_text reading }
 {

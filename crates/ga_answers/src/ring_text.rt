@@ -1,4 +1,4 @@
-//! Rings of nodes that can never go on, told line by line.
+//! Wait cycles of deadlocked nodes, written line by line.
 
 ghost use Rattle.ga_text.specs.Output.{Says};
 ghost use Rattle.std.specs.Prelude.{◌≡◌, ◌+◌, [], Some};
@@ -14,7 +14,7 @@ use ga_races::awaits;
 use ga_text::{Spoken, Writer, push_node, push_text};
 use std::io::Write;
 
-/// Room for a line: a name behind a space for each node, and one more behind the last that is followed.
+/// Room for a line: a name after a space for each node, and one more after the last that is followed.
 const RING_ROOM: usize = b"ring".len() + 145 * b" 717".len() + b"\n".len();
 
 /// The text of a line.
@@ -47,7 +47,7 @@ fn line_of_ring(chip: &Chip, stuck: &[bool; 144], node: NodeId) -> RingLine
     }
 }
 
-/// The line of the ring that goes on from a node and comes back to it by nodes of greater numbers, empty where it doesn't.
+/// The line of the wait cycle that leads from a node back to it by nodes of greater numbers; empty if it doesn't.
 fn ring_from(chip: &Chip, first: NodeId) -> RingLine
     ensures { result.items ≡ ring_line first.number (ring_names (records_of chip.now) first.number 144 (sole_awaited (records_of chip.now) first.number)) }
 {

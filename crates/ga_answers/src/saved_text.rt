@@ -58,7 +58,7 @@ fn actor_of(event: Event) -> NodeId
     }
 }
 
-/// Says the lines of the kept events, each of which is looked up by itself.
+/// Writes the lines of the history, each of whose events is looked up separately.
 fn say_unlisted<W: Write>(lab: &Lab, writer: &mut Writer<'_, W>) -> Spoken
     ensures { Says result (λ text. text ≡ saved_text lab.now)
         W.contents writer.old writer.new }
@@ -74,7 +74,7 @@ fn say_step<W: Write>(lab: &Lab, place: u32, writer: &mut Writer<'_, W>) -> Spok
     ensures { Says result (λ text. text ≡ line_at (slice_get lab.now.kept place))
         W.contents writer.old writer.new }
 {
-    // So the kept events are those that are told.
+    // So the history is the one that is written.
     let _chip = lab.chip();
     match lab.made_at(place) {
         Some(made) => writer.say_blocks(step_line(actor(&made)).as_slice()),

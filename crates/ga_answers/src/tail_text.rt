@@ -1,4 +1,4 @@
-//! What a source says of cells and slots, behind the lines that name them.
+//! What the source has for cells and slots, at the end of the lines that name them.
 
 ghost use Rattle.std.specs.Prelude.{◌≡◌, ◌≤◌};
 ghost use Rattle.ga_node.specs.Record.{record_of};
@@ -80,7 +80,7 @@ fn say_tail<W: Write>(
     writer.say(b"\n")
 }
 
-/// The slot of a node that is walked back to so many of its steps.
+/// The slot of a node that is walked back to its first `place` steps.
 fn walked_slot(lab: &Lab, node: NodeId, place: u32, walk: &Walk<'_>) -> u32
     requires within { place ≤ steps_of node.number lab.now.kept }
     requires walk { walk.now ≡ standing lab.now node place }
@@ -89,7 +89,8 @@ fn walked_slot(lab: &Lab, node: NodeId, place: u32, walk: &Walk<'_>) -> u32
     slot_of(walk.node())
 }
 
-/// A lab, what the source says of its cells, and a node that is walked back to one of its steps, from where what is told is found.
+/// A lab, the debug info of its cells, and a node that is walked back to one of its steps, from which neighbouring steps are
+/// found.
 #[derive(Drop)]
 pub(crate) struct Outlook<'l> {
     pub lab: &'l Lab,
@@ -124,8 +125,8 @@ impl<'l> Outlook<'l> {
         }
     }
 
-    /// The slot behind so many steps of a node, which is walked back there: from here, where this is of the same node and not earlier,
-    /// else from its newest step.
+    /// The slot after the first `place` steps of a node, which is walked back there: from here, if this is the same node and
+    /// not earlier, else from its newest step.
     fn slot_near(&self, node: NodeId, place: u32) -> u32
         requires { place ≤ steps_of node.number self.now.lab.now.kept }
         ensures { result ≡ (node_after self.now.lab.now node.number place).slot }
@@ -147,7 +148,7 @@ impl<'l> Outlook<'l> {
         self.slot_near(node, place) as usize
     }
 
-    /// The slot that was next before a step, where the source tells slots of the cell; else that before a fetch.
+    /// The slot that was next before a step, if the source has slots of the cell; else that before a fetch.
     fn step_slot(&self, node: NodeId, step: u32, cell: Option<u8>) -> usize
         ensures { noted_text self.now.notes.now node cell result ≡ noted_text self.now.notes.now node cell (slot_before self.now.lab.now node step) }
     {
@@ -174,7 +175,7 @@ impl<'l> Outlook<'l> {
         }
     }
 
-    /// Ends a line that tells of a step.
+    /// Ends a line about a step.
     ///
     /// # Errors
     /// A write failed.
@@ -191,7 +192,7 @@ impl<'l> Outlook<'l> {
         say_tail(self.notes, node, cell, slot, writer)
     }
 
-    /// Ends a line that tells of the step to which the node is walked back.
+    /// Ends a line about the step to which the node is walked back.
     ///
     /// # Errors
     /// A write failed.
@@ -201,7 +202,7 @@ impl<'l> Outlook<'l> {
         self.say_step_tail(self.node, self.near.step(), writer)
     }
 
-    /// Ends a line that tells of a value: of the step that made it, or of the cell where it was loaded.
+    /// Ends a line about a value: that of the step that made it, or of the cell where it was loaded.
     ///
     /// # Errors
     /// A write failed.

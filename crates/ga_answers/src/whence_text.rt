@@ -1,4 +1,4 @@
-//! Where a value came from, told line by line.
+//! The provenance of a value, written line by line.
 
 ghost use Rattle.std.specs.Prelude.{◌≡◌, ◌≤◌, ◌<◌, ◌+◌, ◌++◌};
 ghost use Rattle.arrayvec.specs.ArrayVec.{array_vec_len};
@@ -25,8 +25,8 @@ const MOST_ROWS: u32 = 100;
 /// The most bytes of a step with what it did.
 const DID_ROOM: usize = STEP_ROOM + 1 + DEED_ROOM;
 
-/// `whence NNN K`: tells the steps whose values went into what a step made, as a tree. The node is walked back to the step once, and
-/// what is told of it is found from there.
+/// `whence NNN K`: writes the steps whose values went into what a step made, as a tree. The node is walked back to the step
+/// once, and the rest is found from there.
 ///
 /// # Errors
 /// A write failed.
@@ -50,7 +50,7 @@ pub fn say_whence<W: Write>(
     }
 }
 
-/// What is told behind the rows, where these are not all.
+/// The text after the rows, if these are not all.
 fn more(is_whole: bool) -> &'static [u8]
     ensures { result.now ≡ more_text is_whole }
 {
@@ -124,7 +124,7 @@ impl<'l> Outlook<'l> {
     ghost use Rattle.ga_answers.specs.Trees.{tree_row_text, rows_by, head_text, TellsAsked};
     ghost use Rattle.ga_answers.specs.inner.{is_first};
 
-    /// Says the tree of a value, which is asked for where the step is named to which its node is walked back.
+    /// Writes the tree of a value for the step to which its node is walked back.
     fn say_asked<W: Write>(&self, alloc: Global, value: Value, writer: &mut Writer<'_, W>) -> Spoken
         requires { IsPart value.part }
         ensures { Says result (λ text. TellsAsked self.now.notes.now self.now.lab.now self.now.node self.now.near.step (Some value) text)
@@ -139,7 +139,7 @@ impl<'l> Outlook<'l> {
         }
     }
 
-    /// Says the rows, behind the step asked for where this isn't the first of them.
+    /// Writes the rows, after the step of the query if this isn't the first of them.
     fn say_rows<W: Write>(&self, rows: &[Row], writer: &mut Writer<'_, W>) -> Spoken
         ensures { Says result (λ text. text ≡ rows_by self.now.notes.now self.now.lab.now self.now.node self.now.near.step (is_first self.now.near.step rows.now) rows.now)
             W.contents writer.old writer.new }

@@ -1,4 +1,4 @@
-//! Who waits for whom, told line by line.
+//! Who waits for whom, written line by line.
 
 ghost use Rattle.std.specs.Prelude.{◌≡◌, ◌++◌, ◌+◌, ◌≤◌, ◌&&◌, not, if◌then◌else◌, length};
 ghost use Rattle.arrayvec.specs.ArrayVec.{array_vec_len};
@@ -23,7 +23,7 @@ use std::io::Write;
 /// The most bytes of what a node does.
 const DOING_ROOM: usize = b"fetches".len();
 
-/// The bytes of a node's name behind a space.
+/// The bytes of a node's name after a space.
 const NAME_ROOM: usize = b" 717".len();
 
 /// The most bytes of a neighbour: a space, the side, its name, a space and what it does.
@@ -44,8 +44,8 @@ const STUCK_ROOM: usize = b"stuck".len() + NAMES_ROOM + IDLE_ROOM + b"\n".len();
 /// The text of that line.
 type StuckLine = ArrayVec<u8, STUCK_ROOM>;
 
-/// `who`: tells of each node that waits what for, of whom and what that node does, which nodes can never go on, the rings among them,
-/// and how many nodes are idle, of which it says no more. Takes no memory.
+/// `who`: writes for each waiting node what it waits for, of whom, and what that node does; which nodes are deadlocked, the
+/// wait cycles among them; and how many nodes are idle, which aren't listed. Allocates nothing.
 ///
 /// # Errors
 /// A write failed.
@@ -184,7 +184,7 @@ fn stuck_line(marks: &[bool; 144], idle: &[bool; 144]) -> StuckLine
     line_of_names(busy_names(marks, idle).as_slice(), idle_among(marks, idle))
 }
 
-/// The line of these names, and of so many idle nodes.
+/// The line of these names and the number of idle nodes.
 fn line_of_names(names: &[u8], idle: u8) -> StuckLine
     requires { length names.now ≤ NAMES_ROOM }
     ensures { result.items ≡ stuck_line names.now idle }
@@ -212,7 +212,7 @@ fn push_idle(out: &mut StuckLine, idle: u8)
     }
 }
 
-/// The names of the marked nodes that are not idle, each behind a space.
+/// The names of the marked nodes that are not idle, each after a space.
 fn busy_names(marks: &[bool; 144], idle: &[bool; 144]) -> Names
     ensures { result.items ≡ busy_names (is_marked marks.now) (is_marked idle.now) }
 {
@@ -231,7 +231,7 @@ fn is_busy(marks: &[bool; 144], idle: &[bool; 144], node: NodeId) -> bool
     marks[node.index()] && !idle[node.index()]
 }
 
-/// Adds a node's name behind a space, where it is to be named.
+/// Adds a node's name after a space, if it is to be named.
 fn push_name_if(out: &mut Names, node: NodeId, named: bool)
     requires { array_vec_len out.old + NAME_ROOM ≤ NAMES_ROOM }
     ensures text { out.new.items ≡ out.old.items ++ name_if named node.number }
@@ -294,7 +294,7 @@ fn idle_line(idle: &[bool; 144]) -> TextBuffer
     line_of_count(idle_count(idle))
 }
 
-/// The line of so many idle nodes.
+/// The line with the number of idle nodes.
 fn line_of_count(idle: u8) -> TextBuffer
     ensures { result.items ≡ idle_line idle }
 {

@@ -1,4 +1,4 @@
-//! The words that went over a link, told line by line.
+//! The transferred words of a link, written line by line.
 
 ghost use Rattle.std.specs.Prelude.{◌≡◌};
 ghost use Rattle.ga_text.specs.Output.{Says, SaysExactly};
@@ -14,7 +14,7 @@ use ga_text::{
 };
 use std::io::Write;
 
-/// `words NNN MMM`: tells the words that went from one node to another. Takes no memory.
+/// `words NNN MMM`: writes the words transferred from one node to another. Allocates nothing.
 ///
 /// # Errors
 /// A write failed.

@@ -1,4 +1,4 @@
-//! The steps that wrote a cell, told line by line.
+//! The steps that wrote a cell, written line by line.
 
 ghost use Rattle.std.specs.Prelude.{◌≡◌, ◌<◌, Some};
 ghost use Rattle.ga_text.specs.Output.{Says};
@@ -13,7 +13,7 @@ use ga_origin::{CellWrite, CellWrites};
 use ga_text::{Spoken, TextBuffer, Writer, push_spaced, push_step, push_text};
 use std::io::Write;
 
-/// `writes NNN HH`: tells the steps of a node that wrote at an address of its memory, the newest first. Takes no memory.
+/// `writes NNN HH`: writes the steps of a node that wrote at an address of its memory, the newest first. Allocates nothing.
 ///
 /// # Errors
 /// A write failed.
