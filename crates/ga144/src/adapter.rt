@@ -13,7 +13,7 @@ struct Files<'r> {
 }
 
 impl ProgramFiles for Files<'_> {
-    // What a file has can't be told here.
+    // The content of a file can't be specified here.
     ghost gives = { λ host path given after. Unit {0} };
 
     fn read(&mut self, _: Global, path: &str) -> Result<Vec<u8>, SourceError> {
@@ -38,7 +38,7 @@ fn cause_of(kind: ErrorKind) -> SourceError {
     }
 }
 
-/// Tells that there is no memory.
+/// Reports that there is no memory.
 pub fn out_of_memory(rt: &HostRuntime) -> ExitCode {
     let _ = eprintln!(rt; "ga144: out of memory");
     ExitCode::from(1)

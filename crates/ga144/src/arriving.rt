@@ -18,7 +18,7 @@ const WAITING: usize = 16;
 /// What one read gave.
 #[derive(Clone, Copy)]
 enum Part {
-    /// So many bytes; none at the end.
+    /// `count` bytes; none at the end.
     Bytes { count: usize, bytes: [u8; BLOCK] },
     /// The read failed.
     Failed,
@@ -77,7 +77,7 @@ fn hand_over<R: Wait>(rt: &R, input: Stdin, to: Sender<Part, Global>) {
     }
 }
 
-/// What the next read gives, and whether none comes behind it.
+/// The result of the next read, and whether none follows it.
 fn next_part<R: Read>(input: &mut R) -> (Part, bool) {
     let mut bytes = [0; BLOCK];
     match input.read(&mut bytes) {
@@ -110,7 +110,7 @@ impl<R: Wait> Read for Arriving<R> {
 }
 
 impl Arrivals for Arrived {
-    // When input comes can't be told here.
+    // When input comes can't be specified here.
     ghost tells = { λ host told after. Unit {0} };
 
     fn have_come(&mut self) -> bool {

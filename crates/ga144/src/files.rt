@@ -18,7 +18,7 @@ pub fn read_file(rt: &HostRuntime, path: &str) -> io::Result<Vec<u8>> {
     Ok(text)
 }
 
-/// What stands before standard input, and how many bytes of that may be read behind it.
+/// The text before standard input, and how many bytes may be read after it.
 #[derive(Drop)]
 pub struct Front {
     text: Vec<u8>,
@@ -32,11 +32,11 @@ impl Front {
     }
 }
 
-/// The text of a file, ended so that commands can stand behind it, or nothing where no file is named. Behind an image without its
-/// line `end` nothing is read.
+/// The text of a file, ended so that commands can follow it, or nothing if no file is named. After an image without its line
+/// `end` nothing is read.
 ///
 /// # Errors
-/// The file can't be had, which was told.
+/// The file can't be read, which was reported.
 pub fn front_of(rt: &HostRuntime, file: &Option<String>) -> Result<Front, ExitCode> {
     let Some(name) = file else {
         return Ok(Front {
@@ -61,7 +61,7 @@ pub fn front_of(rt: &HostRuntime, file: &Option<String>) -> Result<Front, ExitCo
 /// The text of a file.
 ///
 /// # Errors
-/// The file can't be had, which was told.
+/// The file can't be read, which was reported.
 fn text_of(rt: &HostRuntime, name: &str) -> Result<Vec<u8>, ExitCode> {
     match read_file(rt, name) {
         Ok(text) => {
@@ -74,10 +74,10 @@ fn text_of(rt: &HostRuntime, name: &str) -> Result<Vec<u8>, ExitCode> {
     }
 }
 
-/// The text of the file that gives the chip, where one is named.
+/// The text of the file that gives the chip, if one is named.
 ///
 /// # Errors
-/// The file can't be had, which was told.
+/// The file can't be read, which was reported.
 pub fn chip_of(rt: &HostRuntime, file: &Option<String>) -> Result<Option<Vec<u8>>, ExitCode> {
     match file {
         None => Ok(None),
@@ -85,7 +85,7 @@ pub fn chip_of(rt: &HostRuntime, file: &Option<String>) -> Result<Option<Vec<u8>
     }
 }
 
-/// Tells why a file can't be read: 1 for want of memory, else 2.
+/// Reports why a file can't be read. Returns 1 if memory is exhausted, else 2.
 fn unread_for(rt: &HostRuntime, name: &str, why: &io::Error) -> ExitCode {
     let status = if why.kind() == ErrorKind::OutOfMemory {
         1

@@ -39,7 +39,7 @@ const MOST_STEPS: u32 = 100_000;
 /// How many milliseconds pass between two looks whether all is done.
 const TICK: u64 = 20;
 
-/// After how many looks whether all is done progress is told.
+/// The number of checks for the end between two progress lines.
 const TICKS: u64 = 50;
 
 fn main(rt: HostRuntime) -> ExitCode {
@@ -153,7 +153,7 @@ fn debug(rt: &HostRuntime, limit: u32) -> ExitCode {
     exit(rt, session(rt.alloc(), &mut reader, &mut writer, limit))
 }
 
-/// What is made of a file, where one is named, and of standard input behind it.
+/// What is done with a file, if one is named, followed by standard input.
 #[derive(Clone, Copy)]
 enum Work {
     Explore { limit: u32 },
@@ -163,7 +163,7 @@ enum Work {
     Draw { view: View, limit: u32 },
 }
 
-/// Reads a file, where one is named, and standard input behind it, and does the work; on the chip of another file, where one is named.
+/// Reads a file, if one is named, followed by standard input, and does the work; on the chip of another file, if one is named.
 fn served(rt: &HostRuntime, work: Work, chip: &Option<String>, file: &Option<String>) -> ExitCode {
     let front = match front_of(rt, file) {
         Ok(front) => front,
@@ -189,8 +189,8 @@ fn served(rt: &HostRuntime, work: Work, chip: &Option<String>, file: &Option<Str
     exit(rt, status)
 }
 
-/// How many runs of a program are made at most, whether its idle nodes come to rest first, which order is asked for by its number, if it
-/// isn't 0, and how many workers there are.
+/// The maximum number of runs of a program, whether its idle nodes come to rest first, the number of the requested order, if it
+/// isn't 0, and the number of workers.
 #[derive(Clone, Copy)]
 struct Runs {
     most: u32,
@@ -199,7 +199,7 @@ struct Runs {
     workers: u32,
 }
 
-/// Reads a file, where one is named, or standard input, and runs every order of its nodes. Its progress is told where that is wanted.
+/// Reads a file, if one is named, or standard input, and runs every order of its nodes. Reports progress if requested.
 fn checked<T: Threads + Sync>(
     threads: &T,
     rt: &HostRuntime,
@@ -259,7 +259,7 @@ fn verdict_on<T: Threads + Sync>(
     )
 }
 
-/// Tells each second how many runs were made so far, until all is done.
+/// Reports each second how many runs were made so far, until all is done.
 fn tell_progress(rt: &HostRuntime, made: &AtomicU64, is_done: &AtomicBool) {
     for tick in 1..u64::MAX {
         thread::sleep(rt, Duration::from_millis(TICK));
@@ -285,7 +285,7 @@ fn exit_with(rt: &HostRuntime, verdict: Verdict) -> ExitCode {
     }
 }
 
-/// Writes the help that was asked for. That of `explore` has a line where the commands go that a session tells of.
+/// Writes the requested help. That of `explore` has a line in the place of the commands that a session lists.
 fn help(rt: &HostRuntime, text: &str) -> ExitCode {
     let written = match text.split_once("{commands}\n") {
         Some((above, below)) => print!(rt; "{above}{}{below}", Usage),
@@ -313,7 +313,7 @@ fn exit(rt: &HostRuntime, status: Status) -> ExitCode {
     }
 }
 
-/// Tells that the command line is refused, and why.
+/// Reports that the command line is refused, and why.
 fn refused(rt: &HostRuntime, why: &str) -> ExitCode {
     let _ = eprint!(rt; "ga144: command line refused\n{why}");
     ExitCode::from(3)

@@ -26,7 +26,8 @@ fn go(rt: &impl Print, lab: &mut Lab, node: NodeId) -> anyhow::Result<()> {
     Ok(())
 }
 
-/// Steps both nodes, and tells how step 4 of the sender, which read the word from memory, led to step 5 of the reader, which took it.
+/// Steps both nodes, and prints how step 4 of the sender, which read the word from memory, led to step 5 of the reader, which
+/// received it.
 fn send(rt: &impl Print, lab: &mut Lab, sender: NodeId, reader: NodeId) -> anyhow::Result<()> {
     go(rt, lab, sender)?;
     go(rt, lab, reader)?;

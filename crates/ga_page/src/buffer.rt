@@ -1,4 +1,4 @@
-//! Buffers that the host lends, and what stands between them and a call.
+//! Buffers of the host, and how a call uses them.
 
 ghost use Rattle.std.specs.Prelude.{◌≡◌, [], length, take};
 

@@ -11,10 +11,10 @@ use ga_image::parse;
 use ga_picture::{Shade, shades};
 use std::alloc::Global;
 
-/// Makes the events that the nodes with these numbers make one after another on the chip of an image, and tells of each by a
-/// byte how it stands to the event at `place`, which counts from 0: 2 where it depends on that, 1 where that depends on it, else
-/// 0. As far as there is room; says how many they are. 0 where there are none: the image is refused, a number is no node's, a node
-/// has no event, the place is past them all, or memory is refused.
+/// Makes the events that the nodes with these numbers make one after another on the chip of an image, and writes a byte for
+/// each, by its relation to the event at `place`, which counts from 0: 2 if it depends on that, 1 if that depends on it,
+/// otherwise 0. Writes as many as there is room for; returns how many there are. 0 if there are none: the image is refused, a
+/// number is no node's, a node has no event, the place is after them all, or an allocation failed.
 #[unsafe(no_mangle)]
 pub extern "C" fn ga_shades(
     alloc: Global,
@@ -32,7 +32,7 @@ pub extern "C" fn ga_shades(
     }
 }
 
-/// How each of the events stands to the one at the place.
+/// The relation of each event to the one at the place.
 fn codes(alloc: Global, image: &[u8], nodes: &[u8], place: u32) -> Option<Vec<u8>>
     ensures { IfSome result (λ codes. AreCodes image.now nodes.now place codes.items) }
 {

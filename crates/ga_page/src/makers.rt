@@ -12,9 +12,9 @@ use ga_lab::Lab;
 use ga_picture::follow_session;
 use std::alloc::Global;
 
-/// Carries a session out that is given whole, and tells of each event that is kept at its end, in their order, the number of the
-/// node whose step makes it, of a pass that of the writer: a byte each, as far as there is room. Says how many they are; 0 where
-/// there are none, or the end isn't reached: the image or source is refused, the input is too long, or memory is refused.
+/// Executes a session that is given whole, and writes for each event in the history at its end, in order, the number of the
+/// node that made it, of a pass that of the writer: a byte each, as many as there is room for. Returns how many there are; 0 if
+/// there are none, or the end isn't reached: the image or source is refused, the input is too long, or an allocation failed.
 #[unsafe(no_mangle)]
 pub extern "C" fn ga_kept(alloc: Global, input: &[u8], output: &mut [u8], limit: u32) -> usize
     ensures { (result ≡ 0) ⊎ ((read rest text : Bytes) × (last : Exploring) × (input.now ≡ read ++ rest)
@@ -28,7 +28,7 @@ pub extern "C" fn ga_kept(alloc: Global, input: &[u8], output: &mut [u8], limit:
     }
 }
 
-/// Tells the nodes that made a lab's kept events.
+/// Writes the nodes that made the events of a lab's history.
 fn tell(alloc: Global, lab: &Lab, output: &mut [u8]) -> usize
     ensures { (result ≡ 0) ⊎ ((nodes : List ℕ) × (nodes ≡ makers_of lab.now)
         × (result ≡ length nodes) × (take result output.new ≡ take (length output.old) nodes)) }

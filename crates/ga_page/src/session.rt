@@ -11,8 +11,8 @@ use ga_console::Status;
 use ga_explorer::explore;
 use std::alloc::Global;
 
-/// Answers a session that is given whole, as far as there is room for the answers, and says how many bytes they have. How it ended
-/// stands at the front of `ended`, where that has room, as the program's exit status tells it: 2 where memory was wanting for the
+/// Answers a session that is given whole, as far as there is room for the answers, and returns how many bytes they have. The
+/// first byte of `ended`, if it has room, is how it ended, as the program's exit status: 2 if memory was exhausted for the
 /// answers, so that they end before the session does.
 #[unsafe(no_mangle)]
 pub extern "C" fn ga_session(

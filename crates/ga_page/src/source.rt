@@ -9,8 +9,8 @@ use crate::buffer::{put_front, streams};
 use ga_listing::{assemble_source, list_source};
 use std::alloc::Global;
 
-/// The image of a source, as far as there is room for it; says how many bytes it has, 0 where the source is refused. Its fault
-/// or its warnings stand at the front of `told`, as far as there is room, and behind them `told` is as it was.
+/// The image of a source, as far as there is room for it; returns how many bytes it has, 0 if the source is refused. Its fault
+/// or its warnings are at the front of `told`, as far as there is room; the rest of `told` is unchanged.
 #[unsafe(no_mangle)]
 pub extern "C" fn ga_assemble(
     alloc: Global,

@@ -116,7 +116,7 @@ const FILE: SourceFile<'static> = SourceFile {
     path: "/calls.f18",
 };
 
-/// The calls in which node 000 stands after seven steps.
+/// The open calls of node 000 after seven steps.
 const FRAMES: &str =
     "{\"stackFrames\":[{\"column\":7,\"id\":1,\"instructionPointerReference\":\"0x000005\",\"line\":9,\"name\":\"000 quad\",\"source\":{\"name\":\"calls.f18\",\"path\":\"/calls.f18\"}},{\"column\":3,\"id\":2,\"instructionPointerReference\":\"0x000003\",\"line\":6,\"name\":\"000 double\",\"source\":{\"name\":\"calls.f18\",\"path\":\"/calls.f18\"}},{\"column\":5,\"id\":3,\"instructionPointerReference\":\"0x000000\",\"line\":3,\"name\":\"000 main\",\"source\":{\"name\":\"calls.f18\",\"path\":\"/calls.f18\"}}],\"totalFrames\":3}";
 
@@ -148,7 +148,7 @@ fn returned_calls_are_closed(rt: HostRuntime) -> Result<(), Fail> {
     match calls.first() {
         Some(call) => {
             same(&rt, &call.step, &3);
-            // `call` stands in slot 1 of cell 0.
+            // `call` is in slot 1 of cell 0.
             same(&rt, &call.at, &Some(Spot { cell: 0, slot: 1 }));
         }
         None => assert!(&rt; false),

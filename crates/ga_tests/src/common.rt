@@ -22,7 +22,7 @@ pub fn each_same<T: PartialEq + Debug>(rt: &impl Abort, got: &[T], wanted: &[T])
     assert_eq!(rt; got, wanted);
 }
 
-/// Each thing is said so to a person.
+/// Each value has this text for a person.
 pub fn each_said<T: Display>(
     rt: &impl Abort,
     alloc: Global,
@@ -35,7 +35,7 @@ pub fn each_said<T: Display>(
     Ok(())
 }
 
-/// A lab with the chip of an image, which keeps up to so many events.
+/// A lab with the chip of an image, whose history has at most `limit` events.
 pub fn lab_of(alloc: Global, image: &[u8], limit: u32) -> Result<Lab, Fail> {
     let lab = Lab::new(alloc, parse(alloc, image)?, limit)?;
     Ok(lab)
@@ -49,7 +49,7 @@ pub const PAIR: &[u8] =
 pub const CALLS: &[u8] =
     b"node 000\n: main\n  5 double drop\n  main ;\n: double\n  quad\n  2* ;\n: quad\n  dup +\n  dup + ;\n";
 
-/// The lab of a source, in which node 000 made so many steps, and what the source says of its cells.
+/// The lab of a source, in which node 000 made `steps` steps, and its debug info.
 pub fn begun(
     rt: &impl Abort,
     alloc: Global,

@@ -90,7 +90,8 @@ fn steps(lab: &mut Lab, node: NodeId, count: u32) -> Result<(), LabFault> {
     Ok(())
 }
 
-// The pair behind its pass, where node 700 keeps so many own events: seven steps of the sender, five of the taker.
+// The pair after its pass, with a number of own events of node 700 in the history: seven steps of the sender, five of the
+// receiver.
 fn passed_beside(alloc: Global, others: u32) -> Result<Lab, Fail> {
     let (n000, n001, n700) = (NodeId::new(0), NodeId::new(1), NodeId::new(126));
     let mut lab = lab_of(alloc, PAIR, 1_000_000)?;

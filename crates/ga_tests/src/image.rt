@@ -19,7 +19,7 @@ fn assert_refusal(rt: &impl Abort, alloc: Global, text: &[u8], wanted: Refusal) 
     assert_eq!(rt; refusal(alloc, text), wanted, "at {text:?}");
 }
 
-/// Lines behind the end, which a session reads as commands.
+/// Lines after the end, which a session parses as commands.
 const BEHIND: [(&[u8], Refusal); 3] = [
     (b"ga144 1\nend\n\n", Some((12, 3))),
     (b"ga144 1\nend\nend", Some((12, 3))),

@@ -1,5 +1,5 @@
-//! The tests of what no session shows: calls that no session makes, a chip that threads share, each order of small programs, texts that are
-//! read and refused, and what an editor is shown. What sessions show stands in the folder `sessions` at the top.
+//! Tests of what no session shows: calls that no session makes, a chip that threads share, each order of small programs, texts
+//! that are parsed and refused, and what an editor is shown. What sessions show is in the folder `sessions` at the top.
 #![tactic(auto)]
 
 #[cfg(test)]

@@ -84,7 +84,7 @@ fn requests_are_read(rt: HostRuntime) -> Result<(), Fail> {
     Ok(())
 }
 
-/// What is said of each cause.
+/// The text of each cause.
 #[test]
 fn causes_are_said(rt: HostRuntime) -> Result<(), Fail> {
     let causes = [

@@ -39,7 +39,7 @@ fn watching(watched: Watched) -> Breakpoint {
 /// The second `dup` of `quad` is come to.
 const SECOND_DUP: Watched = Watched::Comes(Spot { cell: 5, slot: 2 });
 
-/// A move of node 000 by lines, with no breakpoint, is at its end after so many events.
+/// A move of node 000 by lines, with no breakpoint, ends after this number of events.
 fn moves(rt: &impl Abort, lab: &mut Lab, notes: &Notes, mut by: Stepping, wanted: u64) {
     let halts = each_hit(lab, &[]);
     let went = step_on(lab, Schedule::in_rounds(), &mut by, notes, halts, 100);
@@ -158,7 +158,7 @@ fn a_store_is_stopped_at(rt: HostRuntime) -> Result<(), Fail> {
     };
     let breakpoints = [watching(Watched::Writes(9)), main];
     let halts = each_hit(&lab, &breakpoints);
-    // The node stands at address 0 when loaded, and comes there by its first fetch.
+    // The node is at address 0 when loaded, and arrives there by its first fetch.
     let first = go_on(&mut lab, Schedule::greedily(), halts, 100);
     same(&rt, &first.events, &1);
     same(&rt, &hit_by(first), &Some(1));
@@ -200,7 +200,7 @@ fn found(word: Option<SlotWord>) -> Option<(u8, usize, usize, u32, u32)> {
     Some((word.cell, word.first, word.last, word.line, word.column))
 }
 
-// What is told of these words stands in the folder `sessions/explore` at the top.
+// The answers for these words are in the folder `sessions/explore` at the top.
 #[test]
 fn lines_have_words(rt: HostRuntime) -> Result<(), Fail> {
     let (_, notes) = begun(&rt, rt.alloc(), LONG_LINE, 0)?;

@@ -125,7 +125,7 @@ fn servers_have_the_multinomials(rt: HostRuntime) -> Result<(), Fail> {
     Ok(())
 }
 
-// How many of the first so many orders end with a stop 2 of node 101.
+// How many of the first `count` orders end with a stop 2 of node 101.
 fn stops(alloc: Global, image: &[u8], count: u64) -> Result<u32, Fail> {
     let mut stops = 0u32;
     for met in 0..count {
@@ -218,7 +218,7 @@ fn ends_on_one_chip_are_told(rt: HostRuntime) -> Result<(), Fail> {
     Ok(())
 }
 
-// The lab is left at the end of the order that is asked for, or as it was.
+// The lab is left at the end of the requested order, or unchanged.
 #[test]
 fn an_order_is_reached(rt: HostRuntime) -> Result<(), Fail> {
     let alloc = rt.alloc();
@@ -294,8 +294,8 @@ fn a_look_is_told(rt: HostRuntime) -> Result<(), Fail> {
     Ok(())
 }
 
-// An arbiter may look in vain before each word and behind the last one: the numbers were found by all interleavings. A node that looks
-// n times sees the word at one of them, or at none.
+// An arbiter may look in vain before each word and after the last one: the numbers were found by all interleavings. A node that
+// looks n times sees the word at one of them, or at none.
 #[test]
 fn looks_are_choices(rt: HostRuntime) -> Result<(), Fail> {
     let alloc = rt.alloc();
@@ -335,7 +335,7 @@ fn a_bound_is_told_where_nodes_look(rt: HostRuntime) -> Result<(), Fail> {
     Ok(())
 }
 
-// Each order of a program whose nodes look is reached, and no one behind the last.
+// Each order of a program whose nodes look is reached, and none after the last.
 #[test]
 fn an_order_with_looks_is_reached(rt: HostRuntime) -> Result<(), Fail> {
     let alloc = rt.alloc();

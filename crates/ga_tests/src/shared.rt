@@ -1,4 +1,4 @@
-//! A chip that threads share: what is told of the calls of a race, and what closing it makes of receipts.
+//! A chip that threads share: the log of the calls of a race, and what closing it does to receipts.
 
 ghost use Rattle.std.specs.Prelude.{◌≡◌, ◌<◌, ◌^◌, All, IfOk, vec_len};
 
@@ -120,7 +120,8 @@ fn workers_take_turns(rt: HostRuntime) -> Result<(), Fail> {
     Ok(())
 }
 
-/// Counts what the first and the last of 16 workers tell: 2k behind call k, and 2k - 1 before its answer. Notes any other order.
+/// Counts what the first and the last of 16 workers report: 2k after call k, and 2k - 1 before its answer. Notes any other
+/// order.
 #[derive(Drop)]
 struct Told {
     first: AtomicU32,
@@ -180,7 +181,7 @@ fn gates_are_told_of_each_call(rt: HostRuntime) -> Result<(), Fail> {
     Ok(())
 }
 
-/// Holds worker 1 until call 1 of worker 0 is told as made, and worker 0 there until worker 1 made its four calls.
+/// Holds worker 1 until call 1 of worker 0 is reported as made, and worker 0 there until worker 1 made its four calls.
 #[derive(Drop)]
 struct OneFirst {
     is_told: AtomicBool,

@@ -1,5 +1,5 @@
-//! What stands first in some bytes; messages taken from inputs that come in pieces, end, and fail; a text that is written whole or not.
-//! Streams of the program that fail stand in `.ci/failing` at the top.
+//! What some bytes begin with; messages taken from inputs that come in pieces, end, and fail; a text that is written whole or
+//! not. Streams of the program that fail are in `.ci/failing` at the top.
 
 use crate::common::{each_said, each_same, same};
 use ga_protocol::{Broken, CONTENT_LIMIT, Front, Inbox, Next, front_of, push_frame};
@@ -10,7 +10,7 @@ use std::io::{Error, ErrorKind, Read, Write};
 use std::process::Abort;
 use std::test::Fail;
 
-/// What stands first in each text.
+/// What each text begins with.
 const FRONTS: &[(&[u8], Front)] = &[
     (
         b"Content-Length: 2\r\n\r\n{}",
@@ -107,7 +107,7 @@ fn the_bound_is_within(rt: HostRuntime) -> Result<(), Fail> {
     Ok(())
 }
 
-/// What is said of each cause.
+/// The text of each cause.
 #[test]
 fn causes_are_said(rt: HostRuntime) -> Result<(), Fail> {
     let causes = [
@@ -130,7 +130,7 @@ fn causes_are_said(rt: HostRuntime) -> Result<(), Fail> {
     each_said(&rt, rt.alloc(), &causes)
 }
 
-/// Gives up to so many bytes at a call, and fails at one call.
+/// Returns at most a given number of bytes a call, and fails at one call.
 #[derive(Drop)]
 struct Pieces {
     left: &'static [u8],
@@ -237,7 +237,7 @@ fn a_broken_frame_is_told_behind_what_is_whole(rt: HostRuntime) -> Result<(), Fa
     Ok(())
 }
 
-/// A read that fails loses nothing: what comes behind it is taken by a further call.
+/// A read that fails loses nothing: a further call takes what comes after it.
 #[test]
 fn a_failed_read_is_told(rt: HostRuntime) -> Result<(), Fail> {
     for fails_at in 1..20 {
@@ -301,7 +301,7 @@ impl Write for Narrow {
     }
 }
 
-// Three writes and the flush, of which each fails in turn: no call comes behind it.
+// Three writes and the flush, of which each fails in turn: no call comes after the failed one.
 #[test]
 fn a_write_or_the_flush_fails(rt: HostRuntime) {
     for (fails_at, calls, taken) in [(1, 1, 0), (2, 2, 5), (3, 3, 10), (4, 4, 12), (5, 4, 12)] {

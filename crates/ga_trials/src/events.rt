@@ -5,7 +5,7 @@ use ga_node::{Kind, Node, Saved, Seen};
 use std::io;
 use std::time::Instant;
 
-/// Makes so many events with a list that is kept from one event to the next, and sums their codes.
+/// Makes `count` events with a list that is kept from one event to the next, and sums their codes.
 #[inline(never)]
 fn sum_kinds(node: &mut Node, count: u32) -> u32 {
     let mut sum = 0u32;
@@ -22,7 +22,7 @@ fn sum_kinds(node: &mut Node, count: u32) -> u32 {
     sum
 }
 
-/// Makes so many events, each of which is taken back and made again, and sums their codes.
+/// Makes `count` events, each of which is undone and made again, and sums their codes.
 #[inline(never)]
 #[tactic(auto, using(ga_node::proofs::Restoring::apart_from_ready))]
 fn sum_backs(node: &mut Node, count: u32) -> u32 {
@@ -41,7 +41,7 @@ fn sum_backs(node: &mut Node, count: u32) -> u32 {
     sum
 }
 
-/// The nanoseconds that the best of some rounds of so many events of a program took, and the sum.
+/// The nanoseconds of the best of some rounds of `count` events of a program, and the sum.
 pub fn time_events(
     rt: &HostRuntime,
     words: &[u32],

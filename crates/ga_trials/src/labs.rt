@@ -7,7 +7,7 @@ use std::alloc::Global;
 use std::io;
 use std::time::Instant;
 
-/// A lab in which each of the first so many nodes sums without end.
+/// A lab in which each of the first `nodes` nodes sums without end.
 pub fn adding(alloc: Global, nodes: u8) -> Option<Lab> {
     let mut chip = Chip::new(alloc).ok()?;
     for number in 0..144u8 {
@@ -18,8 +18,8 @@ pub fn adding(alloc: Global, nodes: u8) -> Option<Lab> {
     Lab::new(alloc, chip, u32::MAX).ok()
 }
 
-/// Makes so many steps of the first nodes in turn, and counts those that were made; inlined, by the call that has none of its own in this
-/// loop.
+/// Makes a number of steps of the first nodes in turn, and counts those that were made; inlined, by the call that has none of
+/// its own in this loop.
 #[inline(never)]
 fn steps<const IS_INLINED: bool>(lab: &mut Lab, nodes: u8, count: u32) -> u32 {
     let mut made = 0u32;
@@ -42,7 +42,7 @@ fn steps<const IS_INLINED: bool>(lab: &mut Lab, nodes: u8, count: u32) -> u32 {
     made
 }
 
-/// Takes so many events back, and counts them.
+/// Undoes `count` events, and counts them.
 #[inline(never)]
 fn undos(lab: &mut Lab, count: u32) -> u32 {
     let mut undone = 0u32;
@@ -62,7 +62,7 @@ pub enum Act {
     Undo,
 }
 
-/// The nanoseconds that so many steps of the first nodes in turn took, or so many undos, and how many were made.
+/// The nanoseconds of a number of steps of the first nodes in turn, or of as many undos, and how many were made.
 pub fn time_act(
     rt: &HostRuntime,
     lab: &mut Lab,

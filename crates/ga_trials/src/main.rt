@@ -1,18 +1,20 @@
-//! Runs that are timed or counted, or of which one growth of memory is refused. Each line of standard input names one, with numbers behind
-//! its name. What depends on the machine goes to standard error.
+//! Runs that are timed or counted, or in which one allocation fails. Each line of standard input names one, with numbers after
+//! its name. What depends on the machine is written to standard error.
 //!
-//! Timed, where the best of the rounds counts:
+//! Timed, by the best of the rounds:
 //!
 //! - `busy-into EVENTS ROUNDS`, `busy-back`, `mixed-into` and `mixed-back`: events of a node
-//! - `lab NODES STEPS`: steps of the first nodes of a lab in turn, which are all taken back, and made again; `lab-inlined` makes them by
+//! - `lab NODES STEPS`: steps of the first nodes of a lab in turn, all undone and made again; `lab-inlined` makes them by
 //!   `Lab::step_inlined`
-//! - `rewind EVENTS ROUNDS`: rollbacks that remove three entries where so many events are kept; `foretell` asks what they would take
-//! - `rewind-beside COUNT ROUNDS` and `foretell-beside`: the same where the nodes rolled back, and a neighbour that looked, keep four times
-//!   so many events each
-//! - `rewind-all EVENTS`: one that removes so many
-//! - `rewind-looks LOOKS ROUNDS`: rollbacks of a wait that take so many looks of a neighbour along
+//! - `rewind EVENTS ROUNDS`: rollbacks that remove three entries from a history of EVENTS events; `foretell` queries what they
+//!   would remove
+//! - `rewind-beside COUNT ROUNDS` and `foretell-beside`: the same if the nodes rolled back, and a neighbour that looked, have
+//!   four times COUNT events each
+//! - `rewind-all EVENTS`: one that removes EVENTS events
+//! - `rewind-looks LOOKS ROUNDS`: rollbacks of a wait that also remove LOOKS looks of a neighbour
 //!
-//! Refused, where growth N of the run fails, from 1 on, or none by 0: `causes N`, `messages N`, `shared N`, `shared-broken-off N`, `race N`.
+//! Allocation N of the run fails, from 1 on, or none for 0: `causes N`, `messages N`, `shared N`, `shared-broken-off N`, `race
+//! N`.
 #![tactic(auto)]
 
 mod causes;
@@ -86,7 +88,7 @@ fn is_timed(rt: &HostRuntime, name: &str, count: u32, rounds: u32) -> io::Result
     Ok(true)
 }
 
-/// Prints how many there were of a thing, and what one of so many took.
+/// Prints the number of things, and the time for one of `count`.
 fn print(rt: &HostRuntime, what: &str, timed: (u128, u32), count: u32, of: &str) -> io::Result<()> {
     let hundredths = timed.0.saturating_mul(100) / u128::from(count.max(1));
     println!(rt; "{what} {}", timed.1)?;

@@ -72,7 +72,7 @@ fn answered(alloc: Global, request: &ClientRequest, outbox: &mut Outbox) -> Outc
     outcome
 }
 
-/// Answers in one way. What is refused adds nothing, and is asked for again.
+/// Answers in one way. A refusal adds nothing, and is requested again.
 fn sent(alloc: Global, request: &ClientRequest, outbox: &mut Outbox, way: Way) -> Outcome {
     let before = outbox.bytes().len();
     if sent_once(alloc, request, outbox, way).is_ok() {

@@ -1,8 +1,8 @@
-//! Runs in which one growth of memory is refused. The run asks again at once for what was refused, and one line says how it came out.
+//! Runs in which one allocation fails. The run repeats at once what was refused, and one line says how it ended.
 //!
-//! The refusal comes from outside: the process's growth 1000 has to fail (`.ci/growths` sees to it, or `rt try --fail-alloc 1000`),
-//! and the growths before the run are made so many that this is the run's. A run is over only where the refused growth is still
-//! ahead, so a growth that is added later, and one whose refusal nobody tells, changes a line.
+//! The failure comes from outside: the process's allocation 1000 fails (`.ci/growths` or `rt try --fail-alloc 1000`), and the
+//! number of allocations before the run is chosen so that this is the run's. A run is over only if the failing allocation is
+//! still ahead, so an allocation that is added later, or a failure that nobody reports, changes a line.
 
 use crate::causes::causes;
 use crate::messages::messages;
@@ -53,7 +53,7 @@ fn run_of<R: Threads + Wait + Sync>(rt: &R, alloc: Global, run: &str) -> Outcome
     }
 }
 
-/// Makes so many growths; false where one is refused.
+/// Makes `count` allocations; false if one fails.
 fn grow(alloc: Global, count: u32) -> bool {
     for _ in 0..count {
         if Box::new(alloc, 0u8).is_err() {

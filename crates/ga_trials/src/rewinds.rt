@@ -10,7 +10,7 @@ use std::time::Instant;
 /// How many pairs of neighbours pass a word; the last node of the grid makes own events.
 const PAIRS: u8 = 71;
 
-/// Makes so many steps of a node, and counts those that were made.
+/// Makes `count` steps of a node, and counts those that were made.
 fn steps(lab: &mut Lab, node: NodeId, count: u32) -> u32 {
     let mut made = 0u32;
     for _ in 0..count {
@@ -21,8 +21,8 @@ fn steps(lab: &mut Lab, node: NodeId, count: u32) -> u32 {
     made
 }
 
-/// A lab in which the last node has made so many own events, and then each pair has passed its word: the first node of a pair
-/// sends a literal to the right, and the second takes it. None where fewer events were made.
+/// A lab in which the last node has made `own` own events, and then each pair has passed its word: the first node of a pair
+/// sends a literal to the right, and the second receives it. None if fewer events were made.
 pub fn passed(alloc: Global, own: u32) -> Option<Lab> {
     let mut chip = Chip::new(alloc).ok()?;
     for pair in 0..PAIRS {
@@ -52,11 +52,11 @@ pub fn about_to_look(alloc: Global) -> Option<Lab> {
     Some(lab)
 }
 
-/// A lab in which node 100 looked at its neighbours again and again, and then node 000 and node 001 made own events, each of the three
-/// so many times four events, before node 000 sent a word to node 001. None where fewer were made.
+/// A lab in which node 100 looked at its neighbours again and again, and then node 000 and node 001 made own events, each of
+/// the three four times `count` events, before node 000 sent a word to node 001. None if fewer were made.
 pub fn passed_late(alloc: Global, count: u32) -> Option<Lab> {
-    // `@p push . .`, the count behind it, and `. . . unext`: four events for each of the count and four more. Then what a sender or a
-    // taker does.
+    // `@p push . .`, then the count, and `. . . unext`: four events for each of the count and four more. Then what a sender or
+    // a receiver does.
     let sender = [0x48b2, count, 0x2c9b4, 0x4b12, 0x1d5, 0x2a, 0x89b2];
     let taker = [0x48b2, count, 0x2c9b4, 0x4b02, 0x1d5];
     let mut chip = Chip::new(alloc).ok()?;
@@ -81,7 +81,7 @@ pub enum Goes {
     Pairs,
     /// The word of node 000 and the wait to send it.
     Word,
-    /// A wait of node 000 and so many later looks of node 001 at it, with the `unext` behind each three of them.
+    /// A wait of node 000 and this number of later looks of node 001 at it, with the `unext` after each three of them.
     Looks(u32),
     /// All that the last node made.
     All,
@@ -141,7 +141,7 @@ fn pass_again(lab: &mut Lab, goes: Goes) {
     }
 }
 
-/// The nanoseconds of the best of some rounds of a rollback, and the number of events removed. Where it is not done, it is asked about.
+/// The nanoseconds of the best of some rounds of a rollback, and the number of events removed; or of its query.
 pub fn time_rollback(
     rt: &HostRuntime,
     lab: &mut Lab,

@@ -27,8 +27,8 @@ fn linked(alloc: Global) -> Result<Chip, Memory> {
     Ok(chip)
 }
 
-/// What is asked of the shared chip: four steps, a rollback to the third, both steps again, a rollback to a step that does not
-/// stand, and one to the first step.
+/// The calls of the shared chip: four steps, a rollback to the third, both steps again, a rollback to a step that does not
+/// exist, and one to the first step.
 fn calls() -> [Call; CALLS] {
     let node = NodeId::new(0);
     let step = Call::Step(node);
@@ -52,10 +52,10 @@ fn answers() -> [Answer; CALLS] {
     ]
 }
 
-/// How many events are kept before the first call, and behind each.
+/// The number of events in the history before the first call, and after each.
 static KEPT: [u32; 10] = [0, 1, 2, 3, 4, 2, 3, 4, 4, 0];
 
-/// How many events were made before the first call, and behind each.
+/// The number of events made before the first call, and after each.
 static MADE: [u64; 10] = [0, 1, 2, 3, 4, 4, 5, 6, 6, 6];
 
 fn made(step: u32, kind: Kind) -> Answer {
@@ -63,7 +63,7 @@ fn made(step: u32, kind: Kind) -> Answer {
     Answer::Made(Made::Own { node, step, kind })
 }
 
-/// The calls and then the closing. Where memory was refused a call is made once more, or no call comes behind it.
+/// The calls and then the closing. After an allocation failure a call is repeated, or no call follows it.
 pub fn calls_of_one<R: Wait>(rt: &R, alloc: Global, goes_on: bool) -> Outcome {
     opened::<Brand, R>(rt, alloc, Blank::new(1), goes_on)
 }
@@ -136,7 +136,7 @@ fn make<L: Ledger, R: Wait>(
     }
 }
 
-/// Whether the log is that of so many calls, and the lab the one behind them.
+/// Whether the log is that of `count` calls, and the lab the one after them.
 fn is_closed(closed: &Closed, count: usize) -> Outcome {
     let calls = calls();
     let answers = answers();

@@ -6,7 +6,7 @@ use Rattle.ga_node.specs.Record.{NodeRecord}
 use Rattle.ga_event.specs.declared.event.Cause.{Cause}
 use Rattle.ga_page.proofs.depend.make_all.Goals as goal
 
--- One event more, behind those of the nodes so far.
+-- One more event, after those of the nodes so far.
 made_more : (load : List NodeRecord) (nodes : List ℕ) (at n : ℕ) (causes : List Cause) (chip after : List NodeRecord) (cause : Cause)
     → at < length nodes → get_or nodes at 0 ≡ n → MakesAll load (take at nodes) causes chip → Makes chip n cause after
     → MakesAll load (take (at + 1) nodes) (causes ++ cause ∷ []) after

@@ -5,7 +5,7 @@ use Rattle.ga_picture.specs.Following.{FollowsTo}
 use Rattle.ga_page.specs.inner.{makers_of}
 use Rattle.ga_page.proofs.makers.ga_kept.Goals as goal
 
--- What was told, of the machine that was reached.
+-- The reports of the machine that was reached.
 kept_told : (limit result : ℕ) (input old new read rest text : List ℕ) (seen : State) (last : Exploring)
     → input ≡ read ++ rest → FollowsTo None limit read rest text (Ok last) → seen ≡ last.lab
     → (result ≡ 0) ⊎ ((nodes : List ℕ) × (nodes ≡ makers_of seen) × (result ≡ length nodes) × (take result new ≡ take (length old) nodes))
