@@ -35,12 +35,12 @@ pub upto_within : (c : Condition) (only : Option NodeId) (s : State) (n : ℕ) �
 upto_within c only s zero = omega arith
 upto_within c only s (suc n) = one_within (is_held c only s n) (held_upto c only s n) n (upto_within c only s n)
 
--- behind an event
+-- after an event
 pub upto_more : (c : Condition) (only : Option NodeId) (s : State) (n m : ℕ) (b : Bool) → m ≡ n + 1 → is_held c only s n ≡ b → held_upto c only s m ≡ cond b m (held_upto c only s n)
 upto_more c only s n m b e h =
     ap (held_upto c only s) (e ∙ add-one n) ∙ ap (λ (z : Bool). cond z (suc n) (held_upto c only s n)) h ∙ ap (λ (z : ℕ). cond b z (held_upto c only s n)) (sym (add-one n) ∙ sym e)
 
--- what was told of the event
+-- the report of the event
 pub held_as : (c : Condition) (only : Option NodeId) (s : State) (n : ℕ) (m : Made) (a h : Bool) → made_in (told_of_kept s) n ≡ Some m → a ≡ is_among only (Some m)
     → h ≡ holds c m (earlier s (n + 1)) → is_held c only s n ≡ a && h
 held_as c only s n m a h is among here =
@@ -152,12 +152,12 @@ none_found cs only s (suc n) h p l = by_test (is_asked_held cs only s n) refl h 
 
 -- ---- the walk over the events
 
--- what is told of the event right before a place
+-- the report of the event just before a place
 pub told_prev : (s : State) (n : ℕ) (m : Made) → 0 < n → Some m ≡ told_before s n → made_in (told_of_kept s) (n - 1) ≡ Some m
 told_prev s zero m l h = absurd (omega arith)
 told_prev s (suc n) m l h = ap (made_in (told_of_kept s)) (let e : suc n - 1 ≡ n = omega arith in e) ∙ sym h
 
--- where no event is found at it, the search goes on below, and ends where it may
+-- if no event is found at it, the search continues below, and ends where it may
 pub below : (c : Condition) (only : Option NodeId) (s : State) (least n m total : ℕ) → m + 1 ≡ n → is_held c only s m ≡ false
     → max least (held_upto c only s n) ≡ max least total → max least (held_upto c only s m) ≡ max least total
 below c only s least n m total e h same =
@@ -172,7 +172,7 @@ pub ended : (c : Condition) (only : Option NodeId) (s : State) (least n total : 
     → max least (held_upto c only s n) ≡ max least total → least ≡ max least total
 ended c only s least n total l same = (let q : least ≡ max least (held_upto c only s n) = omega (arith, l, upto_within c only s n) in q) ∙ same
 
--- a walk that stands behind the event which the events stand before
+-- a walk that is after the event which the other events precede
 pub stands_now : (w : Standing) (t : Telling) (s : State) (n : NodeId) (k place m : ℕ) → w.machine ≡ s → w.node ≡ n → w.step ≡ k → k ≡ steps_of n.number (take place s.kept)
     → t ≡ telling s m → m + 1 ≡ place → w ≡ standing t.machine n (steps_of n.number (take (t.place + 1) t.machine.kept))
 stands_now w t s n k place m machine node step at told e =
@@ -211,9 +211,9 @@ undone_from s place l =
     undone_all s (length s.kept - place) (omega arith)
     ∙ (let e : length s.kept - (length s.kept - place) ≡ place = omega (arith, l) in ap (earlier s) e)
 
--- ---- the step of a node that is found going back is the event that stands there
+-- ---- the step of a node that a search backwards finds is the event at that place
 
--- what is told of an event has the number of its step of each of its nodes
+-- the report of an event has the number of its step of each of its nodes
 number_behind : (before : List Event) (e : Event) (what : Told) (m : Made) (n : ℕ) → made_after before e what ≡ Some m → is_step_of n m ≡ true
     → number_of_step n (Some m) ≡ steps_of n before + 1
 number_behind before (event.Own node) (Did kind) m n is own =

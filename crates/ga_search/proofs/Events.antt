@@ -1,4 +1,4 @@
--- Events made one after another, and how a run goes on and is over.
+-- Events made one after another, and how a run continues and ends.
 use Rattle.std.proofs.Common.{◌≡◌, ℕ, zero, suc, ◌+◌, ◌-◌, ◌<◌, List, Some, None, Ok, inl, inr, refl, sym, ◌∙◌, ap, subst, arith, add-one, ◌≤◌, Bool, true, false, if◌then◌else◌}
 use Rattle.std.specs.Prelude.{Option, is_some, IsSome}
 use Rattle.std.specs.Result.{result_ok}
@@ -57,7 +57,7 @@ ended_halted until start here most n (the_end.Refused why) at less never h = (le
 ended_halted until start here most n (the_end.Reached made which) at less never h = absurd h
 ended_halted until start here most n the_end.Made at less never h = absurd h
 
--- Two runs, one behind the other, are one.
+-- Two runs, one after the other, are one.
 
 pub after_after : (r : Running) (m n : ℕ) → after_events (after_events r m) n ≡ after_events r (m + n)
 after_after r m zero = ap (after_events r) (let e : m ≡ m + 0 = omega arith in e)
@@ -85,7 +85,7 @@ ended_later until r most m n the_end.Quiet never h =
 ended_later until r most m n (the_end.Refused why) never h =
     ((let l : n < most = h.0 in omega arith), never_both until r m n never h.1, subst (λ z. IsHalted z (the_end.Refused why)) (after_after r m n) h.2)
 
--- one event: what is told of it, and where it leads
+-- one event: its report, and where it leads
 pub told_is : (s : State) (schedule : Schedule) (node : NodeId) (made : Made) → chosen (running s schedule) ≡ Some node → step_answer s node ≡ Ok made → told (running s schedule) ≡ Some made
 told_is s schedule node made who answer = ap (told_by_step s) who ∙ ap result_ok answer
 
@@ -93,7 +93,7 @@ pub moved_is : (s t : State) (a b : Schedule) (node : NodeId) → chosen (runnin
 moved_is s t a b node who state schedule =
     ap (λ z. running z b) state ∙ ap (λ z. running (stepped s node) z) schedule ∙ sym (ap (moved_by (running s a)) who)
 
--- ---- how a run goes on by one event, and how it is over
+-- ---- how a run continues by one event, and how it ends
 
 -- where nothing was made, it is the same run
 pub stayed : (s t : State) (a b : Schedule) → t ≡ s → b ≡ a → running t b ≡ running s a
@@ -176,7 +176,7 @@ made_more_first first start here n made at is before k l = elim (cases_lt k n) [
       subst (λ z. IsSome (told_first first (after_first first start z))) (sym e) (subst (λ z. IsSome (told_first first z)) at (ap is_some is)))
 ]
 
--- the watch behind it
+-- the watch after it
 watch_more : {W : Type 0} (by : Watching W) (w : W) (r : Running) (n : ℕ)
     → watch_after by w r (n + 1) ≡ seen_told by (watch_after by w r n) (told_first by.first (after_first by.first r n)) (first_moved by.first (after_first by.first r n)).state
 watch_more by w r n = ap (watch_after by w r) (add-one n)
@@ -222,7 +222,7 @@ ended_halted_first by w start here most n (watched_end.Refused why) at less neve
 ended_halted_first by w start here most n (watched_end.Seen made) at less never h = absurd h
 ended_halted_first by w start here most n watched_end.Made at less never h = absurd h
 
--- ---- two runs, one behind the other, are one
+-- ---- two runs, one after the other, are one
 
 pub after_after_first : (first : Option NodeId) (r : Running) (m n : ℕ) → after_first first (after_first first r m) n ≡ after_first first r (m + n)
 after_after_first first r m zero = ap (after_first first r) (let e : m ≡ m + 0 = omega arith in e)
@@ -272,7 +272,7 @@ ended_later_first by w r most m n watched_end.Quiet never h =
 ended_later_first by w r most m n (watched_end.Refused why) never h =
     ((let l : n < most = h.0 in omega arith), never_both_first by w r m n never h.1, subst (λ z. IsHaltedFirst by.first z (watched_end.Refused why)) (after_after_first by.first r m n) h.2)
 
--- where none goes first, it is a run in the order of the schedule
+-- if no node has precedence, it is a run in the order of the schedule
 pub after_none : (r : Running) (n : ℕ) → after_first None r n ≡ after_events r n
 after_none r zero = refl
 after_none r (suc n) = ap run_moved (after_none r n)

@@ -20,7 +20,7 @@ use Rattle.ga_search.specs.inner.{AreCounted, is_one_of, may_fetch, lacks, Cover
 
 -- ---- which of some conditions holds first, and which are asked for
 
--- where none of so many passes a test, nor the next one, none of one more does
+-- if none of the first `n` passes a test, nor the next one, none of one more does
 pub none_more : (test : Condition → Bool) (until : List Condition) (n : ℕ) (next : Condition) → slice_get until n ≡ Some next → test next ≡ false
     → ((k : ℕ) (one : Condition) → slice_get until k ≡ Some one → k < n → test one ≡ false)
     → (k : ℕ) (one : Condition) → slice_get until k ≡ Some one → k < n + 1 → test one ≡ false
@@ -32,7 +32,7 @@ none_more test until n next is fails before k one at l = elim (cases_lt k n) [
       ap test (sym same) ∙ fails)
 ]
 
--- none of so many holds
+-- none of the first `n` holds
 abbrev pub NoneOf : List Condition → Made → State → ℕ → Type 0
 NoneOf until m s n = (k : ℕ) (one : Condition) → slice_get until k ≡ Some one → k < n → holds one m s ≡ false
 
@@ -108,7 +108,7 @@ needed_more a b until n next is here more fetches before k one at l = elim (case
       subst (Covers b) same here)
 ]
 
--- What lacks it: no opcode that stores, no fetch behind it, no wait and no stop.
+-- What lacks it: no opcode that stores, no fetch after it, no wait and no stop.
 
 is_other : (opcodes code c : ℕ) → is_one_of opcodes code ≡ false → 4 ≤ opcodes → 0x0b < c → c < 0x10 → (code == c) ≡ false
 is_other opcodes code c off many above below = false_from_ne_true (code == c) (λ same.

@@ -1,4 +1,4 @@
--- What is told of the events that are kept, of the newest and of the first.
+-- The reports of the events in the history, of the newest and of the first.
 use Rattle.std.proofs.Common.{◌≡◌, ℕ, ◌+◌, ◌-◌, ◌<◌, Bool, true, false, cond, List, [], ◌∷◌, ◌++◌, length, take, Some, None, Ok, refl, sym, ◌∙◌, ap, arith, take_all, length-append, zero, suc, ◌==◌, if◌then◌else◌, ◌%◌, ◌≤◌, ◌&&◌, subst, add-one}
 use Rattle.std.specs.Prelude.{Option, IsSome, option_and_then, option_map, slice_get, ◌||◌, option_to_list, nat_lt, slice_index}
 use Rattle.std.proofs.lemmas.Option.{slice_get-map, slice_get_within, get_or_from_slice_get, same_Some}
@@ -29,12 +29,12 @@ use Rattle.std.proofs.lemmas.Bool.{lt-ltb, le-ltb, cond-true, cond-false}
 use Rattle.ga_grid.specs.Chip.{record_at}
 use Rattle.ga_search.specs.declared.condition.Condition.TheVariants.{Holds, ComesTo, Reaches, Writes}
 
--- ---- what is told of the events that are kept, and the steps that they are of
+-- ---- the reports of the events in the history, and whose steps these are
 
 last_place : (xs : List Event) (e : Event) → length (xs ++ e ∷ []) - 1 ≡ length xs
 last_place xs e = grind (arith, length-append)
 
--- what is told of the newest event after a step
+-- the report of the newest event after a step
 pub newest_step : (s : State) (n : NodeId) (m : Made) → IsSome (replay s.load s.kept) → step_answer s n ≡ Ok m → newest_told (stepped s n) ≡ Some m
 newest_step s n m some h =
     let i : StepIs s n m = step_is s n m h in
@@ -56,7 +56,7 @@ steps_more n place xs e is =
     ap (steps_of n) (take_more xs place e (slice_get_within xs place e is) ∙ ap (λ z. take place xs ++ z ∷ []) (get_or_from_slice_get xs place e e is))
     ∙ steps_behind n (take place xs) e
 
--- what is told of an event says which nodes it touches
+-- the report of an event determines which nodes it touches
 or_none : (b : Bool) → b || false ≡ b
 or_none true = refl
 or_none false = refl
@@ -71,7 +71,7 @@ of_made before (event.Own node) (Carried word) m n is = absurd (cc)
 of_made before (event.Pass w r side) (Did kind) m n is = absurd (cc)
 of_made before (event.Pass w r side) (Carried word) m n is = ap (λ (b : Bool). (w.number == n) || b) (or_none (r.number == n)) ∙ ap (is_of_told n) is
 
--- the event of which this is told at a place of a list
+-- the event with this report at a place of a list
 pub record EventAt (told : List (Cause × Told)) (place : ℕ) (m : Made) : Type 0 where
   pub event : Event
   pub is : slice_get (events_told told) place ≡ Some event
@@ -89,7 +89,7 @@ event_at told place m is = go (slice_get told place) refl is
       of = λ n. of_made (events_told (take place told)) x.0.event x.1 m n h;
     }
 
--- how many steps of a node come behind the event at a place
+-- how many steps of a node come after the event at a place
 pub steps_told : (s : State) (n place : ℕ) (m : Made) → IsSome (replay s.load s.kept) → made_in (told_of_kept s) place ≡ Some m
     → steps_of n (take (place + 1) s.kept) ≡ steps_of n (take place s.kept) + one_if (is_step_of n m)
 steps_told s n place m some is =
@@ -97,7 +97,7 @@ steps_told s n place m some is =
     steps_more n place s.kept e.event (ap (λ z. slice_get z place) (sym (kept_told s some)) ∙ e.is)
     ∙ ap (λ b. steps_of n (take place s.kept) + one_if b) (e.of n)
 
--- and behind the newest one
+-- and after the newest one
 pub newest_steps : (s : State) (n : ℕ) (m : Made) → IsSome (replay s.load s.kept) → newest_told s ≡ Some m → is_step_of n m ≡ true
     → steps_of n (take (length s.kept - 1) s.kept) + 1 ≡ steps_of n s.kept
 newest_steps s n m some is own =
@@ -110,7 +110,7 @@ pub own_steps : (s : State) (of node : NodeId) (step : ℕ) (kind : Kind) (m : M
     → steps_of of.number (take (length s.kept - 1) s.kept) + 1 ≡ steps_of of.number s.kept
 own_steps s of node step kind m some is own at = newest_steps s of.number m some is (ap (is_step_of of.number) own ∙ at)
 
--- ---- what is told of the first of the kept events, and how many words of a link they carried
+-- ---- the reports of the first events of the history, and how many words of a link they transferred
 
 -- the first events of a run are a run
 record Front (c : List NodeRecord) (es : List Event) (ts : List (Cause × Told)) (n : ℕ) : Type 0 where
@@ -134,14 +134,14 @@ front (e ∷ es) c last ts (suc n) h =
           ∙ ap (λ (z : List (Cause × Told)). Some (g.mid, take (suc n) z)) (sym f.all);
     }
 
--- what is told of them is told of the first
+-- the reports of the first are the first reports
 told_front : (s : State) (n : ℕ) → IsSome (replay s.load s.kept) → told_of_kept (earlier s n) ≡ take n (told_of_kept s)
 told_front s n some =
     let r : Runs s = runs_of s some in
     let g : Front s.load s.kept r.told n = front s.kept s.load r.last r.told n r.run_is in
     ap told_by g.is ∙ ap (λ (z : List (Cause × Told)). take n z) (sym (told_is s r))
 
--- what is told of the event at a place
+-- the report of the event at a place
 pub record ToldAt (told : List (Cause × Told)) (n : ℕ) (m : Made) : Type 0 where
   pub one : Cause × Told
   pub is : slice_get told n ≡ Some one
@@ -191,7 +191,7 @@ pub counted_back : (until : Condition) (s : State) (n : ℕ) (m : Made) → IsSo
 counted_back until s n m some h =
     counted_on until (earlier s n) (earlier s (n + 1)) m (words_front s n m (told_at (told_of_kept s) n m h) some)
 
--- ---- a condition behind an event that others may follow
+-- ---- a condition after an event that others may follow
 
 -- ---- one node
 
@@ -220,7 +220,7 @@ undone_earlier s n l =
 pub whole_earlier : (s : State) → earlier s (length s.kept) ≡ s
 whole_earlier s = ap (λ (z : List Event). record s { kept = z }) (take_all (length s.kept) s.kept (omega arith))
 
--- an event of which something is told is among those that are kept
+-- an event with a report is in the history
 pub told_within : (s : State) (place : ℕ) (m : Made) → IsSome (replay s.load s.kept) → made_in (told_of_kept s) place ≡ Some m → place < length s.kept
 told_within s place m some is =
     let e : EventAt (told_of_kept s) place m = event_at (told_of_kept s) place m is in

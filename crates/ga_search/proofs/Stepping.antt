@@ -62,7 +62,7 @@ around chip ready n here right down left up = record { here = here; beside = by_
 pub around_stays : (chip : List NodeRecord) (old new : Numbers) (n : ℕ) → StaysRight chip old new → IsRightAround chip old n → IsRightAround chip new n
 around_stays chip old new n stays a = record { here = stays n a.here; beside = λ side m h. stays m (a.beside side m h) }
 
--- what was told is told of this event
+-- the report is of this event
 abbrev pub IsOf : Event → Made → Type 0
 IsOf (event.Own n) (made.Own m step kind) = n.number ≡ m.number
 IsOf (event.Pass w r side) (made.Pass writer from reader to word) = (w.number ≡ writer.number) × (r.number ≡ reader.number)
@@ -93,7 +93,7 @@ marked c d e old new a was stays right n = elim (cases_lt n 144) [
   | inr past ↦ stays n (moved_right c d old n (λ l. absurd (omega arith)) (was n))
 ]
 
--- after an event, with what was told of it looked at
+-- after an event, with its report considered
 pub refreshed : (c d : List NodeRecord) (e : Event) (told : Made) (old new : Numbers) → IsOf e told → Agree (touches e) c d
     → ((n : NodeId) → e ≡ event.Own n → refusal (record_at c n.number) ≡ None)
     → HoldsReady c old → StaysRight d old new → IsRefreshed d told new → HoldsReady d new

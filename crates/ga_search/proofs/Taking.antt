@@ -10,7 +10,7 @@ use Rattle.ga_lab.specs.Machine.{State}
 use Rattle.ga_search.specs.declared.effects.RollbackEffect.{RollbackEffect}
 use Rattle.ga_search.specs.Effects.{kept_steps, effect_on, effects_below}
 
--- nothing is told of a node of which none would
+-- a node of which no step would be removed isn't listed
 pub told_none : (left all : ℕ → ℕ) (m : ℕ) → left m ≡ all m → (items : List RollbackEffect) → items ≡ items ++ effect_on left all m
 told_none left all m e items =
     sym (append-nil items) ∙ ap (λ z. items ++ z) (sym (cond-true (left m == all m) [] _ (eq-eqb (left m) (all m) e)))
@@ -24,7 +24,7 @@ pub effects_none : (left all : ℕ → ℕ) → effects_below left all 0 ≡ []
 unfolding effects_below
 effects_none left all = refl
 
--- what is told of a node of which some steps would go
+-- the entry of a node of which some steps would be removed
 pub told_some : (left all : ℕ → ℕ) (node : NodeId) (steps first : ℕ) → steps + left node.number ≡ all node.number → 0 < steps → first ≡ all node.number - steps + 1
     → record { node = node; first = first; steps = steps } ∷ [] ≡ effect_on left all node.number
 told_some left all node steps first e some f =
@@ -37,7 +37,7 @@ told_some left all node steps first e some f =
     ∙ ap (λ (z : ℕ). let r : List RollbackEffect = record { node = node_id node.number; first = left node.number + 1; steps = z } ∷ [] in r) b
     ∙ sym (cond-false (left node.number == all node.number) [] _ (ne_eqb (left node.number) (all node.number) ne))
 
--- one node more is told
+-- one more node is listed
 pub effects_step : (left all : ℕ → ℕ) (m n : ℕ) (items new : List RollbackEffect) → n ≡ m → items ≡ effects_below left all m → new ≡ items ++ effect_on left all n → new ≡ effects_below left all (m + 1)
 effects_step left all m n items new e h g =
     g ∙ ap (λ z. z ++ effect_on left all n) h ∙ ap (λ (z : ℕ). effects_below left all m ++ effect_on left all z) e ∙ sym (effects_more left all m)
@@ -61,7 +61,7 @@ idle_below left all (suc a) idle = idle_one left all a (idle a (omega arith)) �
 all_left : (left : ℕ → ℕ) (steps : List ℕ) (s : State) (m : ℕ) → slice_index steps m + left m ≡ steps_of m s.kept → slice_index steps m ≡ 0 → left m ≡ kept_steps s m
 all_left left steps s m e none = omega (arith, e, none)
 
--- so nothing is told of the nodes below the first of which a step would go
+-- so no node below the first of which a step would be removed is listed
 pub told_below : (left : ℕ → ℕ) (steps : List ℕ) (s : State) (first : ℕ) → ((m : ℕ) → m < first → slice_index steps m ≡ 0) → ((m : ℕ) → slice_index steps m + left m ≡ steps_of m s.kept)
     → effects_below left (kept_steps s) first ≡ []
 told_below left steps s first none each = idle_below left (kept_steps s) first (λ m l. all_left left steps s m (each m) (none m l))

@@ -79,7 +79,7 @@ told_word writer reader before told rest sent h =
     ap (λ z. z ++ words_after writer reader (before + one_over writer reader told) rest) (sym h)
     ∙ ap (λ (z : ℕ). sent ∷ words_after writer reader z rest) (let q : before + one_over writer reader told ≡ before + 1 = omega (arith, carries_one writer reader (before + 1) told sent h) in q)
 
--- ---- the words over a link are told alike by the steps of both its ends
+-- ---- the steps of both ends list the same words of a link
 
 -- an event that carried no word over the link adds none, whether a history has it or not
 none_if : (b : Bool) (sent : Sent) → b ≡ false → [] ≡ (if b then sent ∷ [] else [])
@@ -99,7 +99,7 @@ not_told : (w r n : ℕ) (has : Bool) (xs : List Made) → words_after w r n ((i
 not_told w r n true xs = refl
 not_told w r n false xs = refl
 
--- one that did stands in both
+-- one that did is in both
 in_writer : (p q x : Bool) → (p && q) ≡ true → (p || x) ≡ true
 in_writer true q x h = refl
 in_writer false q x h = absurd (cc)
@@ -192,7 +192,7 @@ pub few_words : (w r : ℕ) (xs : List Made) → length (words_after w r 0 xs) �
 few_words w r [] = omega arith
 few_words w r (x ∷ xs) = omega (arith, one_counted w r x xs, few_words w r xs, at_most_one (is_over w r x))
 
--- one event more behind
+-- one more event at the end
 pub behind : (w r : ℕ) (xs : List Made) (x : Made) → length (words_after w r 0 (xs ++ x ∷ [])) ≡ length (words_after w r 0 xs) + one_over w r x
 behind w r [] x = one_counted w r x [] ∙ (let q : one_over w r x + 0 ≡ 0 + one_over w r x = omega arith in q)
 behind w r (y ∷ xs) x =

@@ -1,5 +1,5 @@
--- Back to where a condition held: the kept events are asked from the newest on, up to the first behind which one of some conditions held
--- (after Danos and Krivine 2004, as what is taken back then; this project's own).
+-- Back to where a condition held: the history is searched from the newest event on, up to the first after which one of some
+-- conditions held (after Danos and Krivine 2004, as to what is then removed; this project's own).
 use Rattle.std.specs.Prelude.{◌≡◌, ℕ, zero, suc, ◌+◌, ◌-◌, ◌<◌, ◌==◌, Bool, true, false, ◌&&◌, if◌then◌else◌, is_some, List, length, Option, Some, None}
 use Rattle.std.specs.Result.{result_ok}
 use Rattle.ga_grid.specs.declared.node_id.NodeId.{NodeId}
@@ -11,11 +11,11 @@ use Rattle.ga_search.specs.declared.condition.Condition.{Condition}
 use Rattle.ga_search.specs.Conditions.{is_step_of}
 use Rattle.ga_search.specs.Running.{held_told}
 
--- which of the conditions held first right behind the event at a place, where the machine was the one after it
+-- which of the conditions held first just after the event at a place, if the machine was the one after it
 abbrev pub held_behind : List Condition → State → ℕ → Option ℕ
 held_behind until s place = held_told until (made_in (told_of_kept s) place) (earlier s (place + 1))
 
--- an event is asked: each one is, or each step of a node
+-- an event is considered: each one is, or each step of a node
 abbrev pub is_among : Option NodeId → Option Made → Bool
 is_among only None = false
 is_among None (Some told) = true
@@ -24,7 +24,7 @@ is_among (Some node) (Some told) = is_step_of node.number told
 abbrev pub is_asked_held : List Condition → Option NodeId → State → ℕ → Bool
 is_asked_held until only s place = is_among only (made_in (told_of_kept s) place) && is_some (held_behind until s place)
 
--- the place of the newest of so many events that is asked and behind which one of the conditions held
+-- the place of the newest of the first `n` events that is considered and after which one of the conditions held
 abbrev pub newest_before : List Condition → Option NodeId → State → ℕ → Option ℕ
 newest_before until only s zero = None
 newest_before until only s (suc place) = if is_asked_held until only s place then Some place else newest_before until only s place
@@ -32,7 +32,8 @@ newest_before until only s (suc place) = if is_asked_held until only s place the
 abbrev pub newest_held : List Condition → Option NodeId → State → Option ℕ
 newest_held until only s = newest_before until only s (length s.kept)
 
--- The event at a place is the newest of so many that is asked and behind which a condition held: of no later one both are so.
+-- The event at a place is the newest of the first `n` that is considered and after which a condition held: for no later one
+-- both hold.
 pub record IsNewestHeld (until : List Condition) (only : Option NodeId) (s : State) (count place : ℕ) : Type 0 where
   pub within : place < count
   pub here : is_asked_held until only s place ≡ true
@@ -56,7 +57,7 @@ gone_from only s None = None
 gone_from None s (Some place) = Some (length s.kept - place)
 gone_from (Some node) s (Some place) = result_ok (rewind_answer s node.number (number_of_step node.number (made_in (told_of_kept s) place)))
 
--- a machine after so many undos
+-- a machine after `n` undos
 abbrev pub undone_often : ℕ → State → State
 undone_often zero s = s
 undone_often (suc count) s = undone (undone_often count s)

@@ -87,7 +87,7 @@ stores_in cell before (kind.Stop code) = false
 abbrev pub node_before : State → ℕ → NodeRecord
 node_before s node = record_at (chip_of (undone s)) node
 
--- the word is the one that is asked for, where one is
+-- the word is the requested one, if one is
 abbrev pub is_word_asked : Option ℕ → ℕ → Bool
 is_word_asked None word = true
 is_word_asked (Some asked) word = word == asked

@@ -12,7 +12,7 @@ kept_steps s m = steps_of m s.kept
 abbrev pub left_steps : State → ℕ → ℕ → ℕ → ℕ
 left_steps s n k m = steps_of m (rewound s n k).kept
 
--- what would go of a node, of which so many steps would be left of so many; nothing where all would
+-- what would be removed of a node, given how many steps would remain and how many there are; nothing if all would remain
 abbrev pub effect_on : (ℕ → ℕ) → (ℕ → ℕ) → ℕ → List RollbackEffect
 effect_on left all m =
     if left m == all m then [] else record { node = node_id m; first = left m + 1; steps = all m - left m } ∷ []

@@ -1,5 +1,5 @@
--- Nodes that take no part: nothing was loaded into them, and they wait for code on all sides, as the chip does behind a cold start
--- (F18A Technology Reference DB001, ports and reset).
+-- Idle nodes: nothing was loaded into them, and they wait for code on all sides, as the chip does after a cold start (F18A
+-- Technology Reference DB001, ports and reset).
 use Rattle.std.specs.Prelude.{◌≡◌, ℕ, ◌<◌, ◌↔◌, Bool, true, false, List, [], ◌∷◌}
 use Rattle.ga_node.specs.Record.{fresh_record}
 use Rattle.ga_grid.specs.Chip.{record_at}

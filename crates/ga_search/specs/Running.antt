@@ -1,6 +1,6 @@
--- Events made in the order of a schedule: a list of steps of the machine and nothing else. Each is a step of the first node, from
--- the one whose turn it is on and round the chip, that has an event. A run ends right behind the first event at which one of some
--- conditions holds.
+-- Events made in the order of a schedule: a list of steps of the machine and nothing else. Each is a step of the first node,
+-- from the one whose turn it is on and round the chip, that has an event. A run ends just after the first event at which one of
+-- some conditions holds.
 use Rattle.std.specs.Prelude.{◌≡◌, ℕ, zero, suc, ◌+◌, ◌<◌, false, List, Option, Some, None, Result, Err, IsSome, IsOk, ◌⊎◌}
 use Rattle.std.specs.Result.{result_ok}
 use Rattle.ga_node.specs.Record.{NodeRecord}
@@ -29,7 +29,7 @@ running s schedule = record { state = s; schedule = schedule }
 abbrev pub chosen : Running → Option NodeId
 chosen r = first_in (can_go (chip_of r.state)) r.schedule.turn.number 144
 
--- what is told of the next event of a machine, which this node makes, where there is one
+-- the report of the next event of a machine, which this node makes, if there is one
 abbrev pub told_by_step : State → Option NodeId → Option Made
 told_by_step s None = None
 told_by_step s (Some node) = result_ok (step_answer s node)
@@ -45,12 +45,12 @@ moved_by r (Some node) = record { state = stepped r.state node; schedule = passe
 abbrev pub run_moved : Running → Running
 run_moved r = moved_by r (chosen r)
 
--- a machine with its schedule after so many events
+-- a machine with its schedule after `n` events
 abbrev pub after_events : Running → ℕ → Running
 after_events r zero = r
 after_events r (suc events) = run_moved (after_events r events)
 
--- each of so many events can be made
+-- each of the next `n` events can be made
 abbrev pub AreMade : Running → ℕ → Type 0
 AreMade r events = (k : ℕ) → k < events → IsSome (told (after_events r k))
 
@@ -62,7 +62,7 @@ held_told until (Some made) s = first_held until made s
 abbrev pub held_next : List Condition → Running → Option ℕ
 held_next until r = held_told until (told r) (run_moved r).state
 
--- none of some conditions holds right after one of so many events
+-- none of some conditions holds just after one of the first `n` events
 abbrev pub NeverHolds : List Condition → Running → ℕ → Type 0
 NeverHolds until r events = (k : ℕ) → k < events → held_next until (after_events r k) ≡ None
 
@@ -81,7 +81,7 @@ IsHalted r (the_end.Refused why) = (node : NodeId) × (chosen r ≡ Some node) �
 IsHalted r (the_end.Reached made which) = ⊥
 IsHalted r the_end.Made = ⊥
 
--- how a run ended after so many events, of at most so many that were asked for
+-- how a run ended after `n` events, of at most the requested number
 abbrev pub HasEnded : Running → ℕ → List Condition → ℕ → End → Type 0
 HasEnded r most until events (the_end.Reached made which) =
     (k : ℕ) × (events ≡ k + 1) × NeverHolds until r k × (told (after_events r k) ≡ Some made) × (held_next until (after_events r k) ≡ Some which)

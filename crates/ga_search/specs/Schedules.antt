@@ -1,5 +1,5 @@
--- In what order the nodes make their events: rounds, each node as far as it goes, or nodes that are drawn. Which of several nodes
--- goes first is this project's own choice: the chip has no clock.
+-- In what order the nodes make their events: rounds, each node until it has no event, or nodes that are drawn. Which of several
+-- nodes comes first is this project's own choice: the chip has no clock.
 use Rattle.std.specs.Prelude.{ℕ, ◌+◌}
 use Rattle.rand_xoshiro.specs.SplitMix64.{mix_u64}
 use Rattle.ga_grid.specs.declared.node_id.NodeId.{NodeId}

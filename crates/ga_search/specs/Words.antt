@@ -23,7 +23,7 @@ carried_as writer reader number (made.Pass w k r j carried) =
 abbrev pub one_over : ℕ → ℕ → Made → ℕ
 one_over writer reader told = if is_over writer reader told then 1 else 0
 
--- the words that these events carried, where so many came before
+-- the words that these events transferred, numbered after those before
 abbrev pub words_after : ℕ → ℕ → ℕ → List Made → List Sent
 words_after writer reader before [] = []
 words_after writer reader before (told ∷ rest) =
@@ -41,7 +41,7 @@ word_count s writer reader = length (words_of s writer reader)
 abbrev pub end_of : Bool → NodeId → NodeId → ℕ
 end_of by_reader writer reader = if by_reader then reader.number else writer.number
 
--- the words over a link that were not told yet
+-- the words over a link that were not listed yet
 abbrev pub words_left : State → Words → List Sent
 words_left s words =
     words_after words.writer.number words.reader.number words.before (drop words.place (history_of s (end_of words.by_reader words.writer words.reader)))

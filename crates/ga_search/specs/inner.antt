@@ -36,7 +36,7 @@ asked_node (Reaches node address) = node
 asked_node (Writes node address word) = node
 asked_node other = node_id 0
 
--- a condition held behind what is told of an event
+-- a condition held after the event with this report
 abbrev pub held_one : Condition → Option Made → State → Bool
 held_one until None s = false
 held_one until (Some told) s = holds until told s
@@ -44,18 +44,18 @@ held_one until (Some told) s = holds until told s
 abbrev pub is_held : Condition → Option NodeId → State → ℕ → Bool
 is_held until only s place = is_among only (made_in (told_of_kept s) place) && held_one until (made_in (told_of_kept s) place) (earlier s (place + 1))
 
--- how many of the first events there are up to the newest that is asked and behind which a condition held, and none where there is none
+-- the length of the prefix of events up to the newest that is considered and after which a condition held; 0 if there is none
 abbrev pub held_upto : Condition → Option NodeId → State → ℕ → ℕ
 held_upto until only s zero = 0
 held_upto until only s (suc place) = if is_held until only s place then suc place else held_upto until only s place
 
--- how many of the first events there are up to the newest that is asked and behind which one of some conditions held, and none where there
--- is none
+-- the length of the prefix of events up to the newest that is considered and after which one of some conditions held; 0 if
+-- there is none
 abbrev pub all_upto : List Condition → Option NodeId → State → ℕ → ℕ
 all_upto [] only s count = 0
 all_upto (until ∷ others) only s count = max (held_upto until only s count) (all_upto others only s count)
 
--- the place of the last of so many
+-- the place of the last of `n` events
 abbrev pub newest_place : ℕ → Option ℕ
 newest_place zero = None
 newest_place (suc place) = Some place
@@ -90,7 +90,8 @@ AreCounted until s words = (k : ℕ) (one : Condition) → slice_get until k ≡
 abbrev pub WereCounted : List Condition → State → Made → List ℕ → Type 0
 WereCounted until s told words = (k : ℕ) (one : Condition) → slice_get until k ≡ Some one → counted one s ≡ slice_index words k + counted_by one told
 
--- a condition holds by what the event was, where so many words of its link are kept; one that asks something of a node does not
+-- whether a condition holds by the event itself, given how many words of its link are in the history; what it requires of a
+-- node is not considered
 abbrev pub is_told : Condition → Made → ℕ → Bool
 is_told (Passes writer reader word) told words = is_pass writer.number reader.number word told
 is_told (PassesNumber writer reader number) told words = is_over writer.number reader.number told && (words == number)
@@ -100,7 +101,7 @@ is_told (StopsAt node) told words = is_own_at node.number is_stop told
 is_told (WaitsAt node) told words = is_own_at node.number is_wait told
 is_told other told words = false
 
--- what is told of the newest event that is kept
+-- the report of the newest event in the history
 abbrev pub newest_told : State → Option Made
 newest_told s = made_in (told_of_kept s) (length s.kept - 1)
 
@@ -141,7 +142,8 @@ IsRefreshed chip (Pass writer from reader to word) ready = IsRightAround chip re
 
 -- ---- what an own event needs so that one of the conditions of a run can hold right after it
 
--- one of so many opcodes from `!p` on, from the last code of a byte on to the first one: of four those that store, of 256 all
+-- one of `opcodes` opcodes from `!p` on, with the last code of a byte followed by the first one: of four those that store, of
+-- 256 all
 abbrev pub is_one_of : ℕ → ℕ → Bool
 is_one_of opcodes code = nat_lt ((code + 244) % 256) opcodes
 
@@ -183,7 +185,7 @@ IsOver until r next the_end.Made = ⊥
 IsOver until r next the_end.Quiet = IsHalted r the_end.Quiet × (next ≡ r)
 IsOver until r next (the_end.Refused why) = IsHalted r (the_end.Refused why) × (next ≡ r)
 
--- how many events there were at the end of a run, where so many were made before
+-- how many events there were at the end of a run, if `before` were made before it
 abbrev pub events_at : ℕ → End → ℕ
 events_at n (the_end.Reached made which) = n + 1
 events_at n the_end.Made = n

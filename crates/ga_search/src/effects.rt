@@ -10,7 +10,7 @@ use ga_lab::{Lab, LabFault};
 use ga_rollback::Visited;
 use std::alloc::Global;
 
-/// What a rollback would take of a node: so many steps, all from one on.
+/// What a rollback would remove of a node: `steps` steps, all from the first on.
 #[derive(Clone, Copy, PartialEq, Eq, Debug)]
 pub struct RollbackEffect {
     /// The node.
@@ -30,7 +30,7 @@ pub struct Effects {
     pub nodes: Vec<RollbackEffect>,
 }
 
-// Puts what would go of a node at the end of a list, where so many of its steps would.
+// Appends to a list what would be removed of a node, if any of its steps would.
 fn add_steps(
     list: &mut Vec<RollbackEffect>,
     lab: &Lab,
@@ -52,7 +52,7 @@ fn add_steps(
     }
 }
 
-// What would go of each node, where so many steps would.
+// What would be removed of each node, given how many steps would remain.
 fn listed(alloc: Global, lab: &Lab, steps: &Visited) -> Result<Vec<RollbackEffect>, LabFault>
     requires { (m : ℕ) → slice_index steps.now m ≤ steps_of m lab.now.kept }
     ensures ok { IfOk result (λ list. (left : ℕ → ℕ) →

@@ -23,8 +23,9 @@ pub fn slices_are_one_run()
         HasEnded (after_events r first) most until second end → HasEnded r (first + most) until (first + second) end }
 {}
 
-/// Two watched runs, the second by the schedule that the first hands back and with the watch as it then is, are one: where the watch did not end the
-/// first, the second ends as the one does. Where no node goes first, such a run makes the events of a run in the order of its schedule.
+/// Two watched runs, the second by the schedule that the first returns and with the watch as it then is, are one: if the watch
+/// did not end the first, the second ends as the one does. If no node has precedence, such a run makes the events of a run in
+/// the order of its schedule.
 pub fn watched_slices_are_one_run<W: Watch>()
     ensures events { (node : Option NodeId) (r : Running) (first second : ℕ) →
         after_first node (after_first node r first) second ≡ after_first node r (first + second) }
@@ -38,8 +39,8 @@ pub fn watched_slices_are_one_run<W: Watch>()
     ensures order { (r : Running) (events : ℕ) → after_first None r events ≡ after_events r events }
 {}
 
-/// What is found going back is the newest event behind which one of the conditions held, of those that are asked; and where none is
-/// found, there is none.
+/// The result of a search backwards is the newest event after which one of the conditions held, of those that are considered;
+/// without a result there is none.
 pub fn newest_is_found()
     ensures some { (until : List Condition) (only : Option NodeId) (s : State) (place : ℕ) → newest_held until only s ≡ Some place →
         IsNewestHeld until only s (length s.kept) place }

@@ -30,18 +30,18 @@ pub enum End {
     Refused(LabFault),
 }
 
-/// How many events were made, why no more, and how the order goes on.
+/// The number of events, why the run ended, and the next schedule.
 #[derive(Clone, Copy, PartialEq, Eq, Debug)]
 pub struct Ran {
     /// How many events were made.
     pub events: u64,
     /// Why no more events were made.
     pub end: End,
-    /// Where the schedule stands: a further run by it goes on with this one.
+    /// The schedule after the last event, with which a further run continues.
     pub schedule: Schedule,
 }
 
-// A node's next event: by a step that stands where this is called, or by a call of it.
+// A node's next event: by a step inlined here, or by a call of it.
 #[inline(always)]
 fn step_once(lab: &mut Lab, node: NodeId, is_here: bool) -> Result<Made, LabFault>
     ensures answer { (result ≡ step_answer lab.old node) ⊎ ((result ≡ Err LabFault.Memory) × IsOk (step_answer lab.old node)) }
@@ -55,7 +55,7 @@ fn step_once(lab: &mut Lab, node: NodeId, is_here: bool) -> Result<Made, LabFaul
     }
 }
 
-// Makes this node's next event, by a step that stands here or by a call of it, and looks at what that may have changed.
+// Makes this node's next event, by a step inlined here or by a call of it, and considers what that may have changed.
 #[inline(always)]
 pub(crate) fn make(
     lab: &mut Lab,
@@ -95,8 +95,8 @@ pub(crate) fn make(
 #[derive(Clone, Copy)]
 struct Over;
 
-// Makes the next event of the schedule, where nothing halts it. Where the run is over with it, or before it, its end is told: so what
-// was made is kept only then. A node that runs goes on here, and any other out of the way.
+// Makes the next event of the schedule, if nothing halts it. If the run ends with it, or before it, returns its end: so the
+// report is kept only then. A node that runs continues here, any other in a function of its own.
 #[inline(always)]
 fn advance(
     lab: &mut Lab,
@@ -177,9 +177,9 @@ fn events_at(before: u64, end: End) -> u64
     }
 }
 
-/// Makes events in the order of a schedule: at most so many, up to the first after which one of the conditions holds, and hands the
-/// schedule back. Takes time by the events that are made, and not by how many nodes wait; a condition that counts words reads the
-/// steps of one end once before.
+/// Makes events in the order of a schedule: at most `most`, up to the first after which one of the conditions holds, and
+/// returns the next schedule. The time is linear in the number of events, and independent of how many nodes wait; a condition
+/// that counts words reads the steps of one end once before.
 pub fn run_schedule(lab: &mut Lab, mut schedule: Schedule, most: u64, until: &[Condition]) -> Ran
     requires { length until.now ≤ 8 }
     ensures state { running lab.new result.schedule ≡ after_events (running lab.old schedule) result.events }

@@ -9,23 +9,23 @@ use rand_core::SeedableRng;
 use rand_core::utils::NextWord;
 use rand_xoshiro::SplitMix64;
 
-/// How the turn goes on from a node that made an event.
+/// The next turn after a node that made an event.
 #[derive(Clone, Copy, PartialEq, Eq, Debug)]
 pub enum Order {
-    /// In rounds: to the next number, behind the last one to the first. So in each round each node that has an event makes one,
+    /// In rounds: to the next number, after the last one to the first. So in each round each node that has an event makes one,
     /// in the order of the numbers.
     Rounds,
-    /// Not before the node has no event left: each goes as far as it can.
+    /// Only when the node has no event left: each makes as many events as it can.
     Greedy,
     /// To a node that is drawn.
     Random,
 }
 
-/// An order with where it stands: whose turn it is, and the state of the generator that draws. The event of a turn is made by
-/// the first node, from the one whose turn it is on and round the chip, that has one.
+/// An order with its state: whose turn it is, and the state of the random generator. The event of a turn is made by the first
+/// node, from the one whose turn it is on and round the chip, that has one.
 #[derive(Clone, Copy, PartialEq, Eq, Debug)]
 pub struct Schedule {
-    /// How the turn goes on.
+    /// How the next turn is chosen.
     pub order: Order,
     /// The node whose turn it is.
     pub turn: NodeId,
@@ -34,7 +34,7 @@ pub struct Schedule {
     pub generator: u64,
 }
 
-// A word, and the generator's state behind it.
+// A word, and the generator's next state.
 fn drawn_word(state: u64) -> (u64, u64)
     ensures { result ≡ mix_u64 state }
 {
@@ -50,7 +50,7 @@ pub(crate) fn node_at(number: u64) -> NodeId
     NodeId::new((number % NODES as u64) as u8)
 }
 
-// The node behind this one, and 000 behind the last.
+// The node after this one, and 000 after the last.
 fn following(node: NodeId) -> NodeId
     ensures { result ≡ node_id (node.number + 1) }
 {
@@ -76,7 +76,7 @@ impl Schedule {
         }
     }
 
-    /// Node 000 as far as it goes, then the next.
+    /// Node 000 until it has no event, then the next.
     pub fn greedily() -> Self
         ensures { result ≡ greedily }
     {
@@ -87,7 +87,7 @@ impl Schedule {
         }
     }
 
-    /// Each turn that of a node drawn by a generator with this seed, by which a schedule can be told.
+    /// Each turn that of a node drawn by a generator with this seed, which determines the schedule.
     pub fn at_random(seed: u64) -> Self
         ensures { result ≡ at_random seed }
     {

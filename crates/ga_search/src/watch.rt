@@ -7,15 +7,15 @@ ghost use Rattle.ga_search.specs.Watched.{IsNewestMade};
 
 use ga_lab::{Lab, Made};
 
-/// What ends a run: it is shown each event right behind it, and may count and remember.
+/// What ends a run: it gets each event just after it, and may count and remember.
 pub trait Watch {
-    // Whether the watch ends the run behind what was made, on the machine that this left.
+    // Whether the watch ends the run after this event, on the machine that it left.
     ghost ends: { Self → Made → State → Bool };
 
-    // The watch behind what was made, on the machine that this left.
+    // The watch after this event, on the machine that it left.
     ghost seen: { Self → Made → State → Self };
 
-    /// Looks at the newest event of a lab, and says whether the run ends behind it.
+    /// Considers the newest event of a lab, and returns whether the run ends after it.
     fn sees(&mut self, made: &Made, lab: &Lab) -> bool
         requires { IsNewestMade lab.now made.now }
         ensures answer { result ≡ ends self.old made.now lab.now }

@@ -1,4 +1,4 @@
-//! Events up to the first one behind which a watch says so.
+//! Events up to the first one that a watch selects.
 
 ghost use Rattle.std.specs.Prelude.{◌≡◌, ◌≤◌, ◌%◌, Ok, Some, None, IfOk, IfErr, IfSome, IsSome, OnOk, OnErr};
 ghost use Rattle.ga_event.specs.Apply.{replay};
@@ -21,7 +21,7 @@ use ga_lab::{Lab, LabFault, Made};
 /// Why no more events were made.
 #[derive(Clone, Copy, PartialEq, Eq, Debug)]
 pub enum WatchedEnd {
-    /// The watch ended the run behind this event, and behind none before.
+    /// The watch ended the run after this event, and after none before.
     Seen(Made),
     /// As many events were made as were asked for.
     Made,
@@ -31,18 +31,18 @@ pub enum WatchedEnd {
     Refused(LabFault),
 }
 
-/// How many events were made, why no more, and how the order goes on.
+/// The number of events, why the run ended, and the next schedule.
 #[derive(Clone, Copy, PartialEq, Eq, Debug)]
 pub struct WatchedRun {
     /// How many events were made.
     pub events: u64,
     /// Why no more events were made.
     pub end: WatchedEnd,
-    /// Where the schedule stands: a further run by it goes on with this one.
+    /// The schedule after the last event, with which a further run continues.
     pub schedule: Schedule,
 }
 
-// The node that makes the next event: the one that goes first, where it has one, else the one that the schedule says.
+// The node that makes the next event: the one that has precedence, if it has an event, otherwise the one of the schedule.
 #[inline(always)]
 fn next_first(
     ready: &Numbers,
@@ -99,9 +99,9 @@ fn go(
     }
 }
 
-/// Makes events in the order of a schedule, at most so many, up to the first behind which a watch ends the run, and hands the schedule back. Where it
-/// did not, a further run by this schedule, with the watch as it then is, goes on with this one. A node may go first: it makes each event that it has, and
-/// others make theirs only while it has none.
+/// Makes events in the order of a schedule, at most `most`, up to the first after which a watch ends the run, and returns the
+/// next schedule. If the watch didn't end it, a further run by this schedule, with the watch as it then is, continues this one.
+/// A node may have precedence: it makes each event that it has, and others make theirs only while it has none.
 pub fn run_watched<W: Watch>(
     lab: &mut Lab,
     mut schedule: Schedule,

@@ -10,12 +10,12 @@ use ga_grid::NodeId;
 use ga_lab::{Lab, Made};
 use ga_node::{Kind, Place};
 
-// The opcodes that store are this one and the three behind it: `!p`, `!+`, `!b`, `!`.
+// The opcodes that store are this one and the three after it: `!p`, `!+`, `!b`, `!`.
 const STORE_P: u8 = 0x0c;
 
 const STORES: u32 = 4;
 
-// So many opcodes are all that a code can tell.
+// The number of opcodes that a byte can encode.
 const ALL: u32 = 256;
 
 // The slot where a fetch is due, and one that no node has.
@@ -26,7 +26,7 @@ const NO_SLOT: u32 = 5;
 /// What an own event needs so that one of some conditions can hold right after it: to be a wait or a stop, or one of these.
 #[derive(Clone, Copy)]
 pub(crate) struct Needs {
-    // To be one of so many opcodes from `!p` on; where these are all, a fetch does too.
+    // To be one of this number of opcodes from `!p` on; if these are all, a fetch does too.
     opcodes: u32,
     // Any event after which this slot of its node is next.
     slot: u32,
@@ -57,7 +57,7 @@ impl Needs {
         }
     }
 
-    // These needs, and so many opcodes from `!p` on.
+    // These needs, and this number of opcodes from `!p` on.
     fn with_opcodes(self, opcodes: u32) -> Self
         ensures asked { opcodes ≤ result.opcodes }
         ensures opcodes { self.opcodes ≤ result.opcodes }
@@ -134,7 +134,7 @@ pub(crate) fn needs_of(until: &[Condition]) -> Needs
     needs
 }
 
-/// So many conditions at most are watched at once.
+/// The maximum number of conditions of a run.
 pub const MOST_CONDITIONS: usize = 8;
 
 /// How many words are kept of the link that each of some conditions counts.
@@ -167,7 +167,8 @@ pub(crate) fn count_all(until: &[Condition], lab: &Lab) -> LinkCounts
     words
 }
 
-// How many words are kept of the link that each of some conditions counts, right after a pass, where so many were kept before.
+// How many words of the link that each of some conditions counts are in the history just after a pass, given how many were
+// before.
 fn count_on(until: &[Condition], words: &mut LinkCounts, made: &Made, lab: &Lab)
     requires most { length until.now ≤ 8 }
     requires size { length words.old ≡ 8 }
@@ -180,7 +181,8 @@ fn count_on(until: &[Condition], words: &mut LinkCounts, made: &Made, lab: &Lab)
     }
 }
 
-// The place of the first of some conditions that holds right after the newest event, where so many words are kept of their links.
+// The place of the first of some conditions that holds just after the newest event, given how many words of their links are in
+// the history.
 #[inline(never)]
 fn first_asked(until: &[Condition], words: &LinkCounts, made: &Made, lab: &Lab) -> Option<u8>
     requires most { length until.now ≤ 8 }
@@ -197,8 +199,8 @@ fn first_asked(until: &[Condition], words: &LinkCounts, made: &Made, lab: &Lab) 
     None
 }
 
-// The place of the first of some conditions that holds right after the newest event, which is copied here: so it needn't be in memory where
-// nothing is asked.
+// The place of the first of some conditions that holds just after the newest event, whose report is copied here: so it needn't
+// be in memory if there are no conditions.
 #[inline(always)]
 fn first_seen(until: &[Condition], words: &LinkCounts, made: &Made, lab: &Lab) -> Option<u8>
     requires most { length until.now ≤ 8 }
@@ -211,8 +213,8 @@ fn first_seen(until: &[Condition], words: &LinkCounts, made: &Made, lab: &Lab) -
     first_asked(until, words, &seen, lab)
 }
 
-// The place of the first of some conditions that holds right after the newest event. So many words were kept before it, and it is known
-// what an event needs.
+// The place of the first of some conditions that holds just after the newest event, given how many words were in the history
+// before it, and what an event needs.
 #[inline(always)]
 #[tactic(auto, using(crate::proofs::Needing::none_of_none, crate::proofs::Needing::counted_of_none))]
 pub(crate) fn first_held(

@@ -20,8 +20,8 @@ pub struct Sent {
     pub word: Word18,
 }
 
-/// The words that went from one node to another, told one after another. It is to be asked with one lab, of which nothing is taken
-/// back meanwhile.
+/// The words transferred from one node to another, listed one after another. All calls take the same lab, from which nothing is
+/// removed meanwhile.
 #[derive(Clone, Copy, PartialEq, Eq, Debug)]
 pub struct Words {
     writer: NodeId,

@@ -1,4 +1,4 @@
-//! Telling the words that went over a link one after another, and counting them. A word is told of both ends of the link.
+//! Listing the words of a link one after another, and counting them. A word is in the steps of both ends of the link.
 
 ghost use Rattle.std.specs.Prelude.{◌≡◌, ◌≤◌, option_to_list};
 ghost use Rattle.ga_lab.specs.Machine.{history_of};
@@ -93,7 +93,7 @@ impl Words {
     ghost use Rattle.ga_lab.specs.Machine.{State};
     ghost use Rattle.ga_search.specs.Words.{words_of, words_left};
 
-    /// All words from the writer to the reader, of which none is told yet.
+    /// All words from the writer to the reader, of which none is listed yet.
     pub fn new(writer: NodeId, reader: NodeId) -> Self
         ensures { (s : State) → words_left s result ≡ words_of s writer.number reader.number }
     {
@@ -118,8 +118,8 @@ impl Words {
         }
     }
 
-    /// The next word; none where all are told. Takes time by the steps between the words, of the writer or of the reader: of the one
-    /// that had fewer at the first word.
+    /// The next word; none if all are listed. The time is linear in the number of steps between the words, of the writer or of
+    /// the reader: of the one that had fewer at the first word.
     pub fn next(&mut self, lab: &Lab) -> Option<Sent>
         ensures word { words_left lab.now self.old ≡ option_to_list result ++ words_left lab.now self.new }
         ensures end { IfNone result (words_left lab.now self.old ≡ []) }
