@@ -73,7 +73,7 @@ same_bytes a b c d e f g h ka kb kc kd ke kf kg kh sums =
     let two : b ≡ f = omega arith in
     let three : c ≡ g = omega arith in (one, two, three, omega arith)
 
--- a line in front of a text, and what stands behind its line feed
+-- a line at the beginning of a text, and what follows its line feed
 line_splits : (text : List ℕ) (count : ℕ) → IsLineAhead text count → text ≡ take count text ++ 10 ∷ drop (count + 1) text
 line_splits text count h =
     let next : suc count ≡ count + 1 = omega arith in
@@ -176,7 +176,7 @@ unfolding rewind_head
 head_feeds node = All-from_recursion (λ b. ends_line b ≡ false) (rewind_head node)
     (refl, (refl, (refl, (refl, (refl, (refl, (refl, (not_feed _ (omega arith), (not_feed _ (omega arith), (not_feed _ (omega arith), (refl, tt)))))))))))
 
--- a number behind the head of a rewind
+-- a number after the head of a rewind
 pub rewind_front : (text : List ℕ) (node : NodeId) (k digits : ℕ) → 11 ≤ length text → take 6 text ≡ codes "rewind" → (get_or text 6 0 ≡ 32) → (get_or text 10 0 ≡ 32)
     → (name_of_node node ++ 10 ∷ []) ≡ (get_or text 7 0 ∷ get_or text 8 0 ∷ get_or text 9 0 ∷ 10 ∷ [])
     → IsNumberAhead (drop 11 text) k digits → IsAhead text (Rewind node k) (11 + digits)

@@ -73,7 +73,7 @@ heard_over room read h = go (nat_le (length read) room) (le-false (length read) 
   go : (b : Bool) → b ≡ false → cond b (lines_of read) (ended_lines (take room read)) ≡ ended_lines (take room read)
   go b e = rw e refl
 
--- where a line `quit` was met, it stands behind the lines before it
+-- a line `quit` comes after the lines before it
 behind_quit : (read rest : List ℕ) (heard after : List (List ℕ)) → QuitsAfter read rest heard after
     → (more : List (List ℕ)) × (lines_of read ≡ heard ++ more)
 behind_quit read rest heard after (inl e) =
@@ -88,7 +88,7 @@ whole_quit : (room : ℕ) (read rest : List ℕ) (heard after : List (List ℕ))
 whole_quit room read rest heard after short (inl e) = inr (quit_line ∷ after, ap ended_lines (take_all room read short) ∙ e)
 whole_quit room read rest heard after short (inr e) = inl e.0
 
--- Where a write failed at last, what was said stands in the script.
+-- If a write failed at last, what was written is in the script.
 pub cut_short : {M : Type 0} (A : Answering M) (room : ℕ) (m : M) (read rest text : List ℕ) (last : M) (ending : Result Ending WriteFailed)
     → Serves A room m read rest text last ending → ServesCut A room m read rest text last
 cut_short A room m read rest text last (Ok Ended) s = record {
@@ -184,7 +184,7 @@ module _ {M : Type 0} {A : Answering M} {first : M} {whole : List ℕ} {start : 
         answers = subst Q same h.answers;
       }
 
-  -- the input ended behind the last line feed
+  -- the input ended after the last line feed
   pub heard_ended : (part rest : List ℕ) → part ≡ [] → rest ≡ [] → taken + length part ≤ 16777216 → ServesToEnd A (16777216 - start) first (read_to part) rest text m
   unfolding read_to
   heard_ended part rest none nothing short =
@@ -231,7 +231,7 @@ module _ {M : Type 0} {A : Answering M} {first : M} {whole : List ℕ} {start : 
         quits = inr (nothing, sym (lines_to part none some) ∙ ap (λ (l : List ℕ). h.lines ++ l ∷ []) quit);
       }
 
-  -- a line was quit, and bytes behind it were read
+  -- the session ended at a line `quit`, and bytes after it were read
   pub read_past : List ℕ → List ℕ → List ℕ
   read_past part bytes = text_of (h.lines ++ part ∷ []) ++ bytes
 
@@ -257,7 +257,7 @@ module _ {M : Type 0} {A : Answering M} {first : M} {whole : List ℕ} {start : 
         ∙ ap (λ (l : List ℕ). h.lines ++ l ∷ ended_lines bytes) quit);
   }
 
-  -- the input goes past its bound
+  -- the input exceeds its bound
   pub read_over : List ℕ → ℕ → List ℕ
   read_over part b = read_to part ++ b ∷ []
 

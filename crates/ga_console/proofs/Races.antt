@@ -97,7 +97,7 @@ pub first_fault : (image : List ℕ) (fault : ImageFault) → (fault ≡ no_memo
 first_fault image fault (inl e) other = absurd (other (ap (λ f. f.cause) e))
 first_fault image fault (inr first) other = first
 
--- what is said of the image that was read
+-- the report about the image that was read
 pub reports : (limit workers calls : ℕ) (image ahead read rest text : List ℕ) (status : Status) → read ≡ image ++ ahead → IsReadAlone image ahead rest → Races limit workers calls image text status → Reports limit workers calls read rest text status
 reports limit workers calls image ahead read rest text Done e part races = (image, ahead, e, part, races)
 reports limit workers calls image ahead read rest text ImageRefused e part races = (image, ahead, e, part, races)

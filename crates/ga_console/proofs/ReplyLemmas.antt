@@ -110,7 +110,7 @@ why_done w s from to k j answer text (inr e) t = inr (e.1, t ∙ ap (why_text w 
 pub why_independent : (w : Wording) (s : State) (from to : NodeId) (k j : ℕ) → why_answer s from.number k to.number j ≡ Ok None → Does w s (Why from k to j) independent s
 why_independent w s from to k j e = why_done w s from to k j (Ok None) independent (inl (sym e)) refl
 
--- the texts of what is told of a chain are those of its links
+-- the texts of the reports of a chain are those of its links
 told_texts : (s : State) (told : List Made) (links : List Link) → map Some told ≡ map (λ (link : Link). made_in (told_of_kept s) link.place) links
     → flat_map made_text told ≡ flat_map (link_text s) links
 told_texts s [] [] e = refl

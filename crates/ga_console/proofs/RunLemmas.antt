@@ -74,7 +74,7 @@ served_in A begin limit image commands rest said text machine last ending part o
       written = written;
     }
 
--- behind an image that was read whole
+-- after an image that was read whole
 pub runs_after : {M : Type 0} (A : Answering M) (begin : State → M) (limit taken : ℕ) (image ahead commands rest text : List ℕ) (status : Status) → taken ≡ length image → IsImagePart image commands rest
     → (commands ≡ ahead → IsReadAlone image commands rest)
     → AfterImage A begin limit image taken ahead commands rest text status → RunsBy A begin limit (image ++ commands) rest text status

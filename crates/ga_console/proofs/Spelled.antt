@@ -170,7 +170,7 @@ read_spelled c line e = by_cut (cut line) (cut_joined line) e where
       let P : List ℕ → Type 0 = λ t. SpellsCommand c t in
       subst P (sym (is parts refl)) (arguments_spelled parts.0 parts.1 c e)
 
--- ---- what is told of a line
+-- ---- the command of a line
 
 pub told_some : (found : Option Command) (line : List ℕ) → found ≡ command_in line → IfSome found (λ c. SpellsCommand c line)
 told_some None line e = tt

@@ -19,7 +19,7 @@ use Rattle.ga_display.specs.Texts.{image_fault_text}
 use Rattle.ga_console.specs.declared.run.Status.{Status}
 use Rattle.ga_console.specs.declared.run.Status.TheVariants.{Done, ImageRefused, StreamFault, NotFinished}
 
--- what a worker calls: so many steps of the node with its number
+-- the calls of a worker: a number of steps of the node with its number
 abbrev pub calls_by : ℕ → ℕ → List Call
 calls_by worker count = replicate count (Step (node_id worker))
 
@@ -43,7 +43,7 @@ pub record IsReport (limit workers calls : ℕ) (image text : Text) : Type 0 whe
   pub race : IsRaceOfWorkers (records_of chip) limit workers calls lab
   pub told : text ≡ report_text (workers * calls) lab.made (length lab.kept)
 
--- the text is no image, and this tells its first fault
+-- the text is no image, and this reports its first fault
 pub record IsRefusal (image text : Text) : Type 0 where
   pub fault : ImageFault
   pub first : IsFirstFault (lines_of image) fault
@@ -55,7 +55,7 @@ pub record IsCutShort (IsText : Text → Type 0) (text : Text) : Type 0 where
   pub is_text : IsText whole
   pub front : Begins whole text
 
--- P holds of the image that was read, and nothing was read behind it
+-- P holds of the image that was read, and nothing was read after it
 abbrev pub OfImage : Bytes → Bytes → (Text → Type 0) → Type 0
 OfImage read rest P = (image : Text) × (ahead : Bytes) × (read ≡ image ++ ahead) × IsReadAlone image ahead rest × P image
 

@@ -38,12 +38,12 @@ rewind_reply before after (Err why) = (refusal_text why, before)
 abbrev pub steps_text : NodeId → List Made → Text
 steps_text node steps = trace_text node (length steps) ++ flat_map made_text steps
 
--- what is told of the event at a place
+-- the report of the event at a place
 abbrev pub told_text : Option Made → Text
 told_text None = []
 told_text (Some made) = made_text made
 
--- what is told of the event of a link
+-- the report of the event of a link
 abbrev pub link_text : State → Link → Text
 link_text s link = told_text (made_in (told_of_kept s) link.place)
 

@@ -26,14 +26,14 @@ IsImagePart image commands rest = EndsAtEnd image
     ⊎ ((commands ≡ []) × (rest ≡ []) × HasNoEnd image)
     ⊎ ((length image ≡ input_limit) × HasNoEnd image)
 
--- Nothing is read that the image doesn't need: behind its line `end` only what the same read brought, behind all that is within
--- the bound the byte that goes past it.
+-- Nothing is read that the image doesn't need: after its line `end` only what the same read returned, after all that is within
+-- the bound the byte that exceeds it.
 abbrev pub IsReadAlone : Text → Bytes → Bytes → Type 0
 IsReadAlone image ahead rest = (EndsAtEnd image × (length ahead < block_size))
     ⊎ ((ahead ≡ []) × (rest ≡ []) × HasNoEnd image)
     ⊎ ((length image ≡ input_limit) × (length ahead ≡ 1) × HasNoEnd image)
 
--- the image was accepted, and the commands behind it were served to this ending
+-- the image was accepted, and the commands after it were served to this ending
 pub record Served {M : Type 0} (A : Answering M) (begin : State → M) (limit : ℕ) (read rest : Bytes) (text : Text) (ending : Result Ending WriteFailed) : Type 0 where
   pub image : Text
   pub commands : Bytes
@@ -46,7 +46,7 @@ pub record Served {M : Type 0} (A : Answering M) (begin : State → M) (limit : 
   pub serves : Serves A (input_limit - length image) (begin (first (records_of chip) limit)) commands rest said last ending
   pub written : Written ending (ready ++ said) text
 
--- the image was refused with its first fault, and nothing was read behind it
+-- the image was refused with its first fault, and nothing was read after it
 pub record Faulty (read rest : Bytes) (fault : ImageFault) : Type 0 where
   pub image : Text
   pub ahead : Bytes

@@ -49,7 +49,7 @@ Answers {M} A m (line ∷ lines) text last =
 abbrev pub heard_lines : ℕ → Bytes → List Line
 heard_lines room read = if nat_le (length read) room then lines_of read else ended_lines (take room read)
 
--- All that may be said to these lines: their answers, and where the input goes past its bound behind them, that it does.
+-- All that may be written for these lines: their answers, and, if the input exceeds its bound after them, that it does.
 abbrev pub Script : {M : Type 0} → Answering M → ℕ → M → Bytes → List Line → Text → M → Type 0
 Script A room m read lines text last = Answers A m lines text last
     ⊎ ((room < length read) × (lines ≡ ended_lines (take room read)) × (said : Text) × Answers A m lines said last × (text ≡ said ++ no_input))
@@ -68,7 +68,7 @@ pub record ServesToEnd {M : Type 0} (A : Answering M) (room : ℕ) (m : M) (read
   pub no_quit : HasNoQuit (lines_of read)
   pub answers : Answers A m (lines_of read) text last
 
--- the line `quit` stands behind these lines
+-- the line `quit` comes after these lines
 abbrev pub QuitsAfter : Bytes → Bytes → List Line → List Line → Type 0
 QuitsAfter read rest heard after =
     (ended_lines read ≡ heard ++ quit_line ∷ after) ⊎ ((rest ≡ []) × (lines_of read ≡ heard ++ quit_line ∷ []))

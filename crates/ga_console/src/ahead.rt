@@ -1,4 +1,4 @@
-//! A line that was read whole, found where it stands.
+//! A line that was read whole, recognized in place.
 ghost use Rattle.std.specs.Prelude.{◌≡◌, ◌+◌, ◌*◌, [], ◌∷◌, ◌++◌, IfSome, codes, take};
 ghost use Rattle.ga_text.specs.Digits.{name_of_node};
 ghost use Rattle.ga_console.specs.inner.Run.{IsAhead, IsLineAhead, IsNumberAhead, StandsAhead};
@@ -31,7 +31,7 @@ const OUNT: u64 = 0x746e_756f;
 /// What a space has more than a line feed, as the fourth byte.
 const SPACE_FOR_FEED: u64 = 0x1600_0000;
 
-/// What leaves the values of three digits, and nothing of a line feed behind them, in the lower 32 bits.
+/// What leaves the values of three digits, and nothing of a line feed after them, in the lower 32 bits.
 const NO_DIGITS: u64 = 0x1_0000_0000 - 0x0a30_3030;
 
 /// What gathers 18 rows, ten tens and the ones in the fourth byte.
@@ -64,7 +64,7 @@ pub(crate) fn node_ahead(row: u8, tens: u8, ones: u8, feed: u8) -> Option<NodeId
     }
 }
 
-/// What stands in front of a text.
+/// What a text begins with.
 #[derive(Clone, Copy)]
 pub enum Ahead {
     /// A line that spells a command, and how many bytes it has before its line feed. The command isn't `quit`.
@@ -75,7 +75,7 @@ pub enum Ahead {
     Nothing,
 }
 
-/// The number that a text begins with, where a line feed stands behind it, and how many digits it has.
+/// The number that a text begins with, if a line feed follows it, and how many digits it has.
 #[inline(always)]
 fn number_ahead(text: &[u8]) -> Option<(u32, usize)>
     ensures { IfSome result (λ found. IsNumberAhead text.now found.0 found.1) }
@@ -121,7 +121,7 @@ fn soon_ahead(text: &[u8]) -> Option<(Command, usize)>
     None
 }
 
-/// What stands in front of a text. `step`, `back`, `count` and `rewind` are told before the line feed is looked for.
+/// What a text begins with. `step`, `back`, `count` and `rewind` are recognized before the line feed is searched.
 #[inline(always)]
 #[tactic(auto, using(crate::proofs::AheadLemmas::same_bytes, crate::proofs::AheadLemmas::step_front))]
 pub fn ahead_of(text: &[u8]) -> Ahead
@@ -137,7 +137,7 @@ pub fn ahead_of(text: &[u8]) -> Ahead
     other_ahead(text)
 }
 
-/// What stands in front of a text that begins with no `step` of a node.
+/// What a text begins with that doesn't begin with a `step` of a node.
 #[inline(always)]
 fn other_ahead(text: &[u8]) -> Ahead
     ensures { StandsAhead text.now result }
@@ -151,7 +151,7 @@ fn other_ahead(text: &[u8]) -> Ahead
     }
 }
 
-/// What stands in front of a text, by looking for the line feed.
+/// What a text begins with, by searching the line feed.
 #[inline(always)]
 fn line_ahead(text: &[u8]) -> Ahead
     ensures { StandsAhead text.now result }
@@ -168,7 +168,7 @@ fn line_ahead(text: &[u8]) -> Ahead
     }
 }
 
-/// What stands in front of a text, where the line has so many bytes.
+/// What a text begins with, if the line has `count` bytes.
 #[inline(always)]
 #[tactic(auto, using(crate::proofs::AheadLemmas::line_front))]
 fn told_ahead(text: &[u8], count: usize) -> Ahead

@@ -11,7 +11,7 @@ use super::ahead::{node_ahead, word_of};
 use ga_grid::NodeId;
 use ga_text::{byte_of, cut, node_in, number_in};
 
-/// What stands in a table beside a name, where it is the text, or nothing.
+/// The value in a table for a name, if it is the text; otherwise nothing.
 macro_rules! by_name {
     ($text:expr;) => { None };
     ($text:expr; $name:literal => $told:expr, $($rows:tt)*) => {
@@ -93,7 +93,7 @@ fn is_head(word: u64) -> bool
         || word == 0x7469_7571
 }
 
-/// The command that a line spells, whatever it begins with. A `node` or a `mem` is told without looking for its words.
+/// The command of a line, whatever it begins with. A `node` or a `mem` is recognized without searching for its words.
 #[tactic(auto, using(crate::proofs::Spelled::told_only, crate::proofs::Spelled::spelled_read))]
 fn told_by(line: &[u8]) -> Option<Command>
     ensures some { IfSome result (λ command. SpellsCommand command line.now) }
@@ -176,7 +176,7 @@ fn alone(name: &[u8]) -> Option<Command>
     }
 }
 
-/// The command that is spelled by a word and what follows the space behind it.
+/// The command of a word and what follows the space after it.
 #[tactic(auto, unfolding(crate::specs::inner::Parsing::with_arguments))]
 fn with_arguments(name: &[u8], arguments: &[u8]) -> Option<Command>
     ensures { result ≡ with_arguments name.now arguments.now }

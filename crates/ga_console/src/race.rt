@@ -89,7 +89,7 @@ fn race_on<T: Threads + Wait + Sync>(
     }
 }
 
-/// A list of calls for each worker: so many steps of the node with its number.
+/// A list of calls for each worker: a number of steps of the node with its number.
 fn lists_of(alloc: Global, workers: u32, calls: u32) -> Result<Vec<Vec<Call>>, AllocError>
     requires { workers ≤ 16 }
     ensures count { IfOk result (λ lists. vec_len lists ≡ workers) }
@@ -104,7 +104,7 @@ fn lists_of(alloc: Global, workers: u32, calls: u32) -> Result<Vec<Vec<Call>>, A
     Ok(lists)
 }
 
-/// A list of calls: so many steps of the node with this number.
+/// A list of calls: a number of steps of the node with this number.
 fn list_of(alloc: Global, worker: u32, calls: u32) -> Result<Vec<Call>, AllocError>
     requires { worker < 16 }
     ensures list { IfOk result (λ list. list.items ≡ calls_by worker calls) }

@@ -84,7 +84,7 @@ pub fn why<W: Write>(
     }
 }
 
-/// Says how many events a chain has, then what is told of each of them.
+/// Writes how many events a chain has, then the report of each.
 fn say_chain<W: Write>(events: &[Made], writer: &mut Writer<'_, W>) -> Spoken
     ensures { Says result (λ text. text ≡ chain_text (length events.now) ++ flat_map made_text events.now)
         W.contents writer.old writer.new }

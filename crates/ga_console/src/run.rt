@@ -33,12 +33,12 @@ pub enum Status {
     NotFinished,
 }
 
-/// Reads an image and then commands, and answers them. At most `limit` events are kept.
+/// Reads an image and then commands, and answers them. The history has at most `limit` events.
 ///
-/// The image goes up to its first line `end`. A refused one gets its refusal, which ends the session; else come `ready` and one
-/// answer for each command line, up to `quit` or the end of the input. Answers are gathered, and written before the session
-/// waits for more input. A line has up to 200 bytes, an input up to 16777216. Where a read fails, the lines read whole before
-/// are answered; after a failed write nothing more is written.
+/// The image extends to its first line `end`. A refused one gets its refusal, which ends the session; otherwise `ready` is
+/// written and one answer for each command line, up to `quit` or the end of the input. Answers are buffered, and written before
+/// the session waits for more input. A line has up to 200 bytes, an input up to 16777216. If a read fails, the lines read whole
+/// before it are answered; after a failed write nothing more is written.
 pub fn session<R: Read, W: Write>(
     alloc: Global,
     reader: &mut R,

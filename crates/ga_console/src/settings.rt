@@ -45,9 +45,9 @@ pub enum Settings {
         calls: u32,
         limit: u32,
     },
-    /// Run every order of a program's nodes, in at most `most` runs, 1 to 4294967295, with 1 to 16 workers, and tell how they end; or
-    /// tell the session of one of them, whose number counts from 1. With `settled` each node whose first event is to wait for code makes
-    /// it before all else, and with `progress` it is told as it goes on.
+    /// Run every order of a program's nodes, in at most `most` runs, 1 to 4294967295, with 1 to 16 workers, and write how they
+    /// end; or write the session of one of them, whose number counts from 1. With `settled` each node whose first event is to
+    /// wait for code makes it first, and with `progress` the progress is written.
     Check {
         most: u32,
         settled: bool,
@@ -93,10 +93,11 @@ pub enum Settings {
 /// Why there are no settings.
 #[derive(Debug, Drop, Error)]
 pub enum LineFault {
-    /// Help or the version was asked for. This is its text; in that of `explore` a line `{commands}` stands for the session's own lines.
+    /// Help or the version was requested. This is its text; in that of `explore` a line `{commands}` is replaced by the
+    /// session's own lines.
     #[error("{0}")]
     Help(String),
-    /// The words are no command line of the program. The text tells which word, and what is expected.
+    /// The words are no command line of the program. The text has the faulty word, and what is expected.
     #[error("{0}")]
     Refused(String),
     /// There was no memory to read the settings, or to tell what is wrong with them.
@@ -169,7 +170,7 @@ fn chosen(alloc: Global, matches: &ArgMatches<'_>) -> Result<Settings, LineFault
     }
 }
 
-/// Which orders are to be run, and what is to be told of them.
+/// Which orders to run, and what to write about them.
 fn checked(alloc: Global, check: &ArgMatches<'_>) -> Result<Settings, LineFault>
     ensures in_range { IfOk result AreInRange }
 {
@@ -197,7 +198,7 @@ fn order(alloc: Global, text: Option<&str>) -> Result<Option<u32>, LineFault>
     }
 }
 
-/// Tells that these digits are no number of an order, in the form of clap's errors.
+/// Reports that these digits are no number of an order, in the form of clap's errors.
 fn no_order(alloc: Global, digits: &str) -> LineFault {
     match format!(in alloc;
         "error: invalid value '{digits}' for '--session <K>': K is a decimal number without leading zeros\n\n\
@@ -311,7 +312,7 @@ fn step(
     }
 }
 
-/// Tells that these words are no step, in the form of clap's errors.
+/// Reports that these words are no step, in the form of clap's errors.
 fn no_step(alloc: Global, name: &str, node: &str, number: &str) -> LineFault {
     match format!(in alloc;
         "error: invalid value '{node} {number}' for '--{name} <NNN> <K>': NNN is a node, 000 to 717 \

@@ -20,7 +20,7 @@ use Rattle.ga_console.specs.Run.{status_of, Refuses, Opens, IsFault}
 
 -- ---- A line that was read whole and is not taken yet
 
--- the bytes begin with a line of so many bytes that spells the command, which isn't quit
+-- the bytes begin with a line of `count` bytes that is the command, which isn't quit
 pub record IsAhead (bytes : Bytes) (asked : Command) (count : ℕ) : Type 0 where
   pub line : Line
   pub more : Bytes
@@ -31,21 +31,21 @@ pub record IsAhead (bytes : Bytes) (asked : Command) (count : ℕ) : Type 0 wher
   pub spelled : SpellsCommand asked line
   pub not_quit : line ≢ quit_line
 
--- a line of so many bytes stands in front of the bytes, with its line feed
+-- the bytes begin with a line of `count` bytes and its line feed
 pub record IsLineAhead (bytes : Bytes) (count : ℕ) : Type 0 where
   pub below : count < length bytes
   pub no_feed : HasNoFeed (take count bytes)
   pub feed : slice_index bytes count ≡ 10
   pub short : count ≤ longest
 
--- a number of so many digits stands in front of the bytes, with a line feed behind it
+-- the bytes begin with a number of `digits` digits, followed by a line feed
 pub record IsNumberAhead (bytes : Bytes) (number digits : ℕ) : Type 0 where
   pub line : IsLineAhead bytes digits
   pub few : digits ≤ 20
   pub fits : IsNumber number
   pub spelled : take digits bytes ≡ decimal number
 
--- what stands in front of the bytes
+-- what the bytes begin with
 abbrev pub StandsAhead : Bytes → Ahead → Type 0
 StandsAhead bytes (Spelled asked count) = IsAhead bytes asked count
 StandsAhead bytes (Other count) = IsLineAhead bytes count
@@ -74,8 +74,8 @@ Races limit workers calls image text StreamFault =
     IsCutShort (IsReport limit workers calls image) text ⊎ IsCutShort (IsRefusal image) text
 Races limit workers calls image text NotFinished = text ≡ []
 
--- What may be written after the image was read, of which so many bytes were taken: ahead is what was read with it. Where it is
--- refused, no more is read.
+-- What may be written after the image was read, of which `taken` bytes were consumed: `ahead` is what was read with it. If it
+-- is refused, no more is read.
 abbrev pub AfterImage : {M : Type 0} → Answering M → (State → M) → ℕ → Text → ℕ → Bytes → Bytes → Bytes → Text → Status → Type 0
 AfterImage {M} A begin limit image taken ahead read rest text status =
     ((machine : State) × Opens image limit machine × (ending : Result Ending WriteFailed) × (status ≡ status_of ending)

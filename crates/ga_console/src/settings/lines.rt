@@ -3,10 +3,10 @@ use clap::builder::ValueParser;
 use clap::{Arg, ArgAction, Command, value_parser};
 use std::alloc::{AllocError, Global};
 
-/// What `ga144 --version` says behind the name: the version, and the kit that proves it.
+/// What `ga144 --version` writes after the name: the version, and the kit that proves it.
 const VERSION: &str = "1.0 (rattle-kit-13b logic dac8208d650f15bf)";
 
-/// What `ga144 debug --help` says behind the options.
+/// What `ga144 debug --help` writes after the options.
 const COMMANDS: &str = "\
 Reads from standard input: an image (lines `ga144 1` to `end`), then commands, one a line, each answered on
 standard output. So a person at a terminal types: cat IMAGE - | ga144 debug
@@ -25,7 +25,7 @@ Commands (NNN is a node, three decimal digits; K a step, counted from 1; HH two 
 
 Exit status: 0 done, 1 image refused, 2 a stream failed, 3 command line refused.";
 
-/// What `ga144 explore --help` says behind the options. The lines of the commands that only tell go where `{commands}` stands.
+/// What `ga144 explore --help` writes after the options. `{commands}` is replaced by the lines of the queries.
 const EXPLORING: &str = "\
 Reads an image or source (up to its line `end`) from FILE, or from standard input where none is given, and then commands from
 standard input, and knows each command of debug. So a person at a terminal types: ga144 explore fault.f18
@@ -54,13 +54,13 @@ COND or COND ..          ends at the first that holds
 
 Exit status: 0 done, 1 image refused, 2 a stream failed, 3 command line refused.";
 
-/// What `ga144 race --help` says behind the options.
+/// What `ga144 race --help` writes after the options.
 const RACES: &str = "\
 Reads an image (lines `ga144 1` to `end`) from standard input. Worker w, from 0 on, steps the node with the number w.
 
 Exit status: 0 done, 1 image refused, 2 a stream failed, 3 command line refused, 4 race not finished.";
 
-/// What `ga144 check --help` says behind the options.
+/// What `ga144 check --help` writes after the options.
 const ORDERS: &str = "\
 Reads an image or source as explore does, and nothing behind its line `end`. Runs it in every order of its nodes: two orders are one
 where they differ by swaps of steps that are free of one another.
@@ -80,7 +80,7 @@ An editor starts it (docs/EDITORS.md). It is a server of the Debug Adapter Proto
 
 Exit status: 0 done, 1 out of memory, 2 a stream failed or a frame was broken, 3 command line refused.";
 
-/// What `ga144 draw --help` says behind the options.
+/// What `ga144 draw --help` writes after the options.
 const PICTURES: &str = "\
 Reads what explore reads: an image or source, from FILE where one is given, then commands, one a line. Carries them out without an answer,
 and at their end writes one SVG: a line down for each node that isn't idle and doesn't work by itself, its own events as marks, passes
