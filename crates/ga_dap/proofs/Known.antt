@@ -35,12 +35,12 @@ pub sent_again : (o p : SentMessages) (messages : Messages) (new : SentMessages)
 sent_again o p messages new none e sent =
     let P : SentMessages → Type 0 = λ z. SendsAll z messages new in subst P (e ∙ back_again o none) sent
 
--- messages, and some behind them
+-- messages, and some after them
 pub sent_then : (old : SentMessages) (first : Message) (between : SentMessages) (rest : Messages) (new : SentMessages) → Sends old first between → SendsAll between rest new
     → SendsAll old (first ∷ rest) new
 sent_then old first between rest new one all = (between, one, all)
 
--- what a call carried out, told otherwise
+-- what a call did, in other words
 pub carries_so : (result : Result (Unit {0}) Unanswered) (P Q : Messages → Type 0) (Stays Still : Type 0) (old new : SentMessages)
     → Carries result P Stays old new → ((messages : Messages) → P messages → Q messages) → (Stays → Still) → Carries result Q Still old new
 carries_so (Ok done) P Q Stays Still old new h f g = (h.0, f h.0 h.1, h.2)
@@ -107,7 +107,7 @@ of_place the.Disassemble l request messages new b r e does = does
 of_place the.Terminate l request messages new b r e does = does
 of_place the.Disconnect l request messages new b r e does = does
 
--- and asks for no chip that stands
+-- and needs no stopped chip
 pub of_run : (command : RequestName) → command ≢ the.Continue → command ≢ the.Next → command ≢ the.StepIn → command ≢ the.StepOut → command ≢ the.StepBack
     → command ≢ the.ReverseContinue → command ≢ the.Evaluate → false ≡ is_of_standing command
 of_run the.Initialize c n i o b r e = refl

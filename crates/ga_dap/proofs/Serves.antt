@@ -1,4 +1,4 @@
--- Turns, one behind the other.
+-- Turns, one after the other.
 use Rattle.std.proofs.Common.{◌≡◌, ◌∙◌, ℕ, suc, [], ◌++◌, Option, Some, refl, sym, ap, inr}
 use Rattle.std.specs.Prelude.{false}
 use Rattle.std.proofs.lemmas.List.{append-nil}
@@ -22,7 +22,7 @@ pub serves_on : {S A : Type 0} (G : FileGiving S) (T : ArrivalTelling A) (begin 
     → ServesFor G T begin count said s → s.session.is_over ≡ false → MakesTurn G T s sent t → ServesFor G T begin (suc count) (said ++ sent) t
 serves_on G T begin count said s sent t serves open_still makes = (s, said, sent, serves, open_still, makes, refl)
 
--- what is pending is said
+-- what is pending is written
 pub pends : (contents : Option Bytes) (before said pending : Bytes) → contents ≡ Some (before ++ said) → IsSaid contents before (said ++ pending) pending
 pends contents before said pending held = record { sent = said; held = held; splits = refl }
 

@@ -1,4 +1,4 @@
--- What a request does in a session (Debug Adapter Protocol, "Requests"): the messages that are sent, in order, and what then stands.
+-- What a request does in a session (Debug Adapter Protocol, "Requests"): the messages sent, in order, and the state after them.
 use Rattle.std.specs.Prelude.{◌≡◌, ◌≢◌, Bool, true, false, not, ◌&&◌, if◌then◌else◌, [], ◌∷◌, codes, string_bytes, Option, Some, None, is_some}
 use Rattle.ga_text.specs.Lines.{Text}
 use Rattle.ga_protocol.specs.declared.request.ClientRequest.{ClientRequest}
@@ -19,7 +19,7 @@ use Rattle.ga_dap.specs.Launches.{FileGiving, Launches, event_alone}
 
 -- ---- of what was launched
 
--- requests that ask for a chip that stands
+-- requests that need a stopped chip
 abbrev pub is_of_standing : RequestName → Bool
 is_of_standing the.Continue = true
 is_of_standing the.Next = true
@@ -48,7 +48,7 @@ begins_run the.StepIn = true
 begins_run the.StepOut = true
 begins_run other = false
 
--- while the chip runs it is asked for no more than what it shows, and to pause; and it begins to run behind `configurationDone`
+-- while the chip runs, only requests that read or pause are served; and it begins to run after `configurationDone`
 abbrev pub hindrance : RequestName → Execution → Option Text
 hindrance command r =
     if is_some r.goal && is_of_standing command then Some (codes "the chip runs")

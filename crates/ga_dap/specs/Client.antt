@@ -1,6 +1,7 @@
--- A client's whole session, from the bytes that are read to the bytes that are written (Debug Adapter Protocol, "Base protocol"). Requests are
--- answered in order; between them the run under way goes on, slice by slice, while none has come. When requests come is the host's
--- to say: what is written is exact for what it says, and for every way in which the input is cut.
+-- A client's whole session, from the bytes that are read to the bytes that are written (Debug Adapter Protocol, "Base
+-- protocol"). Requests are answered in order; between them the run in progress continues, slice by slice, while none has come.
+-- The host determines when requests come: what is written is exact for any such times, and for every way in which the input is
+-- cut.
 use Rattle.std.specs.Prelude.{◌≡◌, ◌≢◌, ◌⊎◌, ℕ, zero, suc, Bool, true, false, [], ◌∷◌, ◌++◌, codes, string_bytes, is_some, Option, Some, None, IsUtf8}
 use Rattle.serde_json.specs.Data.{Data}
 use Rattle.serde_json.specs.Read.{read}
@@ -27,8 +28,8 @@ use Rattle.ga_dap.specs.Launches.{FileGiving, output_told}
 abbrev pub ArrivalTelling : Type 0 → Type 1
 ArrivalTelling A = A → Bool → A → Type 0
 
--- what stands between two turns: the host's files and arrivals, the session, the number of the last message, and of the input what was read
--- and not taken, and what was not read
+-- the state between two turns: the host's files and arrivals, the session, the number of the last message, and of the input
+-- what was read and not taken, and what was not read
 pub record Serving (S A : Type 0) : Type 0 where
   pub files : S
   pub arrivals : A
@@ -88,7 +89,7 @@ sent_from seq = record { bytes = []; seq = seq }
 abbrev pub sent_as : Bytes → ℕ → SentMessages
 sent_as bytes seq = record { bytes = bytes; seq = seq }
 
--- the next message, or that there is none, can be told of what was read
+-- what was read shows the next message, or that there is none
 abbrev pub CanTell : Bytes → Type 0
 CanTell ahead = BeginsOne ahead → ⊥
 
@@ -107,7 +108,7 @@ pub record TakesMessage {S A : Type 0} (G : FileGiving S) (s : Serving S A) (sen
   pub answers : AnswersContent G s.files s.session content messages t.files t.session
   pub sends : SendsAll (sent_from s.seq) messages (sent_as sent t.seq)
 
--- the run under way goes on by a slice, and nothing is taken
+-- the run in progress continues by a slice, and nothing is taken
 pub record GoesOnOnce {S A : Type 0} (s : Serving S A) (sent : Bytes) (t : Serving S A) : Type 0 where
   pub before : Launched
   pub after : Launched
@@ -127,7 +128,7 @@ TurnsBy G false s sent t = GoesOnOnce s sent t
 abbrev pub MakesTurn : {S A : Type 0} → FileGiving S → ArrivalTelling A → Serving S A → Bytes → Serving S A → Type 0
 MakesTurn G T s sent t = (time : Bool) × IsTime T (is_running s.session) s.ahead s.arrivals time t.arrivals × TurnsBy G time s sent t
 
--- so many turns, and what was sent in them
+-- `n` turns, and what was sent in them
 abbrev pub ServesFor : {S A : Type 0} → FileGiving S → ArrivalTelling A → Serving S A → ℕ → Bytes → Serving S A → Type 0
 ServesFor G T begin zero said last = (said ≡ []) × (last ≡ begin)
 ServesFor {S} {A} G T begin (suc count) said last = (between : Serving S A) × (front : Bytes) × (sent : Bytes) × ServesFor G T begin count front between
@@ -135,8 +136,9 @@ ServesFor {S} {A} G T begin (suc count) said last = (between : Serving S A) × (
 
 -- ---- how a session ends
 
--- at the end of a session the client has said so, or the input is at its end between messages; or something comes that is no message. Else
--- memory was refused to the next message or to what had to be told, and the client has not said that the session ends; or a stream failed.
+-- at the end of a session the client has ended it, or the input is at its end between messages; or something comes that is no
+-- message. Otherwise an allocation failed for the next message or for what had to be reported, and the client has not ended the
+-- session; or a stream failed.
 abbrev pub EndsBy : {S A : Type 0} → Serving S A → SessionEnd → Type 0
 EndsBy s end.Done = (s.session.is_over ≡ true) ⊎ (untaken s ≡ [])
 EndsBy s (end.Broken why) = (s.session.is_over ≡ false) × IsBroken why (untaken s)
@@ -156,7 +158,8 @@ new_session = record { launched = None; is_over = false }
 abbrev pub serving_from : {S A : Type 0} → S → A → Bytes → Serving S A
 serving_from files arrivals left = record { files = files; arrivals = arrivals; session = new_session; seq = 0; ahead = []; left = left }
 
--- A client was served: the turns were made, the session ended so behind the last, and this was written; this is left of the input.
+-- A client was served: the turns were made, the session ended so after the last, and this was written; this is left of the
+-- input.
 pub record ServesClient {S A : Type 0} (G : FileGiving S) (T : ArrivalTelling A) (files : S) (arrivals : A) (input rest written : Bytes) (ending : SessionEnd) : Type 0 where
   pub count : ℕ
   pub said : Bytes

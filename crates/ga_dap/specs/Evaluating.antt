@@ -23,7 +23,7 @@ use Rattle.ga_requests.specs.Configuring.{AreShown}
 use Rattle.ga_dap.specs.Opening.{parts_explored}
 use Rattle.ga_dap.specs.Telling.{CommandTold, has_moved}
 
--- the node in which an expression stands: that of the frame, and else the first that has something to show
+-- the node of an expression: that of the frame, otherwise the first that has something to show
 abbrev pub MeansNode : Debuggee → Option NodeId → NodeId → Type 0
 MeansNode p (Some framed) node = node ≡ framed
 MeansNode p None node = IsFirstShown p.lab p.nodes.items node.number
@@ -31,7 +31,7 @@ MeansNode p None node = IsFirstShown p.lab p.nodes.items node.number
 abbrev pub IsNodeMeant : Debuggee → ClientRequest → NodeId → Type 0
 IsNodeMeant p request node = (framed : Option NodeId) × AsksOfFrame (view request.arguments) framed × MeansNode p framed node
 
--- a register or a cell is asked for, or neither
+-- the expression names a register or a cell, or neither
 abbrev pub AsksVariable : Text → Option Variable → Type 0
 AsksVariable expression None = AsksForNoVariable expression
 AsksVariable expression (Some one) = AsksForVariable expression one

@@ -16,7 +16,7 @@ use Rattle.ga_requests.specs.declared.execution.StopReason.{StopReason}
 use Rattle.ga_requests.specs.declared.launched.Launched.{Launched}
 use Rattle.ga_dap.specs.Telling.{SliceTold, BackTold}
 
--- some events of the run are made, and it is told what changed and why the run ended, where it did
+-- some events of the run are made, and the messages have what changed and why the run ended, if it did
 abbrev pub GoesOnBy : Launched → Option StopReason → Messages → Launched → Type 0
 GoesOnBy l stop messages new = MakesSlice l.program l.settings l.execution new.program new.execution stop × (new.settings ≡ l.settings)
     × (before : ℕ → Bool) × AreShown l.program before × SliceTold before new.program new.settings stop messages
@@ -24,7 +24,7 @@ GoesOnBy l stop messages new = MakesSlice l.program l.settings l.execution new.p
 abbrev pub RunGoesOn : Launched → Messages → Launched → Type 0
 RunGoesOn l messages new = (stop : Option StopReason) × GoesOnBy l stop messages new
 
--- a node was gone back: it is told what went with it, the threads that changed, and that the chip stands
+-- a node was rolled back: the messages have what was removed with it, the threads that changed, and that the chip is stopped
 abbrev pub GoneTold : Debuggee → Debuggee → ClientRequest → NodeId → Text → Messages → Type 0
 GoneTold p new request node reason messages = (before : ℕ → Bool) × (steps : List ℕ) × (removed : ℕ) × AreShown p before × WentBack p.lab new.lab steps removed
     × BackTold before new request node (gone_words node steps removed new.lab) reason messages
@@ -39,7 +39,7 @@ StepsBackOf p request (Some node) messages new =
 abbrev pub StepsBack : Debuggee → ClientRequest → Messages → Debuggee → Type 0
 StepsBack p request messages new = (asked : Option NodeId) × AsksOfThread (view request.arguments) asked × StepsBackOf p request asked messages new
 
--- why a node stands that has gone back so far: at load, or at a breakpoint
+-- why a node that was rolled back is stopped there: at load, or at a breakpoint
 abbrev pub reason_behind : Debuggee → NodeId → Text
 reason_behind p node = if steps_of node.number p.lab.kept == 0 then codes "entry" else codes "breakpoint"
 

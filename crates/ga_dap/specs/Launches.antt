@@ -1,5 +1,5 @@
--- `launch` (Debug Adapter Protocol, "LaunchRequest", "InitializedEvent"): a program is opened, or it is told why none is. A host has files:
--- what it gives of one is a relation of its own.
+-- `launch` (Debug Adapter Protocol, "LaunchRequest", "InitializedEvent"): a program is opened, or the response has the reason
+-- why none is. A host has files: what it gives for one is a relation of its own.
 use Rattle.std.specs.Prelude.{◌≡◌, ◌⊎◌, ℕ, true, false, [], ◌∷◌, ◌++◌, replicate, codes, string_bytes, Option, Some, None, Result, Ok, Err}
 use Rattle.serde_json.specs.Data.{Data}
 use Rattle.serde_json.specs.View.{view}
@@ -58,7 +58,7 @@ pub record IsLaunched (text : Bytes) (path : Text) (limit : ℕ) (schedule : Sch
   pub entry : l.execution.stops_on_entry ≡ stops_on_entry arguments
   pub untold : l.execution.reported ≡ replicate 144 false
 
--- what is told of a launch: the response, what the source is warned of, where it is, and that the client may set breakpoints
+-- the messages of a launch: the response, the warnings about the source, its place, and that the client may set breakpoints
 abbrev pub launch_told : ClientRequest → Messages → Messages
 launch_told request warned = (acknowledged request ∷ warned) ++ (event_alone (codes "initialized") ∷ [])
 
@@ -69,7 +69,7 @@ abbrev pub OpensText : Bytes → Text → ℕ → Schedule → ClientRequest →
 OpensText text path limit schedule request messages l =
     IsLaunched text path limit schedule (view request.arguments) l × (warned : Messages) × IsWarned warned × (messages ≡ launch_told request warned)
 
--- a file's text was read: it is a program, or it is told why it is none
+-- a file's text was read: it is a program, or the response has the reason why it is none
 abbrev pub LaunchesText : Bytes → Text → ℕ → Schedule → ClientRequest → Messages → Option Launched → Type 0
 LaunchesText text path limit schedule request messages (Some l) = OpensText text path limit schedule request messages l
 LaunchesText text path limit schedule request messages None = IsNoProgram text × (why : Text) × (messages ≡ unlaunched request path why ∷ [])
@@ -85,7 +85,7 @@ ReadsFile G host request path limit schedule messages after new =
 abbrev pub RefusesLaunch : {S : Type 0} → S → ClientRequest → Text → Messages → S → Option Launched → Type 0
 RefusesLaunch host request why messages after new = (messages ≡ refused_response request why ∷ []) × (after ≡ host) × (new ≡ None)
 
--- a launch by what is asked for: a path, how many events are kept at most, and the order
+-- a launch by its arguments: a path, the limit of the history, and the order
 abbrev pub LaunchesAsked : {S : Type 0} → FileGiving S → S → ClientRequest → Option Text → Option ℕ → Option Schedule → Messages → S → Option Launched → Type 0
 LaunchesAsked G host request None limit schedule messages after new = RefusesLaunch host request (codes "launch: there is no program") messages after new
 LaunchesAsked G host request (Some path) None schedule messages after new =

@@ -41,7 +41,7 @@ pub(crate) fn step_back(
     tell_back_twice(alloc, program, &before, request, &gone, "step", out)
 }
 
-/// Why a node stands that has gone back so far.
+/// Why a node that was rolled back is stopped there.
 fn reason_behind(program: &Debuggee, node: NodeId) -> &'static str
     ensures { result.now ≡ reason_behind program.now node }
 {

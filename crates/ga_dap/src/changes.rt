@@ -1,4 +1,4 @@
-//! What is told of a change of the machine. Where memory is refused to it, it is told once more.
+//! The messages about a change of the machine. If an allocation fails for them, they are sent once more.
 
 ghost use Rattle.std.specs.Prelude.{◌≡◌, [], codes, OnOk};
 ghost use Rattle.ga_causal.specs.Dependence.{is_marked};
@@ -17,7 +17,7 @@ use ga_requests::{Configuration, Gone, StopReason, gone_text, tell_stop};
 use ga_responses::{Debuggee, shown_nodes, tell_changed, tell_output, tell_stopped};
 use std::alloc::{AllocError, Global};
 
-/// Tells which threads came and went.
+/// Sends which threads started and exited.
 #[tactic(auto, using(ga_responses::proofs::Sent::ok_then, crate::proofs::Known::shown_so))]
 fn tell_threads(
     alloc: Global,
@@ -31,7 +31,7 @@ fn tell_threads(
     tell_changed(alloc, before, &now, out)
 }
 
-/// Tells which threads came and went, and that the chip stands.
+/// Sends which threads started and exited, and that the chip is stopped.
 fn tell_standing(
     alloc: Global,
     program: &Debuggee,
@@ -47,7 +47,7 @@ fn tell_standing(
     tell_stopped(alloc, reason, description, node, out)
 }
 
-/// Tells why a run ended, where it did.
+/// Sends why a run ended, if it did.
 fn tell_end(
     alloc: Global,
     program: &Debuggee,
@@ -77,7 +77,7 @@ fn tell_slice(
     tell_end(alloc, program, settings, stop, out)
 }
 
-/// Tells of a slice of a run.
+/// Sends the messages of a slice of a run.
 pub(crate) fn tell_slice_twice(
     alloc: Global,
     program: &Debuggee,
@@ -101,7 +101,7 @@ pub(crate) fn tell_slice_twice(
     }
 }
 
-/// Tells in the console what went.
+/// Sends to the console what was removed.
 fn tell_gone(
     alloc: Global,
     program: &Debuggee,
@@ -130,7 +130,7 @@ fn tell_back(
     tell_standing(alloc, program, before, reason, "gone back", gone.node, out)
 }
 
-/// Tells of a move back, for which a request asked.
+/// Sends the messages of a move back that a request made.
 pub(crate) fn tell_back_twice(
     alloc: Global,
     program: &Debuggee,
@@ -155,7 +155,7 @@ pub(crate) fn tell_back_twice(
     }
 }
 
-/// Tells of a command by which the machine moved, or not.
+/// Sends the messages of a command that moved the machine, or didn't.
 fn tell_moved(
     alloc: Global,
     program: &Debuggee,
@@ -190,7 +190,7 @@ fn tell_command(
     tell_moved(alloc, program, before, moved, node, out)
 }
 
-/// Tells what was answered to a command of exploring.
+/// Sends the answer to a command of exploring.
 pub(crate) fn tell_command_twice(
     alloc: Global,
     program: &Debuggee,

@@ -21,7 +21,7 @@ use ga_protocol::{ClientRequest, Outbox, text_at};
 use ga_responses::{Debuggee, asked_variable, shown_nodes};
 use std::alloc::Global;
 
-/// Whether events were made or taken back since there were so many.
+/// Whether events were made or removed since these counts.
 fn has_moved(before: Counts, lab: &Lab) -> bool
     ensures { result ≡ (not (before.kept == length lab.now.kept) || not (before.made == lab.now.made)) }
 {

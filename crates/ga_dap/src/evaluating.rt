@@ -25,7 +25,7 @@ use std::alloc::{AllocError, Global};
 /// The most bytes of a line that are looked at: one more than a line may have.
 const LOOKED_AT: usize = 201;
 
-/// The node in which an expression stands: that of the frame, and else the first that has something to show.
+/// The node of an expression: that of the frame, otherwise the first that has something to show.
 pub(crate) fn node_meant(program: &Debuggee, request: &ClientRequest) -> NodeId
     ensures { IsNodeMeant program.now request.now result }
 {

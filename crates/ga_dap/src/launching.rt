@@ -1,4 +1,4 @@
-//! `launch`: a program is opened, or it is told why none is.
+//! `launch`: a program is opened, or the response has the reason why none is.
 
 ghost use Rattle.std.specs.Prelude.{◌≡◌, [], ◌∷◌, ◌++◌, None, Some, Ok, Err, Result, codes, string_bytes, IfOk, OnOk, OnErr};
 ghost use Rattle.serde_json.specs.View.{view};
@@ -43,7 +43,7 @@ fn refuse_file(
     Ok(None)
 }
 
-/// Tells what source is warned of, where it is.
+/// Sends the warnings about source, if there are any.
 fn tell_warnings(alloc: Global, warnings: &str, out: &mut Outbox) -> Result<(), AllocError>
     ensures { OnOk result ((messages : Messages) × IsWarned messages × SendsAll out.old messages out.new) }
 {
@@ -54,7 +54,7 @@ fn tell_warnings(alloc: Global, warnings: &str, out: &mut Outbox) -> Result<(), 
     }
 }
 
-/// Tells that a program is launched, and what its source is warned of.
+/// Sends that a program is launched, and the warnings about its source.
 fn tell_launched(
     alloc: Global,
     warnings: &str,
@@ -122,7 +122,7 @@ fn launched_file<S: ProgramFiles>(
     }
 }
 
-/// What is launched of a path, to keep so many events, in the order that is asked for.
+/// The program launched for a path, with this limit of its history, in the requested order.
 fn launched_limit<S: ProgramFiles>(
     alloc: Global,
     sources: &mut S,
@@ -143,7 +143,7 @@ fn launched_limit<S: ProgramFiles>(
     }
 }
 
-/// What is launched of a path, as it is asked for.
+/// The program launched for a path, by the arguments.
 fn launched_path<S: ProgramFiles>(
     alloc: Global,
     sources: &mut S,

@@ -62,7 +62,7 @@ struct Contents {
     warnings: String,
 }
 
-/// What stands behind the last slash of a path.
+/// The part of a path after its last slash.
 fn name_in(path: &str) -> &str {
     match path.rsplit_once('/') {
         Some((_, name)) => name,
@@ -73,7 +73,7 @@ fn name_in(path: &str) -> &str {
 /// The program that a file has as its text: an image, whose first bytes are `ga144`, or source.
 ///
 /// # Errors
-/// Memory was refused, or the text has a fault, told as `ga144 asm` tells it.
+/// An allocation failed, or the text has a fault, written as `ga144 asm` writes it.
 pub fn open_program(
     alloc: Global,
     path: &str,
@@ -119,7 +119,7 @@ fn program_of(alloc: Global, path: &str, contents: Contents) -> Result<Opened, A
     Ok(Opened { program, warnings })
 }
 
-/// Whether a text is an image: its first line tells a format. Else it is source.
+/// Whether a text is an image: its first line is that of a format. Otherwise it is source.
 fn is_image(text: &[u8]) -> bool
     ensures { result ≡ begins_as_image text.now }
 {
@@ -154,7 +154,7 @@ fn image_contents(alloc: Global, text: Vec<u8>, limit: u32) -> Result<Contents, 
     }
 }
 
-/// What is told of an image's fault.
+/// The text about an image's fault.
 fn image_refused(alloc: Global, fault: ImageFault) -> LaunchError
     ensures { IfFault result (fault.cause ≢ NoMemory) }
 {
@@ -166,7 +166,7 @@ fn image_refused(alloc: Global, fault: ImageFault) -> LaunchError
     told(alloc, text.as_slice())
 }
 
-/// A text that tells a fault.
+/// The text of a fault.
 fn told(alloc: Global, text: &[u8]) -> LaunchError {
     match String::from_utf8_lossy(alloc, text.trim_ascii_end()) {
         Ok(text) => LaunchError::Fault(text),
@@ -206,7 +206,7 @@ fn lab_of(alloc: Global, chip: Chip, limit: u32) -> Result<Lab, AllocError>
     }
 }
 
-/// What is told of a fault of source.
+/// The text about a fault of source.
 fn source_refused(alloc: Global, fault: Fault<'_>) -> LaunchError
     ensures { IfFault result (fault.entry.cause ≢ Wanting) }
 {

@@ -18,9 +18,10 @@ use std::io::{Read, Write};
 pub enum SessionEnd {
     /// The session ended by `disconnect`, or by the end of the input.
     Done,
-    /// Memory was refused to the next message, to the refusal of a request before it was begun, or to what had to be told of a change.
+    /// An allocation failed for the next message, for the refusal of a request before it began, or for what had to be reported
+    /// of a change.
     Memory,
-    /// The session ended by something that is no message: behind it none can be found again.
+    /// The session ended by something that is no message: no message can be found after it.
     Broken(Broken),
     /// A stream failed.
     StreamFault,
@@ -37,9 +38,9 @@ fn send<W: Write>(writer: &mut W, out: &mut Outbox) -> Result<(), WriteFailed>
     Ok(())
 }
 
-/// Serves a client of the Debug Adapter Protocol: reads requests, answers each, and goes on with the run under way, a slice at a time,
-/// while no request has come. Takes memory for one message at a time, for what is kept and for the source. A request to which memory is
-/// refused is refused and changes nothing.
+/// Serves a client of the Debug Adapter Protocol: reads requests, answers each, and continues the run in progress, a slice at a
+/// time, while no request has come. Allocates one message at a time, the history and the source. A request whose allocation
+/// fails is refused and changes nothing.
 pub fn serve_client<S: ProgramFiles, A: Arrivals, R: Read, W: Write>(
     alloc: Global,
     sources: &mut S,

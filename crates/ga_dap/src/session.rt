@@ -170,7 +170,7 @@ impl Session {
     }
 }
 
-/// Tells that the run ended.
+/// Sends that the run ended.
 fn tell_terminated(request: &ClientRequest, out: &mut Outbox) -> Result<(), AllocError>
     ensures { OnOk result (SendsAll out.old (acknowledged request.now ∷ event_alone (codes "terminated") ∷ []) out.new) }
 {
@@ -188,7 +188,7 @@ fn end_run(launched: &mut Option<Launched>)
     }
 }
 
-/// Whether a request asks for a chip that stands.
+/// Whether a request needs a stopped chip.
 fn is_of_standing(command: RequestName) -> bool
     ensures { result ≡ is_of_standing command }
 {
@@ -247,7 +247,7 @@ fn answer_by(
     }
 }
 
-/// Answers a request that needs a program, where the chip stands or the request doesn't ask for that.
+/// Answers a request that needs a program, if the chip is stopped or the request doesn't need that.
 fn answer_standing(
     alloc: Global,
     launched: &mut Launched,
@@ -288,7 +288,7 @@ fn in_place(
     }
 }
 
-/// Makes a slice of the run under way, and tells what came of it.
+/// Makes a slice of the run in progress, and sends its result.
 #[tactic(auto, using(crate::proofs::Known::shown_so, crate::proofs::Known::carries_so))]
 pub(crate) fn go_on_launched(
     alloc: Global,

@@ -28,7 +28,7 @@ pub enum SourceError {
     Unreadable,
 }
 
-/// What is told of a file that is not read.
+/// The text about a file that is not read.
 pub(crate) fn words_of(why: SourceError) -> &'static str
     ensures { result.now ≡ unread_words why }
 {

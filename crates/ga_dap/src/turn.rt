@@ -1,4 +1,4 @@
-//! One turn of a session: a request is answered, or the run under way goes on.
+//! One turn of a session: a request is answered, or the run in progress continues.
 
 ghost use Rattle.std.specs.Prelude.{◌≡◌, ◌++◌, [], Some, true, IfOk, IfErr, OnOk, OnErr, List, ℕ};
 ghost use Rattle.ga_text.specs.Lines.{Bytes};
@@ -17,7 +17,7 @@ use ga_responses::tell_output;
 use std::alloc::{AllocError, Global};
 use std::io::Read;
 
-/// Whether a session goes on.
+/// Whether a session continues.
 #[derive(Drop)]
 pub(crate) enum Progress {
     On,
@@ -49,7 +49,7 @@ fn request_in(alloc: Global, content: &[u8]) -> Result<ClientRequest, RequestErr
     }
 }
 
-/// What is told of a message that is no request.
+/// The text about a message that is no request.
 fn words_of(why: RequestError) -> &'static str
     ensures { result.now ≡ request_words why }
 {
@@ -62,7 +62,7 @@ fn words_of(why: RequestError) -> &'static str
     }
 }
 
-/// Tells that a message is no request.
+/// Sends that a message is no request.
 fn tell_no_request(alloc: Global, why: RequestError, out: &mut Outbox) -> Result<(), AllocError>
     ensures sent { OnOk result (SendsAll out.old (no_request_told why) out.new) }
     ensures err { OnErr result (out.new ≡ out.old) }
@@ -72,7 +72,7 @@ fn tell_no_request(alloc: Global, why: RequestError, out: &mut Outbox) -> Result
     tell_output(alloc, "stderr", text.as_str(), out)
 }
 
-/// Tells that a message is no request, and once more where memory was refused to that.
+/// Sends that a message is no request, and once more if an allocation failed for that.
 fn decline(alloc: Global, why: RequestError, out: &mut Outbox) -> Progress
     ensures { DeclinesOrEnds why out.old result out.new }
 {
@@ -86,7 +86,7 @@ fn decline(alloc: Global, why: RequestError, out: &mut Outbox) -> Progress
     }
 }
 
-/// The refusal of a request for want of memory, behind the message of this number.
+/// The refusal of a request for which an allocation failed, after the message of this number.
 #[tactic(auto, using(crate::proofs::Known::sent_again, ga_responses::proofs::Sent::sent_one))]
 fn refusal_of(alloc: Global, request: &ClientRequest, seq: u64) -> Result<Outbox, AllocError>
     ensures { IfOk result (λ out. SendsAll (sent_from seq) (refused_for_memory request.now) out) }
@@ -107,7 +107,8 @@ fn refusal_for(alloc: Global, request: &ClientRequest, seq: u64) -> Result<Outbo
     }
 }
 
-/// Answers a request, or refuses it where there is no memory for its answer. The refusal is made first, so it can be told then.
+/// Answers a request, or refuses it if there is no memory for its answer. The refusal is built first, so that it can be sent
+/// then.
 fn answer<S: ProgramFiles>(
     alloc: Global,
     session: &mut Session,
@@ -183,7 +184,7 @@ fn take<S: ProgramFiles, R: Read>(
     }
 }
 
-/// Goes on with the run under way, where one is.
+/// Continues the run in progress, if there is one.
 fn go_on(alloc: Global, session: &mut Session, out: &mut Outbox) -> Progress
     requires running { is_running session.old ≡ true }
     requires sent { out.old.bytes ≡ [] }
@@ -198,7 +199,7 @@ fn go_on(alloc: Global, session: &mut Session, out: &mut Outbox) -> Progress
     }
 }
 
-/// Whether it is time for a request: no run is under way, or what was read tells one, or more has come.
+/// Whether it is time for a request: no run is in progress, or what was read shows one, or more has come.
 fn is_time<A: Arrivals>(session: &Session, inbox: &Inbox, arrivals: &mut A) -> bool
     ensures { IsTime A.tells (is_running session.now) inbox.now arrivals.old result arrivals.new }
 {

@@ -5,6 +5,6 @@
 pub(crate) enum Unanswered {
     /// Memory was refused before anything changed.
     Memory,
-    /// Memory was refused for what is to be told of a change.
+    /// An allocation failed for what is to be reported of a change.
     Untold,
 }

@@ -42,7 +42,7 @@ front_twice : (xs : List Condition) (one : Condition) (others : Option (List Con
 front_twice xs one None = refl
 front_twice xs one (Some more) = ap Some (sym (append_assoc xs (one ∷ []) more))
 
--- what stands in the next place
+-- the number in the next place
 within_more : (notes : Option Notes) (place : ℕ) (left : List ℕ) → place < 8
     → conditions_within notes (8 - place) left ≡ conditions_by notes (8 - (place + 1)) (conditions_within notes (8 - (place + 1))) (or_split left)
 unfolding conditions_within

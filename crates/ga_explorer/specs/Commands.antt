@@ -63,7 +63,7 @@ rows =
 abbrev pub place_of_form : Line → Option ℕ
 place_of_form word = place_from word 0 rows
 
--- what is told of the command at a place
+-- the text of the command at a place
 abbrev pub command_text : ℕ → Text
 command_text place = about_found (slice_get rows place)
 
@@ -79,7 +79,7 @@ lone_question name =
     else if pointwise nat_eq name (codes "help") then Some told.Help
     else None
 
--- a command that changes nothing, of a word and what stands behind it
+-- a query, of a word and what follows it
 unfoldable pub named_question : Line → Line → Option Question
 named_question name text =
     if pointwise nat_eq name (codes "effects") then (do
@@ -110,7 +110,7 @@ lone_request name =
     if pointwise nat_eq name (codes "run") then Some (asked.Run in_rounds most_events no_condition)
     else option_map asked.Tell (lone_question name)
 
--- a command of a word and what stands behind it
+-- a command of a word and what follows it
 unfoldable pub named_request : Option Notes → Line → Line → Option ExplorerCommand
 named_request notes name text =
     if pointwise nat_eq name (codes "run") then run_in notes text
@@ -127,8 +127,8 @@ request_in notes line = request_by notes (cut line) line
 
 -- ---- what one of exploring answers
 
--- Events were made in the order of the schedule, at most so many, up to the first after which one of the conditions holds: the text
--- says how many and why no more, and the machine is the one after them.
+-- Events were made in the order of the schedule, at most `most`, up to the first after which one of the conditions holds: the
+-- text has how many and why the run ended, and the machine is the one after them.
 pub record IsRun (s : State) (schedule : Schedule) (most : ℕ) (until : List Condition) (answer : Text) (new : State) : Type 0 where
   pub events : ℕ
   pub end : End
@@ -138,7 +138,7 @@ pub record IsRun (s : State) (schedule : Schedule) (most : ℕ) (until : List Co
   pub state : new ≡ (after_events (running s schedule) events).state
   pub text : answer ≡ run_text (length until) events end
 
--- what is told of what is explored
+-- the text of a query's answer
 abbrev pub Tells : Exploring → Question → Text → Type 0
 Tells e (told.Effects node which) answer = TellsEffects e.lab node (step_meant e.lab node which) answer
 Tells e (told.Words from to) answer = answer ≡ link_words_text e.lab from to

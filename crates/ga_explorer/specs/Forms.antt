@@ -3,8 +3,8 @@ use Rattle.std.specs.Prelude.{ℕ, ◌+◌, nat_eq, if◌then◌else◌, List, [
 use Rattle.std.specs.Cmp.Lexicographic.{pointwise}
 use Rattle.ga_text.specs.Lines.{Text, Line}
 
--- a command: the word that a line of it begins with, how it is spelled, what `help` says behind that, and what `help` of this command says
--- besides
+-- a command: the word that its line begins with, its form, what `help` writes after that, and what `help` of this command
+-- writes in addition
 pub record CommandForm : Type 0 where
   pub name : Text
   pub form : Text
@@ -20,12 +20,12 @@ form_row_text row = row.form ++ row.does
 abbrev pub form_rows_text : List CommandForm → Text
 form_rows_text all = flat_map form_row_text all
 
--- the place of the command of this name among some that follow so many
+-- the place of the command of this name among these, which follow `place` others
 unfoldable pub place_from : Line → ℕ → List CommandForm → Option ℕ
 place_from word before [] = None
 place_from word before (row ∷ more) = if pointwise nat_eq row.name word then Some before else place_from word (before + 1) more
 
--- what is told of one command
+-- the text of `help` about one command
 abbrev pub about_text : CommandForm → Text
 about_text row = form_row_text row ++ row.more
 

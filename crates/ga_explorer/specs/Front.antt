@@ -1,11 +1,11 @@
--- An image or source that stands in a file and is read before standard input (docs/REFERENCE.md, "Files"; this project's own).
+-- An image or source in a file that is read before standard input (docs/REFERENCE.md, "Files"; this project's own).
 use Rattle.std.specs.Prelude.{ℕ, nat_eq, Bool, true, false, not, ◌==◌, ◌&&◌, ◌||◌, if◌then◌else◌, [], ◌∷◌, ◌++◌, length, codes}
 use Rattle.std.specs.Cmp.Lexicographic.{pointwise}
 use Rattle.std.specs.List.{starts_with, ends_with}
 use Rattle.ga_text.specs.Lines.{Text}
 use Rattle.ga_explorer.specs.Opening.{begins_as_image}
 
--- a line `end` with its line feed stands behind another line
+-- a line `end` with its line feed follows another line
 unfoldable pub has_end_line : Text → Bool
 has_end_line [] = false
 has_end_line (b ∷ text) = if starts_with nat_eq (b ∷ text) (codes "\nend\n") then true else has_end_line text
@@ -22,7 +22,7 @@ ends_in_end text = pointwise nat_eq text (codes "end") || ends_with nat_eq text 
 abbrev pub is_cut_off : Text → Bool
 is_cut_off text = begins_as_image text && (not (has_end text) && not (ends_in_end text))
 
--- what a text wants for commands to stand behind it: nothing, the line feed of its last line, or the line `end`
+-- what a text needs so that commands can follow it: nothing, the line feed of its last line, or the line `end`
 abbrev pub closing : Text → Text
 closing text =
     if has_end text then []
@@ -30,6 +30,6 @@ closing text =
     else if (length text == 0) || ends_with nat_eq text (codes "\n") then codes "end\n"
     else codes "\nend\n"
 
--- the text with what it wants for commands to stand behind it
+-- the text with what it needs so that commands can follow it
 abbrev pub closed : Text → Text
 closed text = text ++ closing text

@@ -1,4 +1,4 @@
--- What is said of a line that spells no command (docs/REFERENCE.md, "Exploring"; this project's own).
+-- The answer to a line that is no command (docs/REFERENCE.md, "Exploring"; this project's own).
 use Rattle.std.specs.Prelude.{nat_eq, nat_le, Bool, false, ◌&&◌, ◌||◌, if◌then◌else◌, List, [], ◌∷◌, ◌++◌, codes, Option, Some, None}
 use Rattle.std.specs.Cmp.Lexicographic.{pointwise}
 use Rattle.std.specs.List.{starts_with, ends_with}
@@ -30,14 +30,14 @@ abbrev pub first_word : Option (Line × Line) → Line → Line
 first_word None line = line
 first_word (Some parts) line = parts.0
 
--- the byte order mark of UTF-8 stands in front of the line
+-- the line begins with the byte order mark of UTF-8
 abbrev pub is_mark : Line → Bool
 is_mark line = starts_with nat_eq line (239 ∷ 187 ∷ 191 ∷ [])
 
 abbrev pub is_return : Line → Bool
 is_return line = ends_with nat_eq line (13 ∷ [])
 
--- a blank or a tab stands at an end
+-- the line begins or ends with a blank or a tab
 abbrev pub has_blank_end : Line → Bool
 has_blank_end line = starts_with nat_eq line (32 ∷ []) || (starts_with nat_eq line (9 ∷ []) || (ends_with nat_eq line (32 ∷ []) || ends_with nat_eq line (9 ∷ [])))
 

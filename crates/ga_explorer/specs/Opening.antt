@@ -83,11 +83,11 @@ abbrev pub is_read_as_image : Option Text → Text → Bool
 is_read_as_image None text = begins_as_image text
 is_read_as_image (Some image) text = false
 
--- The text goes up to its first line `end`; or no such line was read, and nothing is left behind it.
+-- The text extends to its first line `end`; or no such line was read, and nothing is left after it.
 abbrev pub IsFront : Text → Bytes → Type 0
 IsFront text behind = EndsAtEnd text ⊎ ((behind ≡ []) × HasNoEnd text)
 
--- Source was read, and nothing behind it.
+-- Source was read, and nothing after it.
 pub record IsSourceAlone (chip : Option Text) (read rest : Bytes) : Type 0 where
   pub source : Text
   pub ahead : Bytes
@@ -95,7 +95,7 @@ pub record IsSourceAlone (chip : Option Text) (read rest : Bytes) : Type 0 where
   pub part : IsReadAlone source ahead rest
   pub is_source : is_read_as_image chip source ≡ false
 
--- The image that was read has this first fault, and nothing was read behind it; or the one that is given for the chip has.
+-- The image that was read has this first fault, and nothing was read after it; or the one that gives the chip has.
 abbrev pub IsFaultyImage : Option Text → Bytes → Bytes → ImageFault → Type 0
 IsFaultyImage None read rest fault = (faulty : Faulty read rest fault) × (begins_as_image faulty.image ≡ true)
 IsFaultyImage (Some image) read rest fault = IsSourceAlone (Some image) read rest × IsFault image fault
@@ -107,7 +107,7 @@ IsRefusedImage chip read rest fault = (fault ≡ no_memory) ⊎ IsFaultyImage ch
 -- Why no session begins, what is written then, and the status: read was read of the input, and rest is left of it.
 pub data Unbegun (chip : Option Text) (read rest : Bytes) (written : Text) (status : Status) : Type 0 where
   image_refused : (fault : ImageFault) → IsRefusedImage chip read rest fault → Refuses fault written status → Unbegun chip read rest written status
-  -- standard error tells why
+  -- standard error has the reason
   source_refused : IsSourceAlone chip read rest → written ≡ [] → status ≡ ImageRefused → Unbegun chip read rest written status
   -- a read failed in the image or source
   unread : HasNoEnd read → written ≡ [] → status ≡ StreamFault → Unbegun chip read rest written status

@@ -1,5 +1,5 @@
--- What stands behind the names of commands of exploring, and how it is read: words with one space between two of them
--- (docs/REFERENCE.md, "Exploring"; this project's own). Nodes and numbers are spelled as in the debugger's commands.
+-- The arguments of exploring commands, and how they are parsed: words with one space between two of them (docs/REFERENCE.md,
+-- "Exploring"; this project's own). Nodes and numbers have the form that they have in the debugger's commands.
 use Rattle.std.specs.Prelude.{ℕ, nat_eq, if◌then◌else◌, codes, Option, Some, option_map, zero, suc, ◌+◌, ◌*◌, ◌^◌, ◌==◌, nat_lt, nat_le, ◌&&◌, List, [], ◌∷◌, ◌++◌, replicate, None}
 use Rattle.std.specs.Cmp.Lexicographic.{pointwise}
 use Rattle.ga_text.specs.Lines.{Line}
@@ -64,7 +64,7 @@ steps_condition text = do
   step ← number_in parts.1
   Some (Steps node step)
 
--- `= W` or `J` behind `NNN MMM`
+-- `= W` or `J` after `NNN MMM`
 abbrev pub passed_cut : NodeId → NodeId → Option (Line × Line) → Line → Option Condition
 passed_cut writer reader None text = option_map (PassesNumber writer reader) (number_in text)
 passed_cut writer reader (Some parts) text = option_map (Passes writer reader) (equal_in text)
@@ -133,7 +133,7 @@ node_and_place notes text = do
   address ← address_or_label notes node parts.1
   Some (node, address)
 
--- `HH` or `HH = W` behind `NNN`
+-- `HH` or `HH = W` after `NNN`
 abbrev pub written_cut : NodeId → Option (Line × Line) → Line → Option Condition
 written_cut node None text = do
   address ← byte_in text
@@ -157,7 +157,7 @@ writes_to_in text = do
 unfoldable pub lone_condition : Line → Option Condition
 lone_condition name = if pointwise nat_eq name (codes "stop") then Some Stops else None
 
--- a condition of a word and what stands behind it
+-- a condition of a word and what follows it
 unfoldable pub named_condition : Option Notes → Line → Line → Option Condition
 named_condition notes name text =
     if pointwise nat_eq name (codes "stop") then option_map StopsAt (node_in text)
@@ -183,7 +183,7 @@ condition_in notes text = condition_by notes (cut text) text
 
 -- ---- conditions with ` or ` between them
 
--- what stands behind ` or ` where a text begins with that
+-- what follows ` or ` if a text begins with that
 unfoldable pub behind_or : Line → Option Line
 behind_or (a ∷ b ∷ c ∷ d ∷ rest) = if (a == 32) && ((b == 111) && ((c == 114) && (d == 32))) then Some rest else None
 behind_or _ = None
@@ -192,12 +192,12 @@ abbrev pub cut_here : Option Line → Option (Line × Line) → Option (Line × 
 cut_here None later = later
 cut_here (Some rest) later = Some ([], rest)
 
--- what stands before the first ` or ` of a text, and what stands behind it
+-- what comes before the first ` or ` of a text, and what follows it
 abbrev pub or_cut : Line → Option (Line × Line)
 or_cut [] = None
 or_cut (b ∷ text) = cut_here (behind_or (b ∷ text)) (in_front b (or_cut text))
 
--- the first condition, and those behind it where there are some
+-- the first condition, and those after it if there are some
 abbrev pub split_by : Option (Line × Line) → Line → Line × Option Line
 split_by None text = (text, None)
 split_by (Some parts) text = (parts.0, Some parts.1)
@@ -217,7 +217,7 @@ abbrev pub with_first : Option Condition → Option (List Condition) → Option 
 with_first None others = None
 with_first (Some one) others = with_front (one ∷ []) others
 
--- the conditions behind the first, or else as many that hold never as there are places left
+-- the conditions after the first, or otherwise as many that never hold as there are places left
 abbrev pub others_by : ℕ → (Line → Option (List Condition)) → Option Line → Option (List Condition)
 others_by more others None = Some (replicate more Never)
 others_by more others (Some text) = others text
@@ -225,7 +225,7 @@ others_by more others (Some text) = others text
 abbrev pub conditions_by : Option Notes → ℕ → (Line → Option (List Condition)) → Line × Option Line → Option (List Condition)
 conditions_by notes more others parts = with_first (condition_in notes parts.0) (others_by more others parts.1)
 
--- conditions with ` or ` between them, for so many places
+-- conditions with ` or ` between them, for a number of places
 unfoldable pub conditions_within : Option Notes → ℕ → Line → Option (List Condition)
 conditions_within notes zero text = None
 conditions_within notes (suc more) text = conditions_by notes more (conditions_within notes more) (or_split text)
@@ -279,7 +279,7 @@ seeded_in notes text = seeded_cut notes (cut text) text
 unfoldable pub lone_order : Option Notes → Line → Option ExplorerCommand
 lone_order notes text = if pointwise nat_eq text (codes "greedy") then Some (Run greedily most_events no_condition) else bounded_in notes in_rounds text
 
--- an order with what stands behind it, or what bounds a run in rounds
+-- an order with what follows it, or what bounds a run in rounds
 unfoldable pub named_order : Option Notes → Line → Line → Line → Option ExplorerCommand
 named_order notes name rest text =
     if pointwise nat_eq name (codes "greedy") then bounded_in notes greedily rest
@@ -290,7 +290,7 @@ abbrev pub run_by : Option Notes → Option (Line × Line) → Line → Option E
 run_by notes None text = lone_order notes text
 run_by notes (Some parts) text = named_order notes parts.0 parts.1 text
 
--- what stands behind `run`
+-- the arguments of `run`
 abbrev pub run_in : Option Notes → Line → Option ExplorerCommand
 run_in notes text = run_by notes (cut text) text
 
@@ -308,13 +308,13 @@ back_by notes name text =
       until ← until_in notes text
       Some (BackUntil (Some node) until))
 
--- what stands behind `back`
+-- the arguments of `back`
 unfoldable pub back_in : Option Notes → Line → Option ExplorerCommand
 back_in notes text = do
   parts ← cut text
   back_by notes parts.0 parts.1
 
--- ---- what stands behind the name of a command
+-- ---- the arguments of a command
 
 -- `NNN K`
 unfoldable pub node_and_step : Line → Option (NodeId × Which)
@@ -340,7 +340,7 @@ node_and_cell text = do
   address ← byte_in parts.1
   Some (node, address)
 
--- how many steps are told besides one where no number is given, and how many at most
+-- how many further steps are written if no number is given, and how many at most
 abbrev pub few_steps : ℕ
 few_steps = 3
 
@@ -357,7 +357,7 @@ steps_cut (Some parts) text = do
   many ← number_in parts.1
   with_steps which many
 
--- `K` or `K N`: a step, and how many are told besides
+-- `K` or `K N`: a step, and how many further steps are written
 abbrev pub step_and_more : Line → Option (Which × ℕ)
 step_and_more text = steps_cut (cut text) text
 

@@ -11,8 +11,8 @@ use Rattle.ga_console.specs.declared.run.Status.{Status}
 use Rattle.ga_explorer.specs.Opening.{Exploring, OpensFront, IsFront, Unbegun}
 use Rattle.ga_explorer.specs.Answers.{Explores}
 
--- The text, an image or source, was accepted, and so was the image that is given for its chip, if one is; and the commands behind it were
--- served to this ending.
+-- The text, an image or source, was accepted, and so was the image that gives its chip, if there is one; and the commands after
+-- it were served to this ending.
 pub record ServedExploring (chip : Option Text) (limit : ℕ) (read rest : Bytes) (written : Text) (ending : Result Ending WriteFailed) : Type 0 where
   pub text : Text
   pub commands : Bytes

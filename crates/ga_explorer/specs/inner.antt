@@ -40,7 +40,7 @@ abbrev pub IsUnopened : Option Text → Text → Unopened → Type 0
 IsUnopened chip text (Image fault) = IsFaultOf chip text fault
 IsUnopened chip text Source = is_read_as_image chip text ≡ false
 
--- a refusal is written, or standard error tells why
+-- a refusal is written, or standard error has the reason
 abbrev pub Declines : Unopened → Text → Status → Type 0
 Declines (Image fault) written status = Refuses fault written status
 Declines Source written status = (written ≡ []) × (status ≡ ImageRefused)
@@ -50,9 +50,9 @@ abbrev pub IsOpened : Option Text → ℕ → Text → Text → Result Exploring
 IsOpened chip limit text written (Ok begun) = (written ≡ []) × OpensFront chip text limit begun
 IsOpened chip limit text written (Err status) = (why : Unopened) × IsUnopened chip text why × Declines why written status
 
--- ---- what is told to a question, and written
+-- ---- the answer of a query, and what is written
 
--- what is said is told to the question that is meant
+-- what is written is the answer of the query
 pub record IsTold {W : Type 0} (result : Result (Unit {0}) WriteFailed) (e : Exploring) (asked : Question) (contents : W → Option Bytes) (old new : Writer W) : Type 0 where
   pub meant : Question
   pub is : asked ≡ meant

@@ -1,4 +1,4 @@
-//! What stands behind the name of a command, as lines spell it.
+//! The arguments of commands, as lines have them.
 
 ghost use Rattle.std.specs.Prelude.{◌≡◌};
 ghost use Rattle.ga_explorer.specs.Reading.{node_and_step, two_nodes, node_and_cell, node_and_steps, step_and_more};
@@ -7,7 +7,7 @@ use crate::which::Which;
 use ga_grid::NodeId;
 use ga_text::{byte_of, cut, node_in, number_in};
 
-/// How many steps are told besides one where no number is given, and how many at most.
+/// How many further steps are written if no number is given, and how many at most.
 const FEW_STEPS: u32 = 3;
 
 const MOST_STEPS: u32 = 99;
@@ -50,7 +50,7 @@ pub(crate) fn node_and_steps(text: &[u8]) -> Option<(NodeId, Which, u32)>
     Some((node, which, many))
 }
 
-/// `K` or `K N`: a step, and how many are told besides
+/// `K` or `K N`: a step, and how many further steps are written.
 fn step_and_more(text: &[u8]) -> Option<(Which, u32)>
     ensures { result ≡ step_and_more text.now }
 {

@@ -1,4 +1,4 @@
-//! What stands behind `back`: `until` and conditions, for every event or for the steps of a node.
+//! The arguments of `back`: `until` and conditions, for every event or for the steps of a node.
 
 ghost use Rattle.std.specs.Prelude.{◌≡◌};
 ghost use Rattle.ga_explorer.specs.Reading.{back_in, back_by, until_back};
@@ -8,7 +8,7 @@ use crate::conditions_request::{conditions_of, until_of};
 use ga_notes::Notes;
 use ga_text::{cut, node_in};
 
-/// What stands behind `back` and a space.
+/// What follows `back` and a space.
 #[tactic(auto, unfolding(crate::specs::Reading::back_in))]
 pub(crate) fn back_of(notes: &Option<Notes>, text: &[u8]) -> Option<ExplorerCommand>
     ensures { result ≡ back_in notes.now text.now }

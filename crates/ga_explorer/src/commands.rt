@@ -25,13 +25,14 @@ use std::io::Write;
 /// A command of exploring.
 #[derive(Clone, Copy, PartialEq, Eq)]
 pub enum ExplorerCommand {
-    /// `run`: makes events in the order of a schedule, at most so many, up to one after which a condition holds.
+    /// `run`: makes events in the order of a schedule, at most `most`, up to one after which a condition holds.
     Run {
         schedule: Schedule,
         most: u32,
         until: Conditions,
     },
-    /// `back until`: takes the kept events back up to the newest one behind which a condition held; of a node its newest such step.
+    /// `back until`: undoes the history up to the newest event after which a condition held; for a node, rolls back its newest
+    /// such step.
     BackUntil {
         only: Option<NodeId>,
         until: Conditions,
@@ -40,50 +41,51 @@ pub enum ExplorerCommand {
     Tell(Question),
 }
 
-/// A command that only tells of what is explored.
+/// A query: a command that changes nothing.
 #[derive(Clone, Copy, PartialEq, Eq)]
 pub enum Question {
-    /// `effects`: tells what a rollback of a step would take, without taking it.
+    /// `effects`: writes what a rollback of a step would remove, without removing it.
     Effects {
         node: NodeId,
         which: Which,
     },
-    /// `words`: tells the words that went from one node to another.
+    /// `words`: writes the words transferred from one node to another.
     Words {
         from: NodeId,
         to: NodeId,
     },
-    /// `writes`: tells the steps of a node that wrote at an address of its memory.
+    /// `writes`: writes the steps of a node that wrote at an address of its memory.
     Writes {
         node: NodeId,
         address: u8,
     },
-    /// `at`: tells the steps of a node up to so many before and behind one, each with registers behind it.
+    /// `at`: writes the steps of a node up to a number before and after one, each with the registers after it.
     At {
         node: NodeId,
         which: Which,
         most: u32,
     },
-    /// `whence`: tells the steps whose values went into what a step of a node made.
+    /// `whence`: writes the steps whose values went into what a step of a node made.
     Whence {
         node: NodeId,
         which: Which,
     },
-    /// `because`: tells the last steps of a node before one, at most so many, at which a value decided where it went on.
+    /// `because`: writes the last steps of a node before one, at most a given number, at which a value decided where it
+    /// continued.
     Because {
         node: NodeId,
         which: Which,
         most: u32,
     },
-    /// `races`: tells the steps that could have come out otherwise, of one node or of all.
+    /// `races`: writes the races of one node or of all.
     Races {
         only: Option<NodeId>,
     },
-    /// `who`: tells who waits for whom, and which nodes can never go on.
+    /// `who`: writes who waits for whom, and which nodes are deadlocked.
     Who,
     /// `chip`: shows what each node does.
     Chip,
-    /// `save`: tells lines of the debugger that make the kept events again.
+    /// `save`: writes debugger commands that make the history again.
     Save,
     /// `help`: shows the commands.
     Help,
@@ -131,7 +133,7 @@ fn lone_question(name: &[u8]) -> Option<Question>
     }
 }
 
-/// The command that is spelled by a word and what follows the space behind it.
+/// The command of a word and what follows the space after it.
 #[tactic(auto, unfolding(crate::specs::Commands::named_request))]
 fn named_request(notes: &Option<Notes>, name: &[u8], arguments: &[u8]) -> Option<ExplorerCommand>
     ensures { result ≡ named_request notes.now name.now arguments.now }
@@ -145,7 +147,7 @@ fn named_request(notes: &Option<Notes>, name: &[u8], arguments: &[u8]) -> Option
     }
 }
 
-/// A command that changes nothing, of a word and what stands behind it.
+/// A query, of a word and what follows it.
 #[tactic(auto, unfolding(crate::specs::Commands::named_question))]
 fn named_question(name: &[u8], arguments: &[u8]) -> Option<Question>
     ensures { result ≡ named_question name.now arguments.now }
@@ -178,7 +180,7 @@ fn named_question(name: &[u8], arguments: &[u8]) -> Option<Question>
     }
 }
 
-/// Tells what is asked for.
+/// Writes the answer of the query.
 ///
 /// # Errors
 /// A write failed.

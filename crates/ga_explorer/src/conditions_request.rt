@@ -20,7 +20,7 @@ pub(crate) fn no_condition() -> Conditions
     [Condition::Never; MOST_CONDITIONS]
 }
 
-/// Whether ` or ` stands in front.
+/// Whether a text begins with ` or `.
 #[tactic(auto, unfolding(crate::specs::Reading::behind_or))]
 fn begins_or(text: &[u8]) -> bool
     ensures rest { behind_or text.now ≡ (if result then Some (drop 4 text.now) else None) }
@@ -32,7 +32,7 @@ fn begins_or(text: &[u8]) -> bool
     }
 }
 
-/// What stands before the first ` or `, and what stands behind it.
+/// What comes before the first ` or `, and what follows it.
 fn or_cut(text: &[u8]) -> Option<(&[u8], &[u8])>
     ensures { option_map (λ parts. (parts.0.now, parts.1.now)) result ≡ or_cut text.now }
 {
@@ -56,7 +56,7 @@ fn or_split(text: &[u8]) -> (&[u8], Option<&[u8]>)
     }
 }
 
-/// The conditions that a text spells, at most so many as a run watches; or none.
+/// The conditions of a text, at most as many as a run watches; or none.
 pub(crate) fn conditions_of(notes: &Option<Notes>, text: &[u8]) -> Option<Conditions>
     ensures { result ≡ conditions_in notes.now text.now }
 {
@@ -73,7 +73,7 @@ pub(crate) fn conditions_of(notes: &Option<Notes>, text: &[u8]) -> Option<Condit
     None
 }
 
-/// `until` and the conditions that stand behind it.
+/// `until` and the conditions that follow it.
 #[tactic(auto, unfolding(crate::specs::Reading::until_in))]
 pub(crate) fn until_of(notes: &Option<Notes>, text: &[u8]) -> Option<Conditions>
     ensures { result ≡ until_in notes.now text.now }

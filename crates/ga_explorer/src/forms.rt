@@ -1,4 +1,4 @@
-//! What `help` answers, and what is said of a line that spells no command.
+//! What `help` answers, and the answer to a line that is no command.
 
 ghost use Rattle.std.specs.Prelude.{◌≡◌, ◌++◌, codes, map, option_map, option_copied, slice_get};
 ghost use Rattle.ga_text.specs.Output.{Says, SaysExactly};
@@ -17,9 +17,9 @@ use std::io::Write;
 pub(crate) struct Row {
     /// The word that a line of it begins with.
     pub(crate) name: &'static [u8],
-    /// How the command is spelled. What stands in brackets may be left out.
+    /// The form of the command. What is in brackets may be left out.
     pub(crate) form: &'static [u8],
-    /// What `help` says behind the form, up to the line's end.
+    /// What `help` writes after the form, up to the line's end.
     pub(crate) does: &'static [u8],
     /// What `help` of this command says besides: what it answers, and an example.
     pub(crate) more: &'static [u8],
@@ -171,7 +171,7 @@ fn is_return(line: &[u8]) -> bool
     line.ends_with(b"\r".as_slice())
 }
 
-/// Whether a blank or a tab stands at an end of a line.
+/// Whether a line begins or ends with a blank or a tab.
 fn is_blank(line: &[u8]) -> bool
     ensures { result ≡ has_blank_end line.now }
 {

@@ -1,4 +1,4 @@
-//! An image or source that stands in a file and is read before standard input.
+//! An image or source in a file that is read before standard input.
 
 ghost use Rattle.std.specs.Prelude.{◌≡◌, OnOk};
 ghost use Rattle.ga_explorer.specs.Front.{has_end, has_end_line, ends_in_end, is_cut_off, closing, closed};
@@ -6,25 +6,25 @@ ghost use Rattle.ga_explorer.specs.Front.{has_end, has_end_line, ends_in_end, is
 use crate::opening::is_image;
 use std::alloc::AllocError;
 
-/// Whether a text is an image that goes up to no line `end`, so that no command can stand behind it.
+/// Whether a text is an image without a line `end`, so that no command can follow it.
 pub fn is_cut_off(text: &[u8]) -> bool
     ensures { result ≡ is_cut_off text.now }
 {
     is_image(text) && !has_end(text) && !ends_in_end(text)
 }
 
-/// Ends an image or source so that commands can stand behind it: adds the line feed of its line `end`, or that line to source that
-/// has none. A text that has its line `end` stays as it is.
+/// Ends an image or source so that commands can follow it: adds the line feed of its line `end`, or that line to source that
+/// has none. A text that has its line `end` is unchanged.
 ///
 /// # Errors
-/// Memory was refused. The text is as it was.
+/// Allocation failed. The text is unchanged.
 pub fn close(text: &mut Vec<u8>) -> Result<(), AllocError>
     ensures ok { OnOk result (text.new.items ≡ closed text.old.items) }
 {
     text.extend_from_slice(closing(text.as_slice()))
 }
 
-/// What a text wants for commands to stand behind it.
+/// What a text needs so that commands can follow it.
 fn closing(text: &[u8]) -> &'static [u8]
     ensures { result.now ≡ closing text.now }
 {
@@ -53,7 +53,7 @@ fn has_end(text: &[u8]) -> bool
     text.starts_with(b"end\n".as_slice()) || has_end_line(text)
 }
 
-/// Whether a line `end` with its line feed stands behind another line of a text.
+/// Whether a line `end` with its line feed follows another line of a text.
 #[tactic(auto, unfolding(crate::specs::Front::has_end_line))]
 fn has_end_line(text: &[u8]) -> bool
     ensures { result ≡ has_end_line text.now }

@@ -20,11 +20,11 @@ use std::io::Write;
 pub(crate) enum Unopened {
     /// The image has this fault, or memory was wanting for it.
     Image(ImageFault),
-    /// The source has a fault, or memory was wanting for it. It was told on standard error.
+    /// The source has a fault, or an allocation failed for it. This was written to standard error.
     Source,
 }
 
-/// Whether a text is an image: its first line tells a format. Else it is source.
+/// Whether a text is an image: its first line is that of a format. Otherwise it is source.
 pub(crate) fn is_image(text: &[u8]) -> bool
     ensures { result ≡ begins_as_image text.now }
 {
@@ -41,11 +41,11 @@ pub(crate) fn is_read_as_image(chip: &Option<Vec<u8>>, text: &[u8]) -> bool
     }
 }
 
-/// A lab to be explored that has as its load the chip of a text, an image or source; or that of another image, where one is given, and the
-/// text is its source. Of source, `errors` is told what `ga144 asm` tells there: a fault, or stores over code.
+/// A lab to be explored whose load is the chip of a text, an image or source; or that of another image, if one is given, and
+/// the text is its source. For source, `errors` gets what `ga144 asm` writes there: a fault, or stores over code.
 ///
 /// # Errors
-/// The image's first fault, a fault of the source, or want of memory.
+/// The image's first fault, a fault of the source, or out of memory.
 pub(crate) fn open_text<E: Write>(
     alloc: Global,
     errors: &mut E,
@@ -92,14 +92,14 @@ fn open_on_image<E: Write>(
     }
 }
 
-/// Tells which image was refused, and what is wanted.
+/// Reports which image was refused, and what is expected.
 fn tell_chip<E: Write>(errors: &mut E) {
     let told =
         b"ga144: the chip is refused: --chip takes the lines that dump writes, ga144 2 to end, and no other\n";
     let _ = write_all(errors, told);
 }
 
-/// Notes of the cells of a source; or none, where it is told why.
+/// Debug info of the cells of a source; or none, and the reason is reported.
 fn note_source<E: Write>(alloc: Global, errors: &mut E, source: &[u8]) -> Option<Notes>
     ensures { IfSome result (λ notes. AreNotesOf source.now notes) }
 {
@@ -154,7 +154,7 @@ fn open_alone<E: Write>(
     }
 }
 
-/// A lab that has as its load the chip of a source, with notes of its cells; or none, where it is told why.
+/// A lab whose load is the chip of a source, with debug info of its cells; or none, and the reason is reported.
 fn open_source<E: Write>(
     alloc: Global,
     errors: &mut E,

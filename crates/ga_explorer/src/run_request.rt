@@ -1,4 +1,4 @@
-//! What stands behind `run`: an order, how many events, and conditions.
+//! The arguments of `run`: an order, how many events, and conditions.
 
 ghost use Rattle.std.specs.Prelude.{◌≡◌};
 ghost use Rattle.ga_explorer.specs.Reading.{run_in, lone_order, named_order, seeded_in, bounded_in, bounded_by, run_until};
@@ -12,7 +12,7 @@ use ga_text::{cut, number_in};
 /// How many events are made at most where no number is given.
 pub(crate) const MOST_EVENTS: u32 = u32::MAX;
 
-/// What stands behind `run` and a space.
+/// What follows `run` and a space.
 pub(crate) fn run_of(notes: &Option<Notes>, text: &[u8]) -> Option<ExplorerCommand>
     ensures { result ≡ run_in notes.now text.now }
 {
@@ -38,7 +38,7 @@ fn lone_order(notes: &Option<Notes>, text: &[u8]) -> Option<ExplorerCommand>
     }
 }
 
-/// An order with what stands behind it, or what bounds a run in rounds.
+/// An order with what follows it, or what bounds a run in rounds.
 #[tactic(auto, unfolding(crate::specs::Reading::named_order))]
 fn named_order(
     notes: &Option<Notes>,
@@ -91,7 +91,7 @@ fn bounded_of(notes: &Option<Notes>, schedule: Schedule, text: &[u8]) -> Option<
     }
 }
 
-/// A number, `until` and conditions, or both, by the first word and what stands behind that.
+/// A number, `until` and conditions, or both, by the first word and what follows it.
 #[tactic(auto, unfolding(crate::specs::Reading::bounded_by))]
 fn bounded_by(
     notes: &Option<Notes>,

@@ -9,9 +9,9 @@ use ga_text::{Input, Writer};
 use std::alloc::Global;
 use std::io::{Read, Write};
 
-/// Reads an image or source and then commands, and answers them as `ga_console::session` does. It knows the debugger's commands,
-/// and those of exploring besides. At most `limit` events are kept. Source that has a fault ends the session: `errors` is told of
-/// it, as by `ga144 asm`, and there is no answer. Where an image is given for the `chip`, what is read first is its source.
+/// Reads an image or source and then commands, and answers them as `ga_console::session` does. It has the debugger's commands
+/// and those of exploring. The history has at most `limit` events. Source with a fault ends the session: `errors` gets the
+/// fault, as from `ga144 asm`, and there is no answer. If an image is given for the `chip`, what is read first is its source.
 pub fn explore<R: Read, W: Write, E: Write>(
     alloc: Global,
     reader: &mut R,

@@ -5,7 +5,8 @@ use Rattle.ga_responses.specs.Sending.{Messages, SendsAll}
 use Rattle.ga_dap.specs.declared.unanswered.Unanswered.{Unanswered}
 use Rattle.ga_dap.specs.declared.unanswered.Unanswered.TheVariants.{Memory, Untold}
 
--- messages were sent of which this holds; or memory was refused before anything changed, of which that holds; or to what had to be told of a change
+-- messages were sent for which this holds; or an allocation failed before anything changed, for which that holds; or for what
+-- had to be reported of a change
 abbrev pub Carries : Result (Unit {0}) Unanswered → (Messages → Type 0) → Type 0 → SentMessages → SentMessages → Type 0
 Carries (Ok done) Does Stays old new = (messages : Messages) × Does messages × SendsAll old messages new
 Carries (Err Memory) Does Stays old new = Stays

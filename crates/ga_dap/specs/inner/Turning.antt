@@ -1,4 +1,4 @@
--- What a turn of a session comes to: it goes on, or ends.
+-- The result of a turn of a session: it continues, or ends.
 use Rattle.std.specs.Prelude.{◌≡◌, ◌⊎◌, ℕ, [], ◌++◌, Some}
 use Rattle.ga_text.specs.Lines.{Bytes}
 use Rattle.ga_protocol.specs.Framing.{IsMessage}
@@ -48,7 +48,7 @@ GoesOnOrEnds s old On new t = (before : Launched) × (after : Launched) × (mess
     × (t ≡ record s { launched = Some after }) × SendsAll old messages new
 GoesOnOrEnds s old (End ending) new t = ending ≡ end.Memory
 
--- why a session that goes on ends instead of a turn
+-- why a session that continues ends instead of a turn
 abbrev pub EndsTurn : {S A : Type 0} → Serving S A → SessionEnd → Type 0
 EndsTurn s end.Done = untaken s ≡ []
 EndsTurn s (end.Broken why) = IsBroken why (untaken s)

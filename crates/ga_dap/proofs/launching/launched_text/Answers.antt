@@ -11,7 +11,7 @@ use Rattle.ga_dap.specs.Opening.{IsNoProgram}
 use Rattle.ga_dap.specs.Launches.{LaunchesText, launch_told, unlaunched}
 use Rattle.ga_dap.proofs.launching.launched_text.Goals as goal
 
--- it is told why nothing is launched
+-- the reason is reported why nothing is launched
 refused_so : {E : Type 0} (result : Result (Option Launched) E) (text : Bytes) (path : Text) (limit : ℕ) (schedule : Schedule) (request : ClientRequest) (why : Text) (old new : SentMessages)
     → IsNoProgram text → IfOk result (λ (l : Option Launched). (l ≡ None) × Sends old (unlaunched request path why) new)
     → IfOk result (λ (l : Option Launched). (messages : Messages) × LaunchesText text path limit schedule request messages l × SendsAll old messages new)
