@@ -11,7 +11,7 @@ sys.path.insert(0, f"{ROOT}/model")
 from client import demand, framed, text_of  # noqa: E402
 
 # The most bytes of a message, as the crate has them.
-with open(f"{ROOT}/crates/ga_protocol/src/framing.rt", encoding="utf-8") as file:
+with open(f"{ROOT}/crates/ga_dap_protocol/src/framing.rt", encoding="utf-8") as file:
     LONGEST = int(re.search(r"CONTENT_LIMIT: usize = ([0-9_]+);", file.read())[1])
 # Long values that take much memory: what begins one, what it repeats, and what ends it.
 LONG = {"letters": (b'"', b"a", b'"'), "numbers": (b"[", b"1,", b"1]"), "texts": (b"[", b'"a",', b"1]"), "lists": (b"[", b"[1],", b"1]"), "maps": (b"[", b'{"":1},', b"1]"), "deep lists": (b"[", b"[[[[1]]]],", b"1]")}

@@ -1,7 +1,7 @@
 /* Loaded before a program (LD_PRELOAD), this refuses the growth of its memory whose number is REFUSED, or so many from it on as REFUSED_MANY
    says, and makes the file REFUSED_TOLD then.
    Counted is what the program itself asks for, from its first growth on, or from the first of so many bytes as REFUSED_FROM says: with one
-   of one byte crates/ga_trials begins to count. What the C library asks for, as where it starts a thread, isn't counted. Nothing else is
+   of one byte crates/ga_bench begins to count. What the C library asks for, as where it starts a thread, isn't counted. Nothing else is
    changed. */
 #define _GNU_SOURCE
 #include <dlfcn.h>

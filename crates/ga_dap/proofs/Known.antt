@@ -1,21 +1,21 @@
 -- Requests that are answered in one way.
-use Rattle.ga_responses.specs.declared.request_name.RequestName.TheVariants as the
+use Rattle.ga_dap_queries.specs.declared.request_name.RequestName.TheVariants as the
 use Rattle.std.proofs.Common.{◌≡◌, ◌∙◌, ℕ, ◌<◌, Bool, List, ap, [], ◌∷◌, Result, Ok, Err, sym, subst, ◌≢◌, refl}
 use Rattle.ga_grid.specs.declared.node_id.NodeId.{NodeId}
-use Rattle.ga_adapter.specs.Threads.{has_thread}
-use Rattle.ga_responses.specs.declared.debuggee.Debuggee.{Debuggee}
-use Rattle.ga_requests.specs.Configuring.{AreShown}
-use Rattle.ga_protocol.specs.Sent.{SentMessages}
-use Rattle.ga_responses.specs.Sending.{Message, Messages, Sends, SendsAll}
+use Rattle.ga_dap_views.specs.Threads.{has_thread}
+use Rattle.ga_dap_queries.specs.declared.debuggee.Debuggee.{Debuggee}
+use Rattle.ga_dap_control.specs.Configuring.{AreShown}
+use Rattle.ga_dap_protocol.specs.Sent.{SentMessages}
+use Rattle.ga_dap_queries.specs.Sending.{Message, Messages, Sends, SendsAll}
 use Rattle.ga_dap.specs.declared.unanswered.Unanswered.{Unanswered}
 use Rattle.ga_dap.specs.declared.unanswered.Unanswered.TheVariants.{Memory, Untold}
 use Rattle.ga_dap.specs.Client.{sent_as}
 use Rattle.ga_dap.specs.inner.Carrying.{Carries}
 use Rattle.std.specs.Prelude.{false}
-use Rattle.ga_protocol.specs.declared.request.ClientRequest.{ClientRequest}
-use Rattle.ga_responses.specs.declared.request_name.RequestName.{RequestName}
-use Rattle.ga_requests.specs.Requests.{DoesInPlace}
-use Rattle.ga_requests.specs.declared.launched.Launched.{Launched}
+use Rattle.ga_dap_protocol.specs.declared.request.ClientRequest.{ClientRequest}
+use Rattle.ga_dap_queries.specs.declared.request_name.RequestName.{RequestName}
+use Rattle.ga_dap_control.specs.Requests.{DoesInPlace}
+use Rattle.ga_dap_control.specs.declared.launched.Launched.{Launched}
 use Rattle.ga_dap.specs.declared.session.Session.{Session}
 use Rattle.ga_dap.specs.Answering.{AnswersKnown, OfLaunch, DoesIfLaunched, DoesStanding, is_of_standing}
 use Rattle.ga_dap.specs.Launches.{FileGiving}

@@ -2,12 +2,12 @@
 use Rattle.std.proofs.Common.{◌≡◌, ℕ, [], ◌∷◌, Option, None, Result, Ok, Err, refl, ap}
 use Rattle.std.specs.Prelude.{IfOk}
 use Rattle.ga_text.specs.Lines.{Text}
-use Rattle.ga_search.specs.declared.schedule.Schedule.{Schedule}
-use Rattle.ga_protocol.specs.Sent.{SentMessages}
-use Rattle.ga_protocol.specs.declared.request.ClientRequest.{ClientRequest}
-use Rattle.ga_responses.specs.Sending.{Messages, Sends, SendsAll, refused_response}
-use Rattle.ga_responses.proofs.Sent.{sent_one}
-use Rattle.ga_requests.specs.declared.launched.Launched.{Launched}
+use Rattle.ga_scheduler.specs.declared.schedule.Schedule.{Schedule}
+use Rattle.ga_dap_protocol.specs.Sent.{SentMessages}
+use Rattle.ga_dap_protocol.specs.declared.request.ClientRequest.{ClientRequest}
+use Rattle.ga_dap_queries.specs.Sending.{Messages, Sends, SendsAll, refused_response}
+use Rattle.ga_dap_queries.proofs.Sent.{sent_one}
+use Rattle.ga_dap_control.specs.declared.launched.Launched.{Launched}
 use Rattle.ga_dap.specs.declared.sources.SourceError.{SourceError}
 use Rattle.ga_dap.specs.Launches.{FileGiving, RefusesLaunch, ReadsFile, unlaunched, unread_words}
 

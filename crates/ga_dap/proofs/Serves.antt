@@ -4,7 +4,7 @@ use Rattle.std.specs.Prelude.{false}
 use Rattle.std.proofs.lemmas.List.{append-nil}
 use Rattle.ga_text.specs.Lines.{Bytes}
 use Rattle.ga_text.specs.Output.{IsSaid}
-use Rattle.ga_protocol.specs.Sent.{SentMessages}
+use Rattle.ga_dap_protocol.specs.Sent.{SentMessages}
 use Rattle.ga_dap.specs.declared.session.Session.{Session}
 use Rattle.ga_dap.specs.declared.serving.SessionEnd.{SessionEnd}
 use Rattle.ga_dap.specs.declared.serving.SessionEnd.TheVariants as end

@@ -1,13 +1,13 @@
 -- What a turn comes to, from what its parts come to.
 use Rattle.std.proofs.Common.{◌≡◌, ◌≢◌, ◌∙◌, [], ◌++◌, true, false, refl, sym, subst, inl, inr, append_assoc}
 use Rattle.ga_text.specs.Lines.{Bytes}
-use Rattle.ga_protocol.specs.Framing.{IsMessage}
-use Rattle.ga_protocol.specs.Messages.{HoldsNoRequest}
-use Rattle.ga_protocol.specs.Sent.{SentMessages}
-use Rattle.ga_protocol.specs.declared.request.ClientRequest.{ClientRequest}
-use Rattle.ga_protocol.specs.declared.request.RequestError.{RequestError}
-use Rattle.ga_protocol.specs.declared.request.RequestError.TheVariants as fault
-use Rattle.ga_responses.specs.Sending.{SendsAll}
+use Rattle.ga_dap_protocol.specs.Framing.{IsMessage}
+use Rattle.ga_dap_protocol.specs.Messages.{HoldsNoRequest}
+use Rattle.ga_dap_protocol.specs.Sent.{SentMessages}
+use Rattle.ga_dap_protocol.specs.declared.request.ClientRequest.{ClientRequest}
+use Rattle.ga_dap_protocol.specs.declared.request.RequestError.{RequestError}
+use Rattle.ga_dap_protocol.specs.declared.request.RequestError.TheVariants as fault
+use Rattle.ga_dap_queries.specs.Sending.{SendsAll}
 use Rattle.ga_dap.specs.declared.session.Session.{Session}
 use Rattle.ga_dap.specs.declared.serving.SessionEnd.{SessionEnd}
 use Rattle.ga_dap.specs.declared.serving.SessionEnd.TheVariants as end

@@ -14,10 +14,10 @@ use Rattle.ga_event.specs.declared.made.Made.{Made}
 use Rattle.ga_causal.specs.Dependence.{dependents, without, place_of, rest_from, rewound_list}
 use Rattle.ga_lab.specs.Machine.{State, chip_of, causes_of, told_of_kept, answer_to, with_event, step_answer, unless_refused, stepped, undo_answer, rewind_answer, rewound, earlier}
 use Rattle.ga_lab.specs.declared.fault.LabFault.{LabFault}
-use Rattle.ga_search.specs.Backward.{newest_held, number_of_step, left_from}
-use Rattle.ga_search.specs.Conditions.{conditions_asked}
-use Rattle.ga_search.specs.Running.{Running, running, chosen, told_by_step, moved_by, after_events, AreMade}
-use Rattle.ga_search.specs.declared.schedule.Schedule.{Schedule}
+use Rattle.ga_scheduler.specs.Backward.{newest_held, number_of_step, left_from}
+use Rattle.ga_scheduler.specs.Conditions.{conditions_asked}
+use Rattle.ga_scheduler.specs.Running.{Running, running, chosen, told_by_step, moved_by, after_events, AreMade}
+use Rattle.ga_scheduler.specs.declared.schedule.Schedule.{Schedule}
 use Rattle.ga_display.specs.declared.wording.Wording.{Wording}
 use Rattle.ga_display.specs.declared.wording.Wording.TheVariants.{Advised}
 use Rattle.ga_console.specs.Replies.{Reply, Does, WordedAnswer, worded_reply, step_reply, back_reply, rewind_reply}
@@ -30,7 +30,7 @@ use Rattle.ga_explorer.specs.Commands.{Explored}
 use Rattle.ga_explorer.specs.Opening.{Exploring}
 use Rattle.ga_explorer.specs.declared.commands.ExplorerCommand.{ExplorerCommand}
 use Rattle.ga_explorer.specs.declared.commands.ExplorerCommand.TheVariants as asked
-use Rattle.ga_responses.specs.declared.debuggee.Debuggee.{Debuggee}
+use Rattle.ga_dap_queries.specs.declared.debuggee.Debuggee.{Debuggee}
 use Rattle.ga_dap.specs.Opening.{parts_explored}
 use Rattle.ga_dap.specs.Telling.{has_moved}
 

@@ -1,17 +1,17 @@
 -- What a request does in a session (Debug Adapter Protocol, "Requests"): the messages sent, in order, and the state after them.
 use Rattle.std.specs.Prelude.{◌≡◌, ◌≢◌, Bool, true, false, not, ◌&&◌, if◌then◌else◌, [], ◌∷◌, codes, string_bytes, Option, Some, None, is_some}
 use Rattle.ga_text.specs.Lines.{Text}
-use Rattle.ga_protocol.specs.declared.request.ClientRequest.{ClientRequest}
-use Rattle.ga_responses.specs.Capabilities.{AnswersInitialize}
-use Rattle.ga_responses.specs.Commands.{command_name}
-use Rattle.ga_responses.specs.Sending.{Message, Messages, acknowledged, refused_response}
-use Rattle.ga_responses.specs.declared.debuggee.Debuggee.{Debuggee}
-use Rattle.ga_responses.specs.declared.request_name.RequestName.{RequestName}
-use Rattle.ga_responses.specs.declared.request_name.RequestName.TheVariants as the
-use Rattle.ga_requests.specs.Moving.{run_ended}
-use Rattle.ga_requests.specs.Requests.{DoesInPlace}
-use Rattle.ga_requests.specs.declared.execution.Execution.{Execution}
-use Rattle.ga_requests.specs.declared.launched.Launched.{Launched}
+use Rattle.ga_dap_protocol.specs.declared.request.ClientRequest.{ClientRequest}
+use Rattle.ga_dap_queries.specs.Capabilities.{AnswersInitialize}
+use Rattle.ga_dap_queries.specs.Commands.{command_name}
+use Rattle.ga_dap_queries.specs.Sending.{Message, Messages, acknowledged, refused_response}
+use Rattle.ga_dap_queries.specs.declared.debuggee.Debuggee.{Debuggee}
+use Rattle.ga_dap_queries.specs.declared.request_name.RequestName.{RequestName}
+use Rattle.ga_dap_queries.specs.declared.request_name.RequestName.TheVariants as the
+use Rattle.ga_dap_control.specs.Moving.{run_ended}
+use Rattle.ga_dap_control.specs.Requests.{DoesInPlace}
+use Rattle.ga_dap_control.specs.declared.execution.Execution.{Execution}
+use Rattle.ga_dap_control.specs.declared.launched.Launched.{Launched}
 use Rattle.ga_dap.specs.declared.session.Session.{Session}
 use Rattle.ga_dap.specs.Evaluating.{Evaluates}
 use Rattle.ga_dap.specs.Going.{StepsBack, Reverses}

@@ -8,15 +8,15 @@ use Rattle.serde_json.specs.Read.{read}
 use Rattle.serde_json.specs.View.{view}
 use Rattle.ga_text.specs.Lines.{Bytes, Text}
 use Rattle.ga_text.specs.Output.{Begins}
-use Rattle.ga_protocol.specs.Framing.{IsMessage, BeginsOne}
-use Rattle.ga_protocol.specs.Inbox.{IsBroken}
-use Rattle.ga_protocol.specs.Messages.{IsRequest, HoldsNoRequest}
-use Rattle.ga_protocol.specs.Sent.{SentMessages}
-use Rattle.ga_protocol.specs.declared.request.ClientRequest.{ClientRequest}
-use Rattle.ga_protocol.specs.declared.request.RequestError.{RequestError}
-use Rattle.ga_protocol.specs.declared.request.RequestError.TheVariants as fault
-use Rattle.ga_responses.specs.Sending.{Messages, SendsAll, refused_response}
-use Rattle.ga_requests.specs.declared.launched.Launched.{Launched}
+use Rattle.ga_dap_protocol.specs.Framing.{IsMessage, BeginsOne}
+use Rattle.ga_dap_protocol.specs.Inbox.{IsBroken}
+use Rattle.ga_dap_protocol.specs.Messages.{IsRequest, HoldsNoRequest}
+use Rattle.ga_dap_protocol.specs.Sent.{SentMessages}
+use Rattle.ga_dap_protocol.specs.declared.request.ClientRequest.{ClientRequest}
+use Rattle.ga_dap_protocol.specs.declared.request.RequestError.{RequestError}
+use Rattle.ga_dap_protocol.specs.declared.request.RequestError.TheVariants as fault
+use Rattle.ga_dap_queries.specs.Sending.{Messages, SendsAll, refused_response}
+use Rattle.ga_dap_control.specs.declared.launched.Launched.{Launched}
 use Rattle.ga_dap.specs.declared.session.Session.{Session}
 use Rattle.ga_dap.specs.declared.serving.SessionEnd.{SessionEnd}
 use Rattle.ga_dap.specs.declared.serving.SessionEnd.TheVariants as end

@@ -9,17 +9,17 @@ use Rattle.ga_grid.specs.declared.node_id.NodeId.{NodeId}
 use Rattle.ga_lab.specs.Machine.{chip_of}
 use Rattle.ga_console.specs.Session.{quit_line}
 use Rattle.ga_explorer.specs.Answers.{Explores}
-use Rattle.ga_adapter.specs.Json.{whole_number}
-use Rattle.ga_responses.specs.Evaluating.{AsksForVariable, AsksForNoVariable, evaluated}
-use Rattle.ga_adapter.specs.declared.variable.Variable.{Variable}
-use Rattle.ga_protocol.specs.Messages.{member_text}
-use Rattle.ga_protocol.specs.declared.request.ClientRequest.{ClientRequest}
-use Rattle.ga_responses.specs.declared.debuggee.Debuggee.{Debuggee}
-use Rattle.ga_responses.specs.Arguments.{AsksOfFrame}
-use Rattle.ga_responses.specs.Events.{IsFirstShown}
-use Rattle.ga_responses.specs.Readings.{TellsStuck}
-use Rattle.ga_responses.specs.Sending.{Messages, answered, refused_response}
-use Rattle.ga_requests.specs.Configuring.{AreShown}
+use Rattle.ga_dap_views.specs.Json.{whole_number}
+use Rattle.ga_dap_queries.specs.Evaluating.{AsksForVariable, AsksForNoVariable, evaluated}
+use Rattle.ga_dap_views.specs.declared.variable.Variable.{Variable}
+use Rattle.ga_dap_protocol.specs.Messages.{member_text}
+use Rattle.ga_dap_protocol.specs.declared.request.ClientRequest.{ClientRequest}
+use Rattle.ga_dap_queries.specs.declared.debuggee.Debuggee.{Debuggee}
+use Rattle.ga_dap_queries.specs.Arguments.{AsksOfFrame}
+use Rattle.ga_dap_queries.specs.Events.{IsFirstShown}
+use Rattle.ga_dap_queries.specs.Readings.{TellsStuck}
+use Rattle.ga_dap_queries.specs.Sending.{Messages, answered, refused_response}
+use Rattle.ga_dap_control.specs.Configuring.{AreShown}
 use Rattle.ga_dap.specs.Opening.{parts_explored}
 use Rattle.ga_dap.specs.Telling.{CommandTold, has_moved}
 

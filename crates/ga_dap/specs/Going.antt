@@ -4,16 +4,16 @@ use Rattle.serde_json.specs.View.{view}
 use Rattle.ga_text.specs.Lines.{Text}
 use Rattle.ga_event.specs.Told.{steps_of}
 use Rattle.ga_grid.specs.declared.node_id.NodeId.{NodeId}
-use Rattle.ga_protocol.specs.declared.request.ClientRequest.{ClientRequest}
-use Rattle.ga_responses.specs.Arguments.{AsksOfThread}
-use Rattle.ga_responses.specs.declared.debuggee.Debuggee.{Debuggee}
-use Rattle.ga_responses.specs.Sending.{Messages, refused_response}
-use Rattle.ga_requests.specs.Configuring.{AreShown}
-use Rattle.ga_requests.specs.Back.{grain_asked, stepped_by, reversed_by, gone_words, WentBack}
-use Rattle.ga_requests.specs.Slices.{MakesSlice}
-use Rattle.ga_requests.specs.declared.configuration.Configuration.{Configuration}
-use Rattle.ga_requests.specs.declared.execution.StopReason.{StopReason}
-use Rattle.ga_requests.specs.declared.launched.Launched.{Launched}
+use Rattle.ga_dap_protocol.specs.declared.request.ClientRequest.{ClientRequest}
+use Rattle.ga_dap_queries.specs.Arguments.{AsksOfThread}
+use Rattle.ga_dap_queries.specs.declared.debuggee.Debuggee.{Debuggee}
+use Rattle.ga_dap_queries.specs.Sending.{Messages, refused_response}
+use Rattle.ga_dap_control.specs.Configuring.{AreShown}
+use Rattle.ga_dap_control.specs.Back.{grain_asked, stepped_by, reversed_by, gone_words, WentBack}
+use Rattle.ga_dap_control.specs.Slices.{MakesSlice}
+use Rattle.ga_dap_control.specs.declared.configuration.Configuration.{Configuration}
+use Rattle.ga_dap_control.specs.declared.execution.StopReason.{StopReason}
+use Rattle.ga_dap_control.specs.declared.launched.Launched.{Launched}
 use Rattle.ga_dap.specs.Telling.{SliceTold, BackTold}
 
 -- some events of the run are made, and the messages have what changed and why the run ended, if it did

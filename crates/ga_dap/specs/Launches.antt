@@ -4,14 +4,14 @@ use Rattle.std.specs.Prelude.{◌≡◌, ◌⊎◌, ℕ, true, false, [], ◌∷
 use Rattle.serde_json.specs.Data.{Data}
 use Rattle.serde_json.specs.View.{view}
 use Rattle.ga_text.specs.Lines.{Bytes, Text}
-use Rattle.ga_search.specs.declared.schedule.Schedule.{Schedule}
-use Rattle.ga_protocol.specs.Messages.{bare_event, member_text}
-use Rattle.ga_protocol.specs.declared.request.ClientRequest.{ClientRequest}
-use Rattle.ga_responses.specs.Events.{output_body}
-use Rattle.ga_responses.specs.Launching.{limit_asked, schedule_asked, stops_on_entry}
-use Rattle.ga_responses.specs.Sending.{Message, Messages, acknowledged, refused_response, event_told}
-use Rattle.ga_requests.specs.declared.configuration.Configuration.{Configuration}
-use Rattle.ga_requests.specs.declared.launched.Launched.{Launched}
+use Rattle.ga_scheduler.specs.declared.schedule.Schedule.{Schedule}
+use Rattle.ga_dap_protocol.specs.Messages.{bare_event, member_text}
+use Rattle.ga_dap_protocol.specs.declared.request.ClientRequest.{ClientRequest}
+use Rattle.ga_dap_queries.specs.Events.{output_body}
+use Rattle.ga_dap_queries.specs.Launching.{limit_asked, schedule_asked, stops_on_entry}
+use Rattle.ga_dap_queries.specs.Sending.{Message, Messages, acknowledged, refused_response, event_told}
+use Rattle.ga_dap_control.specs.declared.configuration.Configuration.{Configuration}
+use Rattle.ga_dap_control.specs.declared.launched.Launched.{Launched}
 use Rattle.ga_dap.specs.declared.sources.SourceError.{SourceError}
 use Rattle.ga_dap.specs.declared.sources.SourceError.TheVariants as source
 use Rattle.ga_dap.specs.Opening.{OpensProgram, IsNoProgram, NodesShown}

@@ -4,13 +4,13 @@ use Rattle.ga_grid.specs.declared.node_id.NodeId.{NodeId}
 use Rattle.ga_image.specs.FirstFault.{IsFirstFault}
 use Rattle.ga_image.specs.declared.fault.ImageFault.{ImageFault}
 use Rattle.ga_lab.specs.Machine.{State}
-use Rattle.ga_notes.specs.declared.notes.Notes.{Notes}
+use Rattle.ga_debug_info.specs.declared.notes.Notes.{Notes}
 use Rattle.ga_source.specs.Programs.{AreAsked}
 use Rattle.ga_source.specs.declared.program.Program.{Program}
 use Rattle.ga_source.specs.Made.{IsSoundSource}
 use Rattle.ga_text.specs.Lines.{Bytes, lines_of}
 use Rattle.ga_explorer.specs.Opening.{Exploring, begins_as_image, OpensExploring}
-use Rattle.ga_responses.specs.declared.debuggee.Debuggee.{Debuggee}
+use Rattle.ga_dap_queries.specs.declared.debuggee.Debuggee.{Debuggee}
 
 -- what is explored of a program
 abbrev pub parts_explored : State → Option Notes → Exploring

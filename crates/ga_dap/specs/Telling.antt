@@ -3,14 +3,14 @@ use Rattle.std.specs.Prelude.{◌≡◌, ℕ, Bool, true, false, not, ◌||◌, 
 use Rattle.ga_text.specs.Lines.{Text}
 use Rattle.ga_grid.specs.declared.node_id.NodeId.{NodeId}
 use Rattle.ga_lab.specs.Machine.{State}
-use Rattle.ga_protocol.specs.declared.request.ClientRequest.{ClientRequest}
-use Rattle.ga_responses.specs.declared.debuggee.Debuggee.{Debuggee}
-use Rattle.ga_responses.specs.Events.{changed_below}
-use Rattle.ga_responses.specs.Sending.{Message, Messages, acknowledged}
-use Rattle.ga_requests.specs.declared.configuration.Configuration.{Configuration}
-use Rattle.ga_requests.specs.declared.execution.StopReason.{StopReason}
-use Rattle.ga_requests.specs.Configuring.{AreShown}
-use Rattle.ga_requests.specs.Stopping.{stopped, TellsStop}
+use Rattle.ga_dap_protocol.specs.declared.request.ClientRequest.{ClientRequest}
+use Rattle.ga_dap_queries.specs.declared.debuggee.Debuggee.{Debuggee}
+use Rattle.ga_dap_queries.specs.Events.{changed_below}
+use Rattle.ga_dap_queries.specs.Sending.{Message, Messages, acknowledged}
+use Rattle.ga_dap_control.specs.declared.configuration.Configuration.{Configuration}
+use Rattle.ga_dap_control.specs.declared.execution.StopReason.{StopReason}
+use Rattle.ga_dap_control.specs.Configuring.{AreShown}
+use Rattle.ga_dap_control.specs.Stopping.{stopped, TellsStop}
 use Rattle.ga_dap.specs.Launches.{output_told}
 
 -- In what follows, before says which threads there were.

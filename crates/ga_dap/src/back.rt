@@ -3,14 +3,14 @@
 ghost use Rattle.std.specs.Prelude.{◌≡◌, [], ◌∷◌, codes};
 ghost use Rattle.ga_dap.specs.Going.{StepsBack, Reverses, reason_behind};
 ghost use Rattle.ga_dap.specs.inner.Carrying.{Carries};
-ghost use Rattle.ga_responses.specs.Sending.{refused_response};
+ghost use Rattle.ga_dap_queries.specs.Sending.{refused_response};
 
 use crate::changes::tell_back_twice;
 use crate::unanswered::Unanswered;
+use ga_dap_control::{Configuration, reverse_node, step_node_back};
+use ga_dap_protocol::{ClientRequest, Outbox};
+use ga_dap_queries::{Debuggee, node_asked, shown_nodes};
 use ga_grid::NodeId;
-use ga_protocol::{ClientRequest, Outbox};
-use ga_requests::{Configuration, reverse_node, step_node_back};
-use ga_responses::{Debuggee, node_asked, shown_nodes};
 use std::alloc::Global;
 
 /// Refuses a request.

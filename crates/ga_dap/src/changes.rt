@@ -2,8 +2,8 @@
 
 ghost use Rattle.std.specs.Prelude.{◌≡◌, [], codes, OnOk};
 ghost use Rattle.ga_causal.specs.Dependence.{is_marked};
-ghost use Rattle.ga_responses.specs.Sending.{Sends, SendsAll, Messages};
-ghost use Rattle.ga_requests.specs.Back.{gone_words};
+ghost use Rattle.ga_dap_queries.specs.Sending.{Sends, SendsAll, Messages};
+ghost use Rattle.ga_dap_control.specs.Back.{gone_words};
 ghost use Rattle.ga_dap.specs.Evaluating.{AnswerTold};
 ghost use Rattle.ga_dap.specs.Launches.{output_told};
 ghost use Rattle.ga_dap.specs.Telling.{ThreadsChanged, StandsThen, StopTold, SliceTold, BackTold, CommandTold};
@@ -11,14 +11,14 @@ ghost use Rattle.ga_dap.specs.inner.Carrying.{Carries};
 
 use crate::evaluating::text_body;
 use crate::unanswered::Unanswered;
+use ga_dap_control::{Configuration, Gone, StopReason, gone_text, tell_stop};
+use ga_dap_protocol::{ClientRequest, Outbox};
+use ga_dap_queries::{Debuggee, shown_nodes, tell_changed, tell_output, tell_stopped};
 use ga_grid::NodeId;
-use ga_protocol::{ClientRequest, Outbox};
-use ga_requests::{Configuration, Gone, StopReason, gone_text, tell_stop};
-use ga_responses::{Debuggee, shown_nodes, tell_changed, tell_output, tell_stopped};
 use std::alloc::{AllocError, Global};
 
 /// Sends which threads started and exited.
-#[tactic(auto, using(ga_responses::proofs::Sent::ok_then, crate::proofs::Known::shown_so))]
+#[tactic(auto, using(ga_dap_queries::proofs::Sent::ok_then, crate::proofs::Known::shown_so))]
 fn tell_threads(
     alloc: Global,
     program: &Debuggee,

@@ -3,9 +3,9 @@
 ghost use Rattle.std.specs.Prelude.{◌≡◌, ◌||◌, ◌==◌, [], not, length};
 ghost use Rattle.serde_json.specs.View.{view};
 ghost use Rattle.ga_text.specs.Lines.{Text};
-ghost use Rattle.ga_responses.specs.Sending.{SendsAll, Messages};
-ghost use Rattle.ga_responses.specs.Evaluating.{AsksForNoVariable};
-ghost use Rattle.ga_adapter.specs.Shown.{IsVariable};
+ghost use Rattle.ga_dap_queries.specs.Sending.{SendsAll, Messages};
+ghost use Rattle.ga_dap_queries.specs.Evaluating.{AsksForNoVariable};
+ghost use Rattle.ga_dap_views.specs.Shown.{IsVariable};
 ghost use Rattle.ga_dap.specs.Evaluating.{Evaluates, EvaluatesIn, Obeys, ObeysIf, ValueShown, is_from_console};
 ghost use Rattle.ga_dap.specs.Telling.{has_moved};
 ghost use Rattle.ga_dap.specs.inner.Carrying.{Carries};
@@ -14,11 +14,11 @@ use crate::back::refuse;
 use crate::changes::tell_command_twice;
 use crate::evaluating::{command_text, node_meant, value_body};
 use crate::unanswered::Unanswered;
-use ga_adapter::Variable;
+use ga_dap_protocol::{ClientRequest, Outbox, text_at};
+use ga_dap_queries::{Debuggee, asked_variable, shown_nodes};
+use ga_dap_views::Variable;
 use ga_grid::NodeId;
 use ga_lab::{Counts, Lab};
-use ga_protocol::{ClientRequest, Outbox, text_at};
-use ga_responses::{Debuggee, asked_variable, shown_nodes};
 use std::alloc::Global;
 
 /// Whether events were made or removed since these counts.

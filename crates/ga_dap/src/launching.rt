@@ -3,17 +3,17 @@
 ghost use Rattle.std.specs.Prelude.{◌≡◌, [], ◌∷◌, ◌++◌, None, Some, Ok, Err, Result, codes, string_bytes, IfOk, OnOk, OnErr};
 ghost use Rattle.serde_json.specs.View.{view};
 ghost use Rattle.ga_text.specs.Lines.{Bytes, Text};
-ghost use Rattle.ga_responses.specs.Launching.{limit_asked, schedule_asked};
+ghost use Rattle.ga_dap_queries.specs.Launching.{limit_asked, schedule_asked};
 ghost use Rattle.ga_dap.specs.declared.sources.SourceError.{SourceError as WhyUnread};
 ghost use Rattle.ga_dap.specs.Launches.{IsWarned, LaunchesText, ReadsFile, LaunchesAsked, LaunchesFirst, launch_told, unlaunched, event_alone};
-ghost use Rattle.ga_responses.specs.Sending.{Sends, SendsAll, Messages, refused_response};
+ghost use Rattle.ga_dap_queries.specs.Sending.{Sends, SendsAll, Messages, refused_response};
 
 use crate::opening::{LaunchError, Opened, open_program};
 use crate::sources::{ProgramFiles, SourceError, words_of};
-use ga_protocol::{ClientRequest, Outbox, text_at};
-use ga_requests::{Configuration, Execution, Launched};
-use ga_responses::{limit_asked, schedule_asked, stops_on_entry, tell_output};
-use ga_search::Schedule;
+use ga_dap_control::{Configuration, Execution, Launched};
+use ga_dap_protocol::{ClientRequest, Outbox, text_at};
+use ga_dap_queries::{limit_asked, schedule_asked, stops_on_entry, tell_output};
+use ga_scheduler::Schedule;
 use std::alloc::{AllocError, Global};
 
 /// Refuses to launch anything.

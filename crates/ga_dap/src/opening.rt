@@ -15,11 +15,11 @@ ghost use Rattle.ga_dap.specs.Opening.{OpensProgram, IsNoProgram, NodesShown, No
 ghost use Rattle.ga_dap.specs.inner.Unopened.{IfFault};
 
 use ga_console::{open_image, refuse};
+use ga_dap_queries::Debuggee;
+use ga_debug_info::{Notes, notes_of, push_fault};
 use ga_grid::{Chip, NodeId};
 use ga_image::{ImageCause, ImageFault};
 use ga_lab::{Lab, LabFault};
-use ga_notes::{Notes, notes_of, push_fault};
-use ga_responses::Debuggee;
 use ga_source::{Fault, Program as NodeProgram, SourceCause, Store, assemble, stores_over_code};
 use std::alloc::{AllocError, Global};
 use thiserror::Error;

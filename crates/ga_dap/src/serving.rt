@@ -8,7 +8,7 @@ ghost use Rattle.ga_dap.specs.Client.{ServesClient};
 use crate::session::Session;
 use crate::sources::{Arrivals, ProgramFiles};
 use crate::turn::{Progress, turn};
-use ga_protocol::{Broken, Inbox, Outbox};
+use ga_dap_protocol::{Broken, Inbox, Outbox};
 use ga_text::{WriteFailed, write_all};
 use std::alloc::Global;
 use std::io::{Read, Write};

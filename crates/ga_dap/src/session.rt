@@ -1,9 +1,9 @@
 //! A session: what was launched, and the requests of the client.
 
 ghost use Rattle.std.specs.Prelude.{◌≡◌, ◌&&◌, [], ◌∷◌, Option, Some, None, codes, string_bytes, is_some, option_map, OnOk, OnErr};
-ghost use Rattle.ga_requests.specs.Requests.{DoesInPlace};
-ghost use Rattle.ga_requests.specs.declared.launched.Launched.{Launched as ALaunched};
-ghost use Rattle.ga_responses.specs.Sending.{SendsAll, Messages, acknowledged};
+ghost use Rattle.ga_dap_control.specs.Requests.{DoesInPlace};
+ghost use Rattle.ga_dap_control.specs.declared.launched.Launched.{Launched as ALaunched};
+ghost use Rattle.ga_dap_queries.specs.Sending.{SendsAll, Messages, acknowledged};
 ghost use Rattle.ga_dap.specs.Answering.{AnswersRequest, AnswersKnown, DoesOfLaunched, DoesStanding, DoesIfLaunched, OfLaunch, Initializes, Disconnects, Terminates, ended_run, is_of_standing, begins_run, hindrance};
 ghost use Rattle.ga_dap.specs.Client.{is_running, new_session};
 ghost use Rattle.ga_dap.specs.Going.{RunGoesOn};
@@ -16,9 +16,9 @@ use crate::console::evaluate;
 use crate::launching::launched_first;
 use crate::sources::ProgramFiles;
 use crate::unanswered::Unanswered;
-use ga_protocol::{ClientRequest, Outbox};
-use ga_requests::{Execution, Launched, answer_in_place, make_slice};
-use ga_responses::{RequestName, initialize, request_named, shown_nodes};
+use ga_dap_control::{Execution, Launched, answer_in_place, make_slice};
+use ga_dap_protocol::{ClientRequest, Outbox};
+use ga_dap_queries::{RequestName, initialize, request_named, shown_nodes};
 use std::alloc::{AllocError, Global};
 
 /// A session.

@@ -2,9 +2,9 @@
 
 ghost use Rattle.std.specs.Prelude.{◌≡◌, ◌++◌, [], Some, true, IfOk, IfErr, OnOk, OnErr, List, ℕ};
 ghost use Rattle.ga_text.specs.Lines.{Bytes};
-ghost use Rattle.ga_protocol.specs.Inbox.{GivesNext};
-ghost use Rattle.ga_protocol.specs.Messages.{HoldsNoRequest};
-ghost use Rattle.ga_responses.specs.Sending.{SendsAll};
+ghost use Rattle.ga_dap_protocol.specs.Inbox.{GivesNext};
+ghost use Rattle.ga_dap_protocol.specs.Messages.{HoldsNoRequest};
+ghost use Rattle.ga_dap_queries.specs.Sending.{SendsAll};
 ghost use Rattle.ga_dap.specs.Client.{IsTime, IsRequestIn, is_running, no_request_told, refused_for_memory, request_words, sent_from};
 ghost use Rattle.ga_dap.specs.inner.Turning.{AnswersOrEnds, DeclinesOrEnds, ContentOrEnds, TakesOrEnds, GoesOnOrEnds, TurnOrEnds, serving_at};
 
@@ -12,8 +12,8 @@ use crate::serving::SessionEnd;
 use crate::session::{Session, go_on_launched};
 use crate::sources::{Arrivals, ProgramFiles};
 use crate::unanswered::Unanswered;
-use ga_protocol::{ClientRequest, Inbox, Next, Outbox, RequestError, read_request};
-use ga_responses::tell_output;
+use ga_dap_protocol::{ClientRequest, Inbox, Next, Outbox, RequestError, read_request};
+use ga_dap_queries::tell_output;
 use std::alloc::{AllocError, Global};
 use std::io::Read;
 
@@ -87,7 +87,7 @@ fn decline(alloc: Global, why: RequestError, out: &mut Outbox) -> Progress
 }
 
 /// The refusal of a request for which an allocation failed, after the message of this number.
-#[tactic(auto, using(crate::proofs::Known::sent_again, ga_responses::proofs::Sent::sent_one))]
+#[tactic(auto, using(crate::proofs::Known::sent_again, ga_dap_queries::proofs::Sent::sent_one))]
 fn refusal_of(alloc: Global, request: &ClientRequest, seq: u64) -> Result<Outbox, AllocError>
     ensures { IfOk result (λ out. SendsAll (sent_from seq) (refused_for_memory request.now) out) }
 {

@@ -4,9 +4,9 @@ use Rattle.std.specs.Prelude.{Option, replicate}
 use Rattle.std.proofs.lemmas.Bool.{cases_lt}
 use Rattle.std.proofs.lemmas.List.{drop_more, drop-set-lt}
 use Rattle.std.proofs.lemmas.Grind.{take-set_at}
-use Rattle.ga_notes.specs.declared.notes.Notes.{Notes}
-use Rattle.ga_search.specs.declared.condition.Condition.{Condition}
-use Rattle.ga_search.specs.declared.condition.Condition.TheVariants.{Never}
+use Rattle.ga_debug_info.specs.declared.notes.Notes.{Notes}
+use Rattle.ga_scheduler.specs.declared.condition.Condition.{Condition}
+use Rattle.ga_scheduler.specs.declared.condition.Condition.TheVariants.{Never}
 use Rattle.ga_explorer.specs.Reading.{behind_or, cut_here, or_cut, or_split, condition_in, with_front, with_first, others_by, conditions_by, conditions_within}
 use Rattle.ga_text.specs.Parsing.{in_front}
 

@@ -3,14 +3,14 @@ use Rattle.std.specs.Prelude.{Option}
 use Rattle.std.proofs.Common.{◌≡◌, ◌∙◌, ◌≤◌, ℕ, List, length, refl, sym, ap, subst}
 use Rattle.ga_grid.specs.declared.node_id.NodeId.{NodeId}
 use Rattle.ga_lab.specs.Machine.{State}
-use Rattle.ga_search.specs.Conditions.{conditions_asked}
-use Rattle.ga_search.specs.Backward.{newest_held, left_from, gone_from}
-use Rattle.ga_search.specs.Running.{Running, running, after_events, AreMade, HasEnded}
-use Rattle.ga_search.specs.declared.schedule.Schedule.{Schedule}
-use Rattle.ga_search.specs.declared.condition.Condition.{Condition}
-use Rattle.ga_search.specs.declared.running.End.{End}
-use Rattle.ga_answers.specs.Texts.{run_text, back_text}
-use Rattle.ga_notes.specs.declared.notes.Notes.{Notes}
+use Rattle.ga_scheduler.specs.Conditions.{conditions_asked}
+use Rattle.ga_scheduler.specs.Backward.{newest_held, left_from, gone_from}
+use Rattle.ga_scheduler.specs.Running.{Running, running, after_events, AreMade, HasEnded}
+use Rattle.ga_scheduler.specs.declared.schedule.Schedule.{Schedule}
+use Rattle.ga_scheduler.specs.declared.condition.Condition.{Condition}
+use Rattle.ga_scheduler.specs.declared.running.End.{End}
+use Rattle.ga_explorer_text.specs.Texts.{run_text, back_text}
+use Rattle.ga_debug_info.specs.declared.notes.Notes.{Notes}
 use Rattle.ga_explorer.specs.Opening.{Exploring}
 use Rattle.ga_explorer.specs.inner.{exploring}
 use Rattle.ga_explorer.specs.Commands.{Explored}

@@ -10,7 +10,7 @@ use Rattle.ga_lab.specs.declared.fault.LabFault.{LabFault}
 use Rattle.ga_display.specs.declared.wording.Wording.TheVariants.{Brief}
 use Rattle.ga_console.specs.Replies.{reply, step_reply}
 use Rattle.ga_console.specs.declared.command.Command.TheVariants.{Step}
-use Rattle.ga_answers.specs.Saved.{saved_line}
+use Rattle.ga_explorer_text.specs.Saved.{saved_line}
 use Rattle.ga_explorer.specs.Leading.{Leads}
 
 -- a reply to such a line makes the step

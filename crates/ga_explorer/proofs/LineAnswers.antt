@@ -5,7 +5,7 @@ use Rattle.std.proofs.Common.{◌≡◌, ℕ, List, None, refl, ◌≢◌, ◌�
 use Rattle.ga_console.specs.Commands.{SpellsCommand}
 use Rattle.ga_console.specs.declared.command.Command.{Command}
 use Rattle.ga_console.specs.declared.command.Command.TheVariants.{Step, Back, Rewind, Node, Memory, Trace, Why, Count, Dump, Quit}
-use Rattle.ga_notes.specs.declared.notes.Notes.{Notes}
+use Rattle.ga_debug_info.specs.declared.notes.Notes.{Notes}
 use Rattle.ga_explorer.specs.Commands.{request_in, lone_request, lone_question, named_request, named_question, Explored}
 use Rattle.std.specs.Result.{IsErr}
 use Rattle.std.proofs.lemmas.List.{take_all}

@@ -6,22 +6,22 @@ use Rattle.ga_text.specs.Lines.{Text, Line}
 use Rattle.ga_text.specs.Parsing.{cut, node_in}
 use Rattle.ga_ports.specs.Steps.{◌>>=◌}
 use Rattle.ga_lab.specs.Machine.{State}
-use Rattle.ga_search.specs.Conditions.{conditions_asked}
-use Rattle.ga_search.specs.Backward.{newest_held, left_from, gone_from}
-use Rattle.ga_search.specs.Running.{running, after_events, AreMade, HasEnded}
-use Rattle.ga_search.specs.Schedules.{in_rounds}
-use Rattle.ga_search.specs.declared.schedule.Schedule.{Schedule}
-use Rattle.ga_search.specs.declared.condition.Condition.{Condition}
-use Rattle.ga_search.specs.declared.running.End.{End}
-use Rattle.ga_notes.specs.declared.notes.Notes.{Notes}
-use Rattle.ga_answers.specs.Texts.{run_text, back_text, link_words_text, chip_text}
-use Rattle.ga_answers.specs.Telling.{TellsEffects, TellsWho}
-use Rattle.ga_answers.specs.Saved.{saved_text}
-use Rattle.ga_answers.specs.Writing.{writes_text}
-use Rattle.ga_answers.specs.Around.{around_text}
-use Rattle.ga_answers.specs.Trees.{TellsWhence}
-use Rattle.ga_answers.specs.Because.{because_text}
-use Rattle.ga_answers.specs.Races.{TellsRaces}
+use Rattle.ga_scheduler.specs.Conditions.{conditions_asked}
+use Rattle.ga_scheduler.specs.Backward.{newest_held, left_from, gone_from}
+use Rattle.ga_scheduler.specs.Running.{running, after_events, AreMade, HasEnded}
+use Rattle.ga_scheduler.specs.Schedules.{in_rounds}
+use Rattle.ga_scheduler.specs.declared.schedule.Schedule.{Schedule}
+use Rattle.ga_scheduler.specs.declared.condition.Condition.{Condition}
+use Rattle.ga_scheduler.specs.declared.running.End.{End}
+use Rattle.ga_debug_info.specs.declared.notes.Notes.{Notes}
+use Rattle.ga_explorer_text.specs.Texts.{run_text, back_text, link_words_text, chip_text}
+use Rattle.ga_explorer_text.specs.Telling.{TellsEffects, TellsWho}
+use Rattle.ga_explorer_text.specs.Saved.{saved_text}
+use Rattle.ga_explorer_text.specs.Writing.{writes_text}
+use Rattle.ga_explorer_text.specs.Around.{around_text}
+use Rattle.ga_explorer_text.specs.Trees.{TellsWhence}
+use Rattle.ga_explorer_text.specs.Because.{because_text}
+use Rattle.ga_explorer_text.specs.Races.{TellsRaces}
 use Rattle.ga_explorer.specs.Reading.{step_meant, run_in, back_in, most_events, no_condition, node_and_step, two_nodes, node_and_cell, node_and_steps}
 use Rattle.ga_explorer.specs.Forms.{CommandForm, entry, place_from, form_rows_text, about_found}
 use Rattle.ga_explorer.specs.Opening.{Exploring}

@@ -2,7 +2,7 @@
 use Rattle.std.specs.Prelude.{Option, option_map, Vec, ◌≡◌, ℕ, ◌⊎◌, Bool, true, false, List, [], ◌++◌, length, take, codes, bytes_eq, Result, Ok, Err, Some, None}
 use Rattle.std.specs.Global.{Global}
 use Rattle.ga_lab.specs.Machine.{State, first}
-use Rattle.ga_notes.specs.declared.notes.Notes.{Notes}
+use Rattle.ga_debug_info.specs.declared.notes.Notes.{Notes}
 use Rattle.std.specs.List.{All}
 use Rattle.ga_node.specs.Record.{NodeState}
 use Rattle.ga_grid.specs.Chip.{records_of}
@@ -13,7 +13,7 @@ use Rattle.ga_source.specs.declared.program.Program.{Program}
 use Rattle.ga_source.specs.Programs.{IsAssembled, AreRead, AreAsked}
 use Rattle.ga_source.specs.Cells.{HasGroups}
 use Rattle.ga_source.specs.Made.{IsChipOfSource}
-use Rattle.ga_notes.specs.Notes.{AreOfSource}
+use Rattle.ga_debug_info.specs.Notes.{AreOfSource}
 use Rattle.ga_text.specs.Input.{Unread}
 use Rattle.ga_text.specs.Image.{EndsAtEnd, HasNoEnd}
 use Rattle.ga_console.specs.Run.{Opens as OpensImage, IsReadAlone, Faulty, Refuses, IsFault}

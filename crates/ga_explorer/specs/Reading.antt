@@ -11,12 +11,12 @@ use Rattle.ga_explorer.specs.declared.which.Which.{Which}
 use Rattle.ga_explorer.specs.declared.which.Which.TheVariants.{Number, Last}
 use Rattle.ga_ports.specs.Steps.{◌>>=◌}
 use Rattle.ga_text.specs.Digits.{byte_in}
-use Rattle.ga_search.specs.Schedules.{in_rounds, greedily, at_random}
-use Rattle.ga_search.specs.declared.schedule.Schedule.{Schedule}
-use Rattle.ga_search.specs.declared.condition.Condition.{Condition}
-use Rattle.ga_search.specs.declared.condition.Condition.TheVariants.{Never, Passes, PassesNumber, Steps, Stops, StopsAt, WaitsAt, Holds, ComesTo, Reaches, Writes as WritesTo}
-use Rattle.ga_notes.specs.declared.notes.Notes.{Notes}
-use Rattle.ga_notes.specs.Notes.{line_address, address_of}
+use Rattle.ga_scheduler.specs.Schedules.{in_rounds, greedily, at_random}
+use Rattle.ga_scheduler.specs.declared.schedule.Schedule.{Schedule}
+use Rattle.ga_scheduler.specs.declared.condition.Condition.{Condition}
+use Rattle.ga_scheduler.specs.declared.condition.Condition.TheVariants.{Never, Passes, PassesNumber, Steps, Stops, StopsAt, WaitsAt, Holds, ComesTo, Reaches, Writes as WritesTo}
+use Rattle.ga_debug_info.specs.declared.notes.Notes.{Notes}
+use Rattle.ga_debug_info.specs.Notes.{line_address, address_of}
 use Rattle.ga_explorer.specs.declared.commands.ExplorerCommand.{ExplorerCommand}
 use Rattle.ga_explorer.specs.declared.commands.ExplorerCommand.TheVariants.{Run, BackUntil}
 

@@ -1,7 +1,7 @@
 -- What only private contracts and proofs name.
 use Rattle.std.specs.Prelude.{Option, Some, None, ◌≡◌, ℕ, true, false, [], Result, Ok, Err}
 use Rattle.ga_lab.specs.Machine.{State}
-use Rattle.ga_notes.specs.declared.notes.Notes.{Notes}
+use Rattle.ga_debug_info.specs.declared.notes.Notes.{Notes}
 use Rattle.ga_explorer.specs.Opening.{Exploring, begins_as_image, is_read_as_image, OpensFront}
 use Rattle.ga_explorer.specs.Forms.{CommandForm}
 use Rattle.ga_explorer.specs.declared.forms.Row.{Row}

@@ -5,7 +5,7 @@ ghost use Rattle.ga_explorer.specs.Reading.{back_in, back_by, until_back};
 
 use crate::commands::ExplorerCommand;
 use crate::conditions_request::{conditions_of, until_of};
-use ga_notes::Notes;
+use ga_debug_info::Notes;
 use ga_text::{cut, node_in};
 
 /// What follows `back` and a space.

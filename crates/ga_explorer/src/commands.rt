@@ -10,14 +10,14 @@ use crate::conditions_request::{Conditions, no_condition};
 use crate::forms::{Row, place_of, say_command, say_help};
 use crate::run_request::{MOST_EVENTS, run_of};
 use crate::which::Which;
-use ga_answers::{
+use ga_debug_info::Notes;
+use ga_explorer_text::{
     glance, say_around, say_because, say_effects, say_races, say_saved, say_whence, say_who,
     say_words, say_writes,
 };
 use ga_grid::NodeId;
 use ga_lab::Lab;
-use ga_notes::Notes;
-use ga_search::Schedule;
+use ga_scheduler::Schedule;
 use ga_text::{Spoken, Writer, cut, node_in};
 use std::alloc::Global;
 use std::io::Write;

@@ -3,9 +3,9 @@
 ghost use Rattle.std.specs.Prelude.{◌≡◌};
 ghost use Rattle.ga_explorer.specs.Reading.{condition_in, lone_condition, named_condition, steps_condition, passes_in, passed_in, holds_in, node_and_place, writes_to_in, written_in, address_or_label, noted_in, cell_of_line, begun_in, label_in, equal_in, hex_word_in};
 
+use ga_debug_info::Notes;
 use ga_grid::NodeId;
-use ga_notes::Notes;
-use ga_search::Condition;
+use ga_scheduler::Condition;
 use ga_text::{byte_of, cut, node_in, number_in};
 use ga_word::Word18;
 

@@ -4,8 +4,8 @@ ghost use Rattle.std.specs.Prelude.{◌≡◌, ◌≤◌, length, drop, if◌the
 ghost use Rattle.ga_explorer.specs.Reading.{behind_or, or_cut, or_split, conditions_in, no_condition, until_in};
 
 use crate::condition_request::condition_of;
-use ga_notes::Notes;
-use ga_search::{Condition, MOST_CONDITIONS};
+use ga_debug_info::Notes;
+use ga_scheduler::{Condition, MOST_CONDITIONS};
 use ga_text::cut;
 
 /// As many conditions as a run watches at most. Those that are given come first, and in the places that are left stand those that hold

@@ -10,11 +10,11 @@ ghost use Rattle.ga_console.specs.Session.{Turns};
 use crate::commands::{ExplorerCommand, request_of, told};
 use crate::forms::say_no_command;
 use ga_console::{Command, Responder, Turn, answer_worded, command_of, obey_worded};
+use ga_debug_info::Notes;
 use ga_display::Wording;
 use ga_image::LINE_LIMIT;
 use ga_lab::Lab;
-use ga_notes::Notes;
-use ga_search::{conditions_asked, run_schedule};
+use ga_scheduler::{conditions_asked, run_schedule};
 use ga_text::{Spoken, WriteFailed, Writer};
 use std::alloc::Global;
 use std::io::Write;
@@ -138,10 +138,10 @@ fn explored<W: Write>(
         } => {
             let watched = conditions_asked(&until);
             let ran = run_schedule(lab, schedule, u64::from(most), watched);
-            writer.say_blocks(ga_answers::ran_text(&ran, watched.len()).as_slice())
+            writer.say_blocks(ga_explorer_text::ran_text(&ran, watched.len()).as_slice())
         }
         ExplorerCommand::BackUntil { only, until } => {
-            ga_answers::say_back(lab, conditions_asked(&until), only, writer)
+            ga_explorer_text::say_back(lab, conditions_asked(&until), only, writer)
         }
         ExplorerCommand::Tell(question) => told(alloc, lab, notes, question, writer),
     }

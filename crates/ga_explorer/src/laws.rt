@@ -3,7 +3,7 @@
 ghost use Rattle.std.specs.Prelude.{length};
 ghost use Rattle.ga_lab.specs.Calls.{IsReached};
 ghost use Rattle.ga_lab.specs.Machine.{State, first};
-ghost use Rattle.ga_answers.specs.Saved.{saved_lines};
+ghost use Rattle.ga_explorer_text.specs.Saved.{saved_lines};
 ghost use Rattle.ga_explorer.specs.Leading.{Leads};
 
 use ga_lab::laws::reached_forward;

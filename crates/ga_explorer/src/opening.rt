@@ -5,11 +5,11 @@ ghost use Rattle.ga_explorer.specs.inner.{IsUnopened};
 
 use crate::explorer::Explorer;
 use ga_console::open_image;
-use ga_image::ImageFault;
-use ga_lab::Lab;
-use ga_notes::{
+use ga_debug_info::{
     Notes, edited_image, edited_source, notes_of, tell_edited, tell_fault, tell_memory, tell_stores,
 };
+use ga_image::ImageFault;
+use ga_lab::Lab;
 use ga_source::assemble;
 use ga_text::write_all;
 use std::alloc::Global;

@@ -5,8 +5,8 @@ ghost use Rattle.ga_explorer.specs.Reading.{run_in, lone_order, named_order, see
 
 use crate::commands::ExplorerCommand;
 use crate::conditions_request::{conditions_of, no_condition, until_of};
-use ga_notes::Notes;
-use ga_search::Schedule;
+use ga_debug_info::Notes;
+use ga_scheduler::Schedule;
 use ga_text::{cut, number_in};
 
 /// How many events are made at most where no number is given.

@@ -2,7 +2,7 @@
 use Rattle.std.proofs.Common.{◌≡◌, ℕ, ◌+◌, ◌<◌, List, ◌++◌, length, get_or, drop, refl, subst}
 use Rattle.std.specs.Prelude.{flat_map}
 use Rattle.ga_check.specs.declared.tally.EndKind.{EndKind}
-use Rattle.ga_answers.proofs.Saying.{rest_lines}
+use Rattle.ga_explorer_text.proofs.Saying.{rest_lines}
 use Rattle.ga_orders.specs.OrderTexts.{end_kind_text}
 use Rattle.ga_orders.specs.EveryOrder.{IsTextOut}
 use Rattle.ga_orders.specs.declared.every_order.Verdict.{Verdict}

@@ -22,7 +22,7 @@ use Rattle.ga_console.specs.declared.run.Status.TheVariants.{ImageRefused, Strea
 use Rattle.ga_explorer.specs.Opening.{OpensExploring, IsFront, Unbegun, Exploring}
 use Rattle.ga_orders.specs.OrderTexts.{orders_text, no_order_text}
 use Rattle.ga_orders.specs.Settled.{begun_from}
-use Rattle.ga_answers.specs.Saved.{saved_text}
+use Rattle.ga_explorer_text.specs.Saved.{saved_text}
 use Rattle.ga_orders.specs.declared.every_order.Verdict.{Verdict}
 use Rattle.ga_orders.specs.declared.every_order.Verdict.TheVariants.{Alike, Several, SearchedAlike, SearchedSeveral, Open, Ended}
 

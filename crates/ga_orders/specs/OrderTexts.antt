@@ -6,7 +6,7 @@ use Rattle.ga_check.specs.declared.tally.Tally.{Tally}
 use Rattle.ga_check.specs.declared.tally.EndKind.{EndKind}
 use Rattle.ga_check.specs.declared.tally.Fate.{Fate}
 use Rattle.ga_check.specs.declared.tally.Fate.TheVariants.{Quiet, Reads, Writes, Polls, Stopped}
-use Rattle.ga_answers.specs.Waiting.{name_text, each_node}
+use Rattle.ga_explorer_text.specs.Waiting.{name_text, each_node}
 
 -- so many of a thing
 abbrev pub counted_text : ℕ → Text → Text

@@ -7,7 +7,7 @@ ghost use Rattle.ga_lab.specs.declared.fault.LabFault.TheVariants.{Memory};
 ghost use Rattle.ga_text.specs.Output.{IsSaidOrCut, IsSameStream, WritesText, ReadsAndWrites};
 ghost use Rattle.ga_display.specs.Texts.{refusal_text};
 ghost use Rattle.ga_orders.specs.Settled.{begun_from};
-ghost use Rattle.ga_answers.specs.Saved.{saved_text};
+ghost use Rattle.ga_explorer_text.specs.Saved.{saved_text};
 ghost use Rattle.ga_orders.specs.OrderTexts.{orders_text, no_order_text};
 ghost use Rattle.ga_orders.specs.EveryOrder.{TellsOrders, ChecksOrders, IsTextOut, has_stop, is_faultless, is_stop_fate, verdict_of, no_order_verdict, tally_text, tally_verdict, searched};
 ghost use Rattle.ga_orders.specs.inner.{TellsLooks};
@@ -16,13 +16,13 @@ ghost use Rattle.ga_console.specs.declared.run.Status.TheVariants.{ImageRefused}
 
 use crate::orders_text::{say_no_order, say_orders};
 use crate::settling::settle;
-use ga_answers::say_saved;
 use ga_check::looking::check_looks;
 use ga_check::orders::{Bounds, check_shared};
 use ga_check::tally::{EndKind, Fate, Stop, Tally};
 use ga_console::Status;
 use ga_display::refusal_text;
 use ga_explorer::begin;
+use ga_explorer_text::say_saved;
 use ga_lab::{Lab, LabFault};
 use ga_text::{Input, Spoken, Writer};
 use std::alloc::Global;

@@ -4,7 +4,7 @@ ghost use Rattle.std.specs.Prelude.{◌≡◌, ◌+◌, ◌≤◌, ◌++◌, len
 ghost use Rattle.arrayvec.specs.ArrayVec.{array_vec_len};
 ghost use Rattle.ga_text.specs.Output.{Says, SaysExactly};
 ghost use Rattle.ga_orders.specs.OrderTexts.{counted_text, alike_text, kinds_head, bound_text, orders_head, fate_at, stop_item, doing_item, stop_items, doing_items, doing_tail, unstopped_text, end_text, verb_text, end_kind_line, end_kind_text, orders_with, orders_text, no_order_text};
-ghost use Rattle.ga_answers.specs.Waiting.{name_text};
+ghost use Rattle.ga_explorer_text.specs.Waiting.{name_text};
 
 use arrayvec::ArrayVec;
 use ga_check::tally::{EndKind, Fate, Tally};

@@ -17,7 +17,7 @@ use Rattle.ga_node.specs.Record.{NodeRecord}
 use Rattle.ga_node.specs.Table.{refusal}
 use Rattle.ga_grid.specs.Chip.{record_at}
 use Rattle.ga_lab.specs.Machine.{State, chip_of, causes_of, stands}
-use Rattle.ga_search.specs.Idle.{MarksIdle}
+use Rattle.ga_scheduler.specs.Idle.{MarksIdle}
 use Rattle.ga_race_detector.specs.Races.{races_asked}
 use Rattle.ga_race_detector.specs.Readings.{IsTold, NoneMissed}
 use Rattle.ga_picture.specs.declared.view.View.{View}

@@ -22,7 +22,7 @@ use ga_event::Event;
 use ga_grid::{Chip, NODES, NodeId};
 use ga_lab::{Lab, LabFault, Made};
 use ga_race_detector::{Races, find_races};
-use ga_search::find_idle;
+use ga_scheduler::find_idle;
 use std::alloc::Global;
 
 /// A step: its node and its number, counted from 1.

@@ -1,13 +1,13 @@
 //! What a client of the Debug Adapter Protocol is shown, byte for byte, with the names that its schema has.
 
 use crate::common::{CALLS, begun, lab_of, same};
-use ga_adapter::{
+use ga_dap_queries::{asked_variable, evaluate, exception_info};
+use ga_dap_views::{
     Scope, SourceFile, Spot, cell_of_chip, chip_address, disassembled, frame_of, node_of_frame,
     node_of_thread, open_calls, reference_of, referred, scopes, spot_behind, stack_trace,
     thread_of, threads, variables,
 };
 use ga_grid::NodeId;
-use ga_responses::{asked_variable, evaluate, exception_info};
 use serde_json::Value;
 use std::alloc::{AllocError, Global};
 use std::process::Abort;

@@ -2,10 +2,10 @@
 //!
 //! An assertion in a function of its own is proved once, and costs the tests that call it little.
 
+use ga_debug_info::{Notes, notes_of};
 use ga_grid::NodeId;
 use ga_image::parse;
 use ga_lab::Lab;
-use ga_notes::{Notes, notes_of};
 use ga_source::assemble;
 use std::alloc::Global;
 use std::fmt::{Debug, Display};

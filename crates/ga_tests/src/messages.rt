@@ -1,7 +1,7 @@
 //! Requests, read from content parts, and messages that are written, byte for byte.
 
 use crate::common::{each_said, same};
-use ga_protocol::{
+use ga_dap_protocol::{
     ClientRequest, Inbox, Next, Outbox, RequestError, number_at, read_request, text_at,
 };
 use serde_json::{Value, json};

@@ -1,16 +1,16 @@
 //! The moves of an editor, over a program with calls and one that stores, and where the words of a line are.
 
 use crate::common::{CALLS, begun, each_same, same};
-use ga_adapter::{Spot, Variable};
-use ga_breakpoints::{
+use ga_dap_breakpoints::{
     Breakpoint, Comparison, Grain, Halt, Halts, HitCount, Stepping, ValueTest, Watched, Went,
     breakpoint_of_address, breakpoint_of_line, go_on, kept_hits, reverse_to, step_back,
     step_back_line, step_on,
 };
+use ga_dap_views::{Spot, Variable};
+use ga_debug_info::{Notes, SlotWord};
 use ga_grid::NodeId;
 use ga_lab::Lab;
-use ga_notes::{Notes, SlotWord};
-use ga_search::Schedule;
+use ga_scheduler::Schedule;
 use std::process::Abort;
 use std::test::Fail;
 

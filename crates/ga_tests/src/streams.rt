@@ -2,7 +2,7 @@
 //! not. Streams of the program that fail are in `.ci/failing` at the top.
 
 use crate::common::{each_said, each_same, same};
-use ga_protocol::{Broken, CONTENT_LIMIT, Front, Inbox, Next, front_of, push_frame};
+use ga_dap_protocol::{Broken, CONTENT_LIMIT, Front, Inbox, Next, front_of, push_frame};
 use ga_text::write_all;
 use std::alloc::{AllocError, Global};
 use std::io;

@@ -1,7 +1,7 @@
 -- How a call ends that answers: with messages that were sent, or memory was refused to it.
 use Rattle.std.specs.Prelude.{Result, Ok, Err}
-use Rattle.ga_protocol.specs.Sent.{SentMessages}
-use Rattle.ga_responses.specs.Sending.{Messages, SendsAll}
+use Rattle.ga_dap_protocol.specs.Sent.{SentMessages}
+use Rattle.ga_dap_queries.specs.Sending.{Messages, SendsAll}
 use Rattle.ga_dap.specs.declared.unanswered.Unanswered.{Unanswered}
 use Rattle.ga_dap.specs.declared.unanswered.Unanswered.TheVariants.{Memory, Untold}
 

@@ -1,13 +1,13 @@
 -- The result of a turn of a session: it continues, or ends.
 use Rattle.std.specs.Prelude.{◌≡◌, ◌⊎◌, ℕ, [], ◌++◌, Some}
 use Rattle.ga_text.specs.Lines.{Bytes}
-use Rattle.ga_protocol.specs.Framing.{IsMessage}
-use Rattle.ga_protocol.specs.Inbox.{IsBroken}
-use Rattle.ga_protocol.specs.Sent.{SentMessages}
-use Rattle.ga_protocol.specs.declared.request.ClientRequest.{ClientRequest}
-use Rattle.ga_protocol.specs.declared.request.RequestError.{RequestError}
-use Rattle.ga_responses.specs.Sending.{Messages, SendsAll}
-use Rattle.ga_requests.specs.declared.launched.Launched.{Launched}
+use Rattle.ga_dap_protocol.specs.Framing.{IsMessage}
+use Rattle.ga_dap_protocol.specs.Inbox.{IsBroken}
+use Rattle.ga_dap_protocol.specs.Sent.{SentMessages}
+use Rattle.ga_dap_protocol.specs.declared.request.ClientRequest.{ClientRequest}
+use Rattle.ga_dap_protocol.specs.declared.request.RequestError.{RequestError}
+use Rattle.ga_dap_queries.specs.Sending.{Messages, SendsAll}
+use Rattle.ga_dap_control.specs.declared.launched.Launched.{Launched}
 use Rattle.ga_dap.specs.declared.session.Session.{Session}
 use Rattle.ga_dap.specs.declared.serving.SessionEnd.{SessionEnd}
 use Rattle.ga_dap.specs.declared.serving.SessionEnd.TheVariants as end

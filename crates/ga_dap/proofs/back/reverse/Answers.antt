@@ -2,8 +2,8 @@ use Rattle.std.proofs.Common.{◌∙◌, List, Some, None, refl, ap, subst}
 use Rattle.ga_causal.specs.Dependence.{is_marked}
 use Rattle.ga_text.specs.Lines.{Text}
 use Rattle.ga_grid.specs.declared.node_id.NodeId.{NodeId}
-use Rattle.ga_breakpoints.specs.declared.breakpoint.Breakpoint.{Breakpoint}
-use Rattle.ga_requests.specs.Back.{gone_words, reversed_by}
+use Rattle.ga_dap_breakpoints.specs.declared.breakpoint.Breakpoint.{Breakpoint}
+use Rattle.ga_dap_control.specs.Back.{gone_words, reversed_by}
 use Rattle.ga_dap.specs.Telling.{BackTold}
 use Rattle.ga_dap.proofs.Known.{carries_so, shown_so}
 use Rattle.ga_dap.proofs.back.reverse.Goals as goal

@@ -1,7 +1,7 @@
 use Rattle.std.proofs.Common.{Some, None, codes, refl, subst}
 use Rattle.ga_causal.specs.Dependence.{is_marked}
 use Rattle.ga_grid.specs.declared.node_id.NodeId.{NodeId}
-use Rattle.ga_requests.specs.Back.{gone_words}
+use Rattle.ga_dap_control.specs.Back.{gone_words}
 use Rattle.ga_dap.specs.Telling.{BackTold}
 use Rattle.ga_dap.proofs.Known.{carries_so, shown_so}
 use Rattle.ga_dap.proofs.back.step_back.Goals as goal

@@ -1,7 +1,7 @@
 use Rattle.std.proofs.Common.{◌∷◌, codes, refl}
-use Rattle.ga_responses.specs.Sending.{acknowledged}
-use Rattle.ga_requests.specs.Back.{gone_words}
-use Rattle.ga_responses.proofs.Sent.{ok_then}
+use Rattle.ga_dap_queries.specs.Sending.{acknowledged}
+use Rattle.ga_dap_control.specs.Back.{gone_words}
+use Rattle.ga_dap_queries.proofs.Sent.{ok_then}
 use Rattle.ga_dap.specs.Launches.{output_told}
 use Rattle.ga_dap.proofs.Known.{sent_then}
 use Rattle.ga_dap.proofs.changes.tell_back.Goals as goal

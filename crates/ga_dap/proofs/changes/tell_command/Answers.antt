@@ -1,7 +1,7 @@
 use Rattle.std.proofs.Common.{◌∷◌, ap}
 use Rattle.serde_json.specs.View.{view}
-use Rattle.ga_responses.specs.Sending.{answered}
-use Rattle.ga_responses.proofs.Sent.{ok_then}
+use Rattle.ga_dap_queries.specs.Sending.{answered}
+use Rattle.ga_dap_queries.proofs.Sent.{ok_then}
 use Rattle.ga_dap.proofs.Known.{sent_then}
 use Rattle.ga_dap.proofs.changes.tell_command.Goals as goal
 

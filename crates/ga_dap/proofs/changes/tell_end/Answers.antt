@@ -1,6 +1,6 @@
 use Rattle.std.proofs.Common.{[], ◌∷◌, Option, refl, subst, sym}
-use Rattle.ga_requests.specs.declared.execution.StopReason.{StopReason}
-use Rattle.ga_responses.proofs.Sent.{ok_then, sent_one}
+use Rattle.ga_dap_control.specs.declared.execution.StopReason.{StopReason}
+use Rattle.ga_dap_queries.proofs.Sent.{ok_then, sent_one}
 use Rattle.ga_dap.specs.Telling.{StopTold}
 use Rattle.ga_dap.proofs.changes.tell_end.Goals as goal
 

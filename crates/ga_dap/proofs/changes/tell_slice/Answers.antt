@@ -1,5 +1,5 @@
 use Rattle.std.proofs.Common.{◌++◌, refl}
-use Rattle.ga_responses.proofs.Sent.{ok_then, sent_both}
+use Rattle.ga_dap_queries.proofs.Sent.{ok_then, sent_both}
 use Rattle.ga_dap.proofs.changes.tell_slice.Goals as goal
 
 pub returns : goal.returns

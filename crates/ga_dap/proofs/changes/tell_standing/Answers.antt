@@ -1,6 +1,6 @@
 use Rattle.std.proofs.Common.{[], ◌∷◌, ◌++◌, refl}
-use Rattle.ga_requests.specs.Stopping.{stopped}
-use Rattle.ga_responses.proofs.Sent.{ok_then, sent_next}
+use Rattle.ga_dap_control.specs.Stopping.{stopped}
+use Rattle.ga_dap_queries.proofs.Sent.{ok_then, sent_next}
 use Rattle.ga_dap.proofs.changes.tell_standing.Goals as goal
 
 pub returns : goal.returns

@@ -1,8 +1,8 @@
 use Rattle.std.proofs.Common.{[], ◌∷◌, ap}
 use Rattle.serde_json.specs.Data.{Data}
 use Rattle.serde_json.specs.View.{view}
-use Rattle.ga_responses.specs.Sending.{answered}
-use Rattle.ga_responses.proofs.Sent.{sent_one}
+use Rattle.ga_dap_queries.specs.Sending.{answered}
+use Rattle.ga_dap_queries.proofs.Sent.{sent_one}
 use Rattle.ga_dap.proofs.console.show_value.Goals as goal
 
 pub returns-in-Ok-respond : goal.returns-in-Ok-respond

@@ -5,7 +5,7 @@ use Rattle.ga_text.specs.Output.{IsSaid}
 use Rattle.ga_console.proofs.AheadLemmas.{quit_part}
 use Rattle.ga_explorer.specs.Answers.{Explores}
 use Rattle.ga_explorer.specs.Opening.{Exploring}
-use Rattle.ga_responses.specs.declared.debuggee.Debuggee.{Debuggee}
+use Rattle.ga_dap_queries.specs.declared.debuggee.Debuggee.{Debuggee}
 use Rattle.ga_dap.specs.Opening.{parts_explored}
 use Rattle.ga_dap.proofs.Unmoved.{unmoved}
 use Rattle.ga_dap.proofs.evaluating.command_text.Goals as goal

@@ -1,8 +1,8 @@
 use Rattle.std.proofs.Common.{Option, Some, codes, subst}
 use Rattle.std.specs.Prelude.{IfOk}
-use Rattle.ga_search.specs.declared.schedule.Schedule.{Schedule}
-use Rattle.ga_responses.specs.Sending.{Messages, SendsAll}
-use Rattle.ga_requests.specs.declared.launched.Launched.{Launched}
+use Rattle.ga_scheduler.specs.declared.schedule.Schedule.{Schedule}
+use Rattle.ga_dap_queries.specs.Sending.{Messages, SendsAll}
+use Rattle.ga_dap_control.specs.declared.launched.Launched.{Launched}
 use Rattle.ga_dap.specs.Launches.{LaunchesAsked}
 use Rattle.ga_dap.proofs.Launched.{not_launched}
 use Rattle.ga_dap.proofs.launching.launched_limit.Goals as goal

@@ -1,9 +1,9 @@
 use Rattle.std.proofs.Common.{ℕ, Option, Some, codes, subst}
 use Rattle.std.specs.Prelude.{IfOk}
 use Rattle.serde_json.specs.View.{view}
-use Rattle.ga_responses.specs.Launching.{schedule_asked}
-use Rattle.ga_responses.specs.Sending.{Messages, SendsAll}
-use Rattle.ga_requests.specs.declared.launched.Launched.{Launched}
+use Rattle.ga_dap_queries.specs.Launching.{schedule_asked}
+use Rattle.ga_dap_queries.specs.Sending.{Messages, SendsAll}
+use Rattle.ga_dap_control.specs.declared.launched.Launched.{Launched}
 use Rattle.ga_dap.specs.Launches.{LaunchesAsked}
 use Rattle.ga_dap.proofs.Launched.{not_launched}
 use Rattle.ga_dap.proofs.launching.launched_path.Goals as goal

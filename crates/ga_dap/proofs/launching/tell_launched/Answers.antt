@@ -1,6 +1,6 @@
 use Rattle.std.proofs.Common.{◌∷◌, codes}
-use Rattle.ga_responses.specs.Sending.{acknowledged}
-use Rattle.ga_responses.proofs.Sent.{ok_then, sent_next}
+use Rattle.ga_dap_queries.specs.Sending.{acknowledged}
+use Rattle.ga_dap_queries.proofs.Sent.{ok_then, sent_next}
 use Rattle.ga_dap.specs.Launches.{event_alone}
 use Rattle.ga_dap.proofs.Known.{sent_then}
 use Rattle.ga_dap.proofs.launching.tell_launched.Goals as goal

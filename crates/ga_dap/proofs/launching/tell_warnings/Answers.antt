@@ -1,5 +1,5 @@
 use Rattle.std.proofs.Common.{[], ◌∷◌, codes, inr, refl}
-use Rattle.ga_responses.proofs.Sent.{ok_then, sent_one}
+use Rattle.ga_dap_queries.proofs.Sent.{ok_then, sent_one}
 use Rattle.ga_dap.specs.Launches.{output_told}
 use Rattle.ga_dap.proofs.launching.tell_warnings.Goals as goal
 

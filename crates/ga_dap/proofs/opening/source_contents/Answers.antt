@@ -1,6 +1,6 @@
 use Rattle.std.proofs.Common.{List, refl, subst}
 use Rattle.ga_source.specs.declared.program.Program.{Program}
-use Rattle.ga_notes.specs.Notes.{AreOfSource}
+use Rattle.ga_debug_info.specs.Notes.{AreOfSource}
 use Rattle.ga_dap.proofs.opening.source_contents.Goals as goal
 
 pub returns-in_ok-lab-in-Ok-clause-ok : goal.returns-in_ok-lab-in-Ok-clause-ok

@@ -1,6 +1,6 @@
 use Rattle.std.proofs.Common.{◌∙◌, ℕ, suc, List, [], ◌++◌, Some, refl, sym, ap, subst, inl}
 use Rattle.std.proofs.lemmas.List.{append-nil}
-use Rattle.ga_protocol.specs.Sent.{SentMessages}
+use Rattle.ga_dap_protocol.specs.Sent.{SentMessages}
 use Rattle.ga_dap.specs.Client.{ServesFor, serving_from}
 use Rattle.ga_dap.specs.inner.Turning.{serving_at}
 use Rattle.ga_dap.proofs.Serves.{begins_so, serves_on, ends_so, pends, all_sent, written_all}

@@ -1,7 +1,7 @@
 use Rattle.std.proofs.Common.{refl, subst, sym, ap}
-use Rattle.ga_responses.specs.declared.debuggee.Debuggee.{Debuggee}
-use Rattle.ga_responses.specs.declared.request_name.RequestName.{RequestName}
-use Rattle.ga_requests.specs.declared.launched.Launched.{Launched}
+use Rattle.ga_dap_queries.specs.declared.debuggee.Debuggee.{Debuggee}
+use Rattle.ga_dap_queries.specs.declared.request_name.RequestName.{RequestName}
+use Rattle.ga_dap_control.specs.declared.launched.Launched.{Launched}
 use Rattle.ga_dap.specs.Answering.{DoesStanding}
 use Rattle.ga_dap.proofs.Known.{of_place, carries_so}
 use Rattle.ga_dap.proofs.session.answer_standing.Goals as goal

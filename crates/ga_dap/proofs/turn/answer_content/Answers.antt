@@ -1,4 +1,4 @@
-use Rattle.ga_protocol.specs.declared.request.RequestError.TheVariants as fault
+use Rattle.ga_dap_protocol.specs.declared.request.RequestError.TheVariants as fault
 use Rattle.ga_dap.proofs.Turned.{content_so, declined_so}
 use Rattle.ga_dap.proofs.turn.answer_content.Goals as goal
 

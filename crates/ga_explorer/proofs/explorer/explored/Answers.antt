@@ -1,10 +1,10 @@
 use Rattle.std.proofs.Common.{rules, ◌∙◌, length, refl, sym, ap, subst}
-use Rattle.ga_answers.specs.Texts.{run_text}
+use Rattle.ga_explorer_text.specs.Texts.{run_text}
 use Rattle.ga_explorer.specs.Commands.{Tells}
 use Rattle.ga_explorer.specs.inner.{exploring}
 use Rattle.ga_explorer.specs.declared.commands.ExplorerCommand.TheVariants as command
 use Rattle.ga_explorer.proofs.Done.{answered, run_done, back_done}
-use Rattle.ga_answers.proofs.Saying.{told_as}
+use Rattle.ga_explorer_text.proofs.Saying.{told_as}
 use Rattle.ga_explorer.proofs.explorer.explored.Goals as goal
 
 pub returns-in-Run : goal.returns-in-Run

@@ -2,7 +2,7 @@ use Rattle.std.proofs.Common.{rules, ◌++◌, refl}
 use Rattle.ga_text.proofs.SaidLemmas.{cut_here, cut_within}
 use Rattle.ga_explorer.specs.Forms.{form_row_text, about_text}
 use Rattle.ga_explorer.specs.inner.{entry_of}
-use Rattle.ga_answers.proofs.Saying.{joined_said}
+use Rattle.ga_explorer_text.proofs.Saying.{joined_said}
 use Rattle.ga_explorer.proofs.forms.say_about.Goals as goal
 
 pub returns-in_err-say_row : goal.returns-in_err-say_row

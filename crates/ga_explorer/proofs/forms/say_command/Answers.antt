@@ -5,7 +5,7 @@ use Rattle.ga_text.proofs.SaidLemmas.{said_as, said_pending}
 use Rattle.ga_explorer.specs.Forms.{CommandForm, about_text, about_found}
 use Rattle.ga_explorer.specs.Commands.{rows, command_text}
 use Rattle.ga_explorer.specs.inner.{entry_of}
-use Rattle.ga_answers.proofs.Saying.{told_as}
+use Rattle.ga_explorer_text.proofs.Saying.{told_as}
 use Rattle.ga_explorer.proofs.forms.say_command.Goals as goal
 
 pub returns-in-Some : goal.returns-in-Some

@@ -2,7 +2,7 @@ use Rattle.std.proofs.Common.{rules, ℕ, List, ◌++◌, ap}
 use Rattle.std.specs.Prelude.{codes}
 use Rattle.ga_text.proofs.SaidLemmas.{cut_here, cut_within}
 use Rattle.ga_explorer.specs.NoCommand.{cure}
-use Rattle.ga_answers.proofs.Saying.{told_as, joined_said}
+use Rattle.ga_explorer_text.proofs.Saying.{told_as, joined_said}
 use Rattle.ga_explorer.proofs.forms.say_cure.Goals as goal
 
 pub returns-in_err-say_blocks : goal.returns-in_err-say_blocks

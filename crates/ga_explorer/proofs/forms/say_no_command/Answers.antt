@@ -2,7 +2,7 @@ use Rattle.std.proofs.Common.{rules, ◌++◌, refl}
 use Rattle.std.specs.Prelude.{codes}
 use Rattle.ga_text.proofs.SaidLemmas.{cut_here, cut_within}
 use Rattle.ga_explorer.specs.NoCommand.{cure, no_command}
-use Rattle.ga_answers.proofs.Saying.{joined_said}
+use Rattle.ga_explorer_text.proofs.Saying.{joined_said}
 use Rattle.ga_explorer.proofs.forms.say_no_command.Goals as goal
 
 pub returns-in_err-say : goal.returns-in_err-say

@@ -4,7 +4,7 @@ use Rattle.ga_text.proofs.SaidLemmas.{cut_here, said_pending}
 use Rattle.ga_explorer.specs.Forms.{form_rows_text}
 use Rattle.ga_explorer.specs.inner.{entry_of}
 use Rattle.ga_explorer.proofs.Finding.{next_row, no_row}
-use Rattle.ga_answers.proofs.Saying.{line_said, line_cut, all_said}
+use Rattle.ga_explorer_text.proofs.Saying.{line_said, line_cut, all_said}
 use Rattle.ga_explorer.proofs.forms.say_rows.Goals as goal
 
 pub rows-init : goal.rows-init

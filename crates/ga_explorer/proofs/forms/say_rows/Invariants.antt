@@ -3,7 +3,7 @@ use Rattle.std.specs.Prelude.{map}
 use Rattle.ga_text.specs.Output.{IsSaid}
 use Rattle.ga_explorer.specs.Forms.{form_rows_text}
 use Rattle.ga_explorer.specs.inner.{entry_of}
-use Rattle.ga_answers.proofs.Saying.{IsSaidUpTo}
+use Rattle.ga_explorer_text.proofs.Saying.{IsSaidUpTo}
 use Rattle.ga_explorer.proofs.forms.say_rows.Given as goal
 
 abbrev pub invariant-rows : goal.invariant-rows

@@ -1,6 +1,6 @@
 use Rattle.std.proofs.Common.{subst}
 use Rattle.ga_lab.specs.Machine.{first}
-use Rattle.ga_answers.specs.Saved.{saved_lines}
+use Rattle.ga_explorer_text.specs.Saved.{saved_lines}
 use Rattle.ga_explorer.specs.Leading.{Leads}
 use Rattle.ga_explorer.proofs.Leading.{lines_lead}
 use Rattle.ga_explorer.proofs.laws.saved_again.Goals as goal

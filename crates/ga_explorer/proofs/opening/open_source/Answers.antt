@@ -1,6 +1,6 @@
 use Rattle.std.proofs.Common.{◌∙◌, List, ap, subst}
 use Rattle.ga_source.specs.declared.program.Program.{Program}
-use Rattle.ga_notes.specs.Notes.{AreOfSource}
+use Rattle.ga_debug_info.specs.Notes.{AreOfSource}
 use Rattle.ga_explorer.specs.Opening.{Exploring}
 use Rattle.ga_explorer.proofs.opening.open_source.Goals as goal
 

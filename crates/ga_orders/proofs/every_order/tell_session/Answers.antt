@@ -1,6 +1,6 @@
 use Rattle.std.proofs.Common.{rules, ap, ◌∙◌, [], refl}
 use Rattle.ga_console.proofs.RunLemmas.{said_fresh}
-use Rattle.ga_answers.specs.Saved.{saved_text}
+use Rattle.ga_explorer_text.specs.Saved.{saved_text}
 use Rattle.ga_orders.specs.declared.every_order.Verdict.TheVariants.{Alike}
 use Rattle.ga_orders.proofs.OrdersOut.{out_as}
 use Rattle.ga_orders.proofs.every_order.tell_session.Goals as goal

@@ -1,7 +1,7 @@
 use Rattle.std.proofs.Common.{◌-◌, ◌++◌, ◌∙◌, ap, arith}
 use Rattle.ga_check.specs.declared.tally.Fate.{Fate}
 use Rattle.ga_orders.specs.OrderTexts.{fate_at, doing_item}
-use Rattle.ga_answers.proofs.Saying.{next_added, all_added}
+use Rattle.ga_explorer_text.proofs.Saying.{next_added, all_added}
 use Rattle.ga_orders.proofs.orders_text.doing_among.Goals as goal
 
 pub nodes-preserved : goal.nodes-preserved

@@ -1,6 +1,6 @@
 use Rattle.std.proofs.Common.{rules, ◌∙◌}
 use Rattle.ga_orders.specs.OrderTexts.{end_kind_text}
-use Rattle.ga_answers.proofs.Saying.{told_as}
+use Rattle.ga_explorer_text.proofs.Saying.{told_as}
 use Rattle.ga_orders.proofs.orders_text.say_kind.Goals as goal
 
 pub returns : goal.returns

@@ -2,7 +2,7 @@ use Rattle.std.proofs.Common.{rules, ℕ, List, ◌++◌, refl, ap, ◌∙◌, a
 use Rattle.std.specs.Prelude.{flat_map}
 use Rattle.ga_text.proofs.SaidLemmas.{cut_here, cut_within}
 use Rattle.ga_orders.specs.OrderTexts.{end_kind_text, orders_with}
-use Rattle.ga_answers.proofs.Saying.{line_said, line_cut, all_said, no_lines}
+use Rattle.ga_explorer_text.proofs.Saying.{line_said, line_cut, all_said, no_lines}
 use Rattle.ga_orders.proofs.OrdersOut.{next_kind}
 use Rattle.ga_orders.proofs.orders_text.say_kinds.Goals as goal
 

@@ -2,7 +2,7 @@ use Rattle.std.proofs.Common.{◌≡◌, ℕ, List, drop}
 use Rattle.std.specs.Prelude.{flat_map}
 use Rattle.ga_text.specs.Output.{IsSaid}
 use Rattle.ga_orders.specs.OrderTexts.{end_kind_text, orders_with}
-use Rattle.ga_answers.proofs.Saying.{IsSaidUpTo}
+use Rattle.ga_explorer_text.proofs.Saying.{IsSaidUpTo}
 use Rattle.ga_orders.proofs.orders_text.say_kinds.Given as goal
 
 abbrev pub invariant-kinds : goal.invariant-kinds

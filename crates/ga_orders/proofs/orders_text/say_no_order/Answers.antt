@@ -1,5 +1,5 @@
 use Rattle.std.proofs.Common.{rules, ℕ, List, refl, ◌∙◌}
-use Rattle.ga_answers.proofs.Saying.{told_as}
+use Rattle.ga_explorer_text.proofs.Saying.{told_as}
 use Rattle.ga_orders.specs.OrderTexts.{no_order_text}
 use Rattle.ga_orders.proofs.orders_text.say_no_order.Goals as goal
 

@@ -1,6 +1,6 @@
 use Rattle.std.proofs.Common.{◌≡◌, ◌*◌, ◌-◌, ◌≤◌, ◌++◌}
 use Rattle.arrayvec.specs.ArrayVec.{array_vec_len}
-use Rattle.ga_answers.specs.Waiting.{each_node}
+use Rattle.ga_explorer_text.specs.Waiting.{each_node}
 use Rattle.ga_orders.specs.OrderTexts.{fate_at, stop_item, stop_items}
 use Rattle.ga_orders.proofs.orders_text.stops_among.Given as goal
 

@@ -1,5 +1,5 @@
 use Rattle.std.proofs.Common.{refl, subst, sym}
-use Rattle.ga_responses.specs.declared.request_name.RequestName.{RequestName}
+use Rattle.ga_dap_queries.specs.declared.request_name.RequestName.{RequestName}
 use Rattle.ga_dap.specs.Answering.{AnswersKnown}
 use Rattle.ga_dap.proofs.Known.{of_launched, carries_so}
 use Rattle.ga_dap.proofs.session.Session.answer_known.Goals as goal

@@ -1,5 +1,5 @@
 use Rattle.std.proofs.Common.{◌∙◌, Option, Some, refl, subst, sym, ap}
-use Rattle.ga_requests.specs.declared.launched.Launched.{Launched}
+use Rattle.ga_dap_control.specs.declared.launched.Launched.{Launched}
 use Rattle.ga_dap.specs.declared.session.Session.{Session}
 use Rattle.ga_dap.specs.Answering.{DoesIfLaunched}
 use Rattle.ga_dap.proofs.Known.{carries_so}

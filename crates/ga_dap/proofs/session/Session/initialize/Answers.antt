@@ -1,5 +1,5 @@
 use Rattle.std.proofs.Common.{[], ◌∷◌, refl}
-use Rattle.ga_responses.proofs.Sent.{sent_one}
+use Rattle.ga_dap_queries.proofs.Sent.{sent_one}
 use Rattle.ga_dap.proofs.session.Session.initialize.Goals as goal
 
 pub returns-in-Ok : goal.returns-in-Ok

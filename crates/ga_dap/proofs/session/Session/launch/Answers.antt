@@ -1,5 +1,5 @@
 use Rattle.std.proofs.Common.{Option, refl, subst, sym}
-use Rattle.ga_requests.specs.declared.launched.Launched.{Launched}
+use Rattle.ga_dap_control.specs.declared.launched.Launched.{Launched}
 use Rattle.ga_dap.specs.Launches.{Launches}
 use Rattle.ga_dap.proofs.Known.{carries_so}
 use Rattle.ga_dap.proofs.session.Session.launch.Goals as goal

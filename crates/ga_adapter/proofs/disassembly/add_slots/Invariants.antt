@@ -1,6 +1,0 @@
-use Rattle.std.proofs.Common.{◌≡◌, ◌-◌, ◌++◌, string_bytes}
-use Rattle.ga_adapter.specs.Disassembly.{slots_words}
-use Rattle.ga_adapter.proofs.disassembly.add_slots.Given as goal
-
-abbrev pub invariant-slots : goal.invariant-slots
-invariant-slots l = string_bytes l.initial.text ++ slots_words l.notes l.node l.p l.word 0 4 ≡ string_bytes l.text ++ slots_words l.notes l.node l.p l.word l.slot (4 - l.slot)

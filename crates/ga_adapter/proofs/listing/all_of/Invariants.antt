@@ -1,7 +1,0 @@
-use Rattle.std.proofs.Common.{◌≡◌, map, take}
-use Rattle.serde_json.specs.View.{view}
-use Rattle.ga_adapter.specs.Variables.{scope_of, all_scopes}
-use Rattle.ga_adapter.proofs.listing.all_of.Given as goal
-
-abbrev pub invariant-scopes : goal.invariant-scopes
-invariant-scopes l = map view l.list.items ≡ map (scope_of l.node.number) (take l.place all_scopes)

@@ -1,7 +1,0 @@
-use Rattle.std.proofs.Common.{◌≡◌, map}
-use Rattle.serde_json.specs.View.{view}
-use Rattle.ga_adapter.specs.Threads.{thread_in, with_threads}
-use Rattle.ga_adapter.proofs.thread.shown.Given as goal
-
-abbrev pub invariant-nodes : goal.invariant-nodes
-invariant-nodes l = map view l.list.items ≡ map (thread_in l.lab) (with_threads l.lab l.programs l.number)

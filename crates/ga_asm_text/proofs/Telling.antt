@@ -1,0 +1,310 @@
+-- Texts that say words, line by line.
+use Rattle.std.specs.Prelude.{◌-◌, ◌==◌, not, codes, bytes_eq, filter, slice_index, take, drop, if◌then◌else◌, suc, slice_index_or, ◌≢◌, Some}
+use Rattle.std.proofs.Common.{◌≡◌, ◌∙◌, ℕ, ◌+◌, ◌/◌, ◌%◌, ◌<◌, ◌≤◌, Bool, true, false, ◌&&◌, List, [], ◌∷◌, ◌++◌, length, map, refl, arith, ap, sym, inl, inr, append_assoc, length-append, subst}
+use Rattle.std.specs.List.{list_all, All, AllByRecursion}
+use Rattle.std.proofs.lemmas.List.{map-append, append-nil}
+use Rattle.std.proofs.lemmas.List.Folds.{list_all-append}
+use Rattle.std.proofs.lemmas.Slice.Eq.{bytes_eq-Decides}
+use Rattle.std.proofs.lemmas.Bool.{cases_Bool, and_parts, and_from, cond-false, ltb-true, lt-ltb, ne_eqb, false≢true}
+use Rattle.ga_text.specs.Lines.{Text, Bytes, Line, HasNoFeed, ended, text_of, ends_line, with_byte}
+use Rattle.ga_text.specs.Digits.{decimal3_of}
+use Rattle.ga_parser.specs.Saying.{parted, is_feed, is_blank, source_lines, has_bytes, source_words, order_mark, without_return, bare, Said, a_word, is_word, spoken, said_by, next_line, said_from, said_in, up_to_fault}
+use Rattle.ga_asm_text.specs.inner.{Word, Says, IsOrdinary, IsUnmarked, is_inner, is_shown}
+use Rattle.ga_asm_text.proofs.SourceWords.{not_true}
+use Rattle.ga_parser.proofs.Scanning.{short_line}
+use Rattle.std.proofs.lemmas.List.Elements.{All-head, All-tail}
+use Rattle.ga_node.specs.Record.{NodeState}
+use Rattle.ga_grid.specs.Chip.{node_at}
+use Rattle.ga_grid.specs.Grid.{default_chip}
+use Rattle.ga_parser.specs.Plain.{bodies_in, yxx_in}
+use Rattle.ga_source.specs.Made.{HasPlain, IsChipOfSource}
+use Rattle.ga_text.specs.Image.{IsBodyLine, EndsAtEnd, end_line}
+use Rattle.ga_text.specs.Output.{IsReadWhole}
+
+-- ---- parts of texts
+
+-- what stands behind a part
+pub part_behind : (ends : ℕ → Bool) (part : List ℕ) (byte : ℕ) (rest : List ℕ) → list_all (λ b. not (ends b)) part ≡ true → ends byte ≡ true → parted ends (part ++ byte ∷ rest) ≡ part ∷ parted ends rest
+unfolding parted
+part_behind ends [] byte rest inner end = rw end refl
+part_behind ends (b ∷ part) byte rest inner end =
+    let parts = and_parts (not (ends b)) (list_all (λ b. not (ends b)) part) inner in
+    rw (not_true (ends b) parts.0) (ap (with_byte b) (part_behind ends part byte rest parts.1 end))
+
+-- the last part
+pub part_last : (ends : ℕ → Bool) (byte : ℕ) (part : List ℕ) → list_all (λ b. not (ends b)) (byte ∷ part) ≡ true → parted ends (byte ∷ part) ≡ (byte ∷ part) ∷ []
+unfolding parted
+part_last ends byte [] inner = rw (not_true (ends byte) (and_parts (not (ends byte)) true inner).0) refl
+part_last ends byte (b ∷ part) inner =
+    let parts = and_parts (not (ends byte)) (list_all (λ b. not (ends b)) (b ∷ part)) inner in
+    rw (not_true (ends byte) parts.0) (ap (with_byte byte) (part_last ends b part parts.1))
+
+-- ---- words of a line
+
+shown_no_blank : (b : ℕ) → is_shown b ≡ true → not (is_blank b) ≡ true
+shown_no_blank b shown =
+    let more : 32 < b = ltb-true 32 b shown in
+    let one : (b == 32) ≡ false = ne_eqb b 32 (λ e. omega arith) in
+    let two : (b == 9) ≡ false = ne_eqb b 9 (λ e. omega arith) in
+    rw (one, two) refl
+
+shown_inner : (b : ℕ) → is_shown b ≡ true → is_inner b ≡ true
+shown_inner b shown =
+    let more : 32 < b = ltb-true 32 b shown in
+    let one : (b == 10) ≡ false = ne_eqb b 10 (λ e. omega arith) in
+    let two : (b == 13) ≡ false = ne_eqb b 13 (λ e. omega arith) in
+    rw (one, two) refl
+
+-- a test that is weaker holds too
+weaker : (p q : ℕ → Bool) (list : List ℕ) → ((b : ℕ) → p b ≡ true → q b ≡ true) → list_all p list ≡ true → list_all q list ≡ true
+weaker p q [] less all = refl
+weaker p q (b ∷ list) less all =
+    let parts = and_parts (p b) (list_all p list) all in
+    and_from (q b) (list_all q list) (less b parts.0) (weaker p q list less parts.1)
+
+pub all_inner : (word : Word) → list_all is_shown word ≡ true → list_all is_inner word ≡ true
+all_inner word shown = weaker is_shown is_inner word shown_inner shown
+
+no_blank : (word : Word) → list_all is_shown word ≡ true → list_all (λ b. not (is_blank b)) word ≡ true
+no_blank word shown = weaker is_shown (λ b. not (is_blank b)) word shown_no_blank shown
+
+no_bytes : false ≡ true → ⊥
+no_bytes e = false≢true e
+
+-- a word with others behind it
+pub word_first : (line : ℕ) (word rest : List ℕ) → IsOrdinary word → spoken line false (source_words (word ++ 32 ∷ rest)) ≡ a_word line word ∷ spoken line false (source_words rest)
+unfolding spoken
+word_first line [] rest is = absurd (no_bytes is.bytes)
+word_first line (b ∷ word) rest is =
+    ap (λ (parts : List (List ℕ)). spoken line false (filter has_bytes parts)) (part_behind is_blank (b ∷ word) 32 rest (no_blank (b ∷ word) is.shown) refl)
+    ∙ (cond-false (bytes_eq (b ∷ word) (codes "\\")) [] _ is.no_remark
+    ∙ cond-false (bytes_eq (b ∷ word) (codes "(")) (spoken line true (source_words rest)) _ is.no_opening)
+
+-- the last word
+pub word_last : (line : ℕ) (word : List ℕ) → IsOrdinary word → spoken line false (source_words word) ≡ a_word line word ∷ []
+unfolding spoken
+word_last line [] is = absurd (no_bytes is.bytes)
+word_last line (b ∷ word) is =
+    ap (λ (parts : List (List ℕ)). spoken line false (filter has_bytes parts)) (part_last is_blank b word (no_blank (b ∷ word) is.shown))
+    ∙ (cond-false (bytes_eq (b ∷ word) (codes "\\")) [] _ is.no_remark
+    ∙ cond-false (bytes_eq (b ∷ word) (codes "(")) (spoken line true []) _ is.no_opening)
+
+-- a comment
+pub remark_last : (line : ℕ) (rest : List ℕ) → spoken line false (source_words (92 ∷ 32 ∷ rest)) ≡ []
+unfolding spoken parted
+remark_last line rest = refl
+
+-- ---- lines
+
+and_false : (b : Bool) → (b && false) ≡ false
+and_false true = refl
+and_false false = refl
+
+none_first : (words more : List Word) → words ++ more ≡ [] → words ≡ []
+none_first [] more none = refl
+none_first (word ∷ words) more none = cc
+
+none_second : (words more : List Word) → words ++ more ≡ [] → more ≡ []
+none_second [] more none = none
+none_second (word ∷ words) more none = cc
+
+none_both : (first second : Text) → first ≡ [] → second ≡ [] → first ++ second ≡ []
+none_both first second one two = rw (one, two) refl
+
+inner_no_feed : (b : ℕ) → is_inner b ≡ true → not (is_feed b) ≡ true
+inner_no_feed b inner = (and_parts (not (b == 10)) (not (b == 13)) inner).0
+
+inner_no_return : (b : ℕ) → is_inner b ≡ true → (b == 13) ≡ false
+inner_no_return b inner = not_true (b == 13) (and_parts (not (b == 10)) (not (b == 13)) inner).1
+
+none_and : (a b : Bool) → a ≡ false → (a && b) ≡ false
+none_and true b none = absurd (false≢true (sym none))
+none_and false b none = refl
+
+-- a text that doesn't begin as a mark does has none
+no_mark : (text : List ℕ) → IsUnmarked text → bytes_eq (take 3 text) order_mark ≡ false
+no_mark [] start = refl
+no_mark (b ∷ text) start = none_and (b == 0xef) (bytes_eq (take 2 text) (0xbb ∷ 0xbf ∷ [])) start
+
+-- the last byte is no carriage return
+last_byte : (b : ℕ) (text : List ℕ) → list_all is_inner (b ∷ text) ≡ true → (slice_index (b ∷ text) (length text) == 13) ≡ false
+last_byte b [] inner = inner_no_return b (and_parts (is_inner b) true inner).0
+last_byte b (c ∷ text) inner = last_byte c text (and_parts (is_inner b) (list_all is_inner (c ∷ text)) inner).1
+
+no_return : (text : List ℕ) → list_all is_inner text ≡ true → (slice_index text (length text - 1) == 13) ≡ false
+no_return [] inner = refl
+no_return (b ∷ text) inner = let e : suc (length text) - 1 ≡ length text = omega arith in rw e (last_byte b text inner)
+
+and_none : (a b : Bool) → b ≡ false → (a && b) ≡ false
+and_none true b none = none
+and_none false b none = refl
+
+-- so such a line has nothing that an editor added
+pub own_line : (line : ℕ) (text : List ℕ) → IsUnmarked text → list_all is_inner text ≡ true → bare line text ≡ text
+own_line line text start inner =
+    ap without_return (cond-false (line == 1 && bytes_eq (take 3 text) order_mark) (drop 3 text) text (and_none (line == 1) (bytes_eq (take 3 text) order_mark) (no_mark text start)))
+    ∙ cond-false (slice_index text (length text - 1) == 13) (take (length text - 1) text) text (no_return text inner)
+
+pub line_first : (line : ℕ) (text rest : Text) → IsUnmarked text → list_all is_inner text ≡ true → bytes_eq text (codes "end") ≡ false → said_from line (source_lines ((text ++ 10 ∷ []) ++ rest)) ≡ said_by line text ++ said_from (next_line line) (source_lines rest)
+unfolding said_from
+line_first line text rest start inner other =
+    ap (λ (t : Text). said_from line (source_lines t)) (append_assoc text (10 ∷ []) rest)
+    ∙ (ap (said_from line) (part_behind is_feed text 10 rest (weaker is_inner (λ b. not (is_feed b)) text inner_no_feed inner) refl)
+    ∙ (ap (λ (own : List ℕ). if bytes_eq own (codes "end") then [] else said_by line own ++ said_from (next_line line) (source_lines rest)) (own_line line text start inner)
+    ∙ cond-false (bytes_eq text (codes "end")) [] (said_by line text ++ said_from (next_line line) (source_lines rest)) other))
+
+-- lines are none yet
+pub says_nothing : Says [] []
+says_nothing = record {
+  says = λ line rest. ([], line, refl, refl, refl);
+  nothing = λ none. refl;
+}
+
+-- more lines
+pub says_both : (first second : Text) (words more : List Word) → Says first words → Says second more → Says (first ++ second) (words ++ more)
+says_both first second words more one two = record {
+  says = λ line rest.
+      let a = one.says line (second ++ rest) in
+      let b = two.says a.1 rest in (
+        a.0 ++ b.0,
+        b.1,
+        ap (λ (text : Text). said_from line (source_lines text)) (append_assoc first second rest)
+            ∙ (a.2 ∙ (ap (λ (l : List Said). a.0 ++ l) b.2 ∙ sym (append_assoc a.0 b.0 (said_from b.1 (source_lines rest))))),
+        map-append (λ (said : Said). said.text) a.0 b.0 ∙ (ap (λ (l : List Word). l ++ map (λ (said : Said). said.text) b.0) a.3 ∙ ap (λ (l : List Word). words ++ l) b.3),
+        list_all-append is_word a.0 b.0 ∙ and_from (list_all is_word a.0) (list_all is_word b.0) a.4 b.4,
+      );
+  nothing = λ none. none_both first second (one.nothing (none_first words more none)) (two.nothing (none_second words more none));
+}
+
+all_words : (line : ℕ) (words : List Word) → (map (λ (said : Said). said.text) (map (a_word line) words) ≡ words) × (list_all is_word (map (a_word line) words) ≡ true)
+all_words line [] = (refl, refl)
+all_words line (word ∷ words) = let more = all_words line words in (ap (λ (l : List Word). word ∷ l) more.0, more.1)
+
+-- one line
+pub says_line : (text : Text) (words : List Word) → IsUnmarked text → list_all is_inner text ≡ true → length text ≤ 200 → bytes_eq text (codes "end") ≡ false → (words ≡ [] → ⊥) → ((line : ℕ) → spoken line false (source_words text) ≡ map (a_word line) words) → Says (text ++ 10 ∷ []) words
+says_line text words start inner short other some says = record {
+  says = λ line rest. (
+    map (a_word line) words,
+    next_line line,
+    line_first line text rest start inner other ∙ ap (λ (l : List Said). l ++ said_from (next_line line) (source_lines rest)) (short_line line text short ∙ says line),
+    (all_words line words).0,
+    (all_words line words).1,
+  );
+  nothing = λ none. absurd (some none);
+}
+
+-- a line with a blank isn't `end`
+pub no_end : (first second : Text) → bytes_eq (first ++ 32 ∷ second) (codes "end") ≡ false
+no_end first second = elim (cases_Bool (bytes_eq (first ++ 32 ∷ second) (codes "end"))) [
+  | inl same ↦
+      let e : first ++ 32 ∷ second ≡ codes "end" = (bytes_eq-Decides (first ++ 32 ∷ second) (codes "end")).0 same in
+      let all : list_all is_shown (first ++ 32 ∷ second) ≡ true = ap (list_all is_shown) e in
+      absurd (false≢true (sym (and_false (list_all is_shown first)) ∙ (sym (list_all-append is_shown first (32 ∷ second)) ∙ all)))
+  | inr other ↦ other
+]
+
+-- the first word decides how a line begins
+first_start : (first rest : Word) → has_bytes first ≡ true → IsUnmarked first → IsUnmarked (first ++ rest)
+first_start [] rest some start = absurd (no_bytes some)
+first_start (b ∷ first) rest some start = start
+
+-- two words on a line
+pub says_two : (first second : Word) → IsUnmarked first → IsOrdinary first → IsOrdinary second → length first + length second ≤ 100 → Says ((first ++ 32 ∷ second) ++ 10 ∷ []) (first ∷ second ∷ [])
+says_two first second start one two short =
+    says_line (first ++ 32 ∷ second) (first ∷ second ∷ []) (first_start first (32 ∷ second) one.bytes start)
+    (list_all-append is_inner first (32 ∷ second) ∙ and_from (list_all is_inner first) (list_all is_inner (32 ∷ second)) (all_inner first one.shown) (all_inner second two.shown))
+    (omega (arith, length-append first (32 ∷ second)))
+    (no_end first second)
+    (λ none. cc)
+    (λ line. word_first line first second one ∙ ap (λ (l : List Said). a_word line first ∷ l) (word_last line second two))
+
+-- ---- the name of a node
+
+digit_shown : (n : ℕ) → is_shown (48 + n) ≡ true
+digit_shown n = lt-ltb 32 (48 + n) (omega arith)
+
+three_long : (a b c d : ℕ) → bytes_eq (a ∷ b ∷ c ∷ []) (d ∷ []) ≡ false
+three_long a b c d = and_false (a == d)
+
+pub name_ordinary : (n : ℕ) → IsOrdinary (decimal3_of n)
+name_ordinary n = record {
+  bytes = refl;
+  shown = and_from (is_shown (48 + n / 100)) _ (digit_shown (n / 100)) (and_from (is_shown (48 + n / 10 % 10)) _ (digit_shown (n / 10 % 10)) (and_from (is_shown (48 + n % 10)) true (digit_shown (n % 10)) refl));
+  no_remark = three_long (48 + n / 100) (48 + n / 10 % 10) (48 + n % 10) 92;
+  no_opening = three_long (48 + n / 100) (48 + n / 10 % 10) (48 + n % 10) 40;
+}
+
+pub plain_word : (word : Word) → has_bytes word ≡ true → list_all is_shown word ≡ true → bytes_eq word (codes "\\") ≡ false → bytes_eq word (codes "(") ≡ false → IsOrdinary word
+plain_word word bytes shown no_remark no_opening = record { bytes = bytes; shown = shown; no_remark = no_remark; no_opening = no_opening }
+
+-- the line of a node
+pub says_node : (n : ℕ) → Says (codes "node " ++ decimal3_of n ++ 10 ∷ []) (codes "node" ∷ decimal3_of n ∷ [])
+says_node n = says_two (codes "node") (decimal3_of n) refl (plain_word (codes "node") refl refl refl refl) (name_ordinary n) (omega arith)
+
+-- pieces that were added
+pub grown : (old first second a b : Text) → first ≡ old ++ a → second ≡ first ++ b → second ≡ old ++ (a ++ b)
+grown old first second a b e f = f ∙ (ap (λ (l : Text). l ++ b) e ∙ append_assoc old a b)
+
+-- ---- source that is read up to its line `end` says what the whole text says
+
+-- no byte of a line ends it
+inner_of : (line : Line) → HasNoFeed line → list_all (λ b. not (is_feed b)) line ≡ true
+inner_of [] none = refl
+inner_of (b ∷ line) none =
+    and_from
+    (not (is_feed b))
+    (list_all (λ b. not (is_feed b)) line)
+    (ap not (All-head (λ b. ends_line b ≡ false) b line none))
+    (inner_of line (All-tail (λ b. ends_line b ≡ false) b line none))
+
+-- nothing is said from a line `end` on
+end_last : (line : ℕ) (rest : Bytes) → said_from line (source_lines (ended end_line ++ rest)) ≡ []
+unfolding said_from
+end_last line rest =
+    ap (said_from line) (part_behind is_feed end_line 10 rest refl refl)
+    ∙ ap (λ (own : List ℕ). if bytes_eq own (codes "end") then [] else said_by line own ++ said_from (next_line line) (source_lines rest)) (own_line line end_line refl refl)
+
+-- a line, and what those behind it say
+line_then : (line : ℕ) (first rest : Text) → HasNoFeed first → said_from line (source_lines (ended first ++ rest)) ≡ (if bytes_eq (bare line first) (codes "end") then [] else said_by line (bare line first) ++ said_from (next_line line) (source_lines rest))
+unfolding said_from
+line_then line first rest none =
+    ap (λ (t : Text). said_from line (source_lines t)) (append_assoc first (10 ∷ []) rest)
+    ∙ ap (said_from line) (part_behind is_feed first 10 rest (inner_of first none) refl)
+
+-- what stands behind a line `end` says nothing
+to_end : (lines : List Line) → AllByRecursion IsBodyLine lines → (line : ℕ) (rest : Bytes) → said_from line (source_lines ((text_of lines ++ ended end_line) ++ rest)) ≡ said_from line (source_lines (text_of lines ++ ended end_line))
+to_end [] body line rest = end_last line rest ∙ sym (end_last line [])
+to_end (first ∷ lines) body line rest =
+    let behind : Text = text_of lines ++ ended end_line in
+    let whole : (text_of (first ∷ lines) ++ ended end_line) ++ rest ≡ ended first ++ (behind ++ rest) =
+    ap (λ (t : Text). t ++ rest) (append_assoc (ended first) (text_of lines) (ended end_line)) ∙ append_assoc (ended first) behind rest in
+    ap (λ (t : Text). said_from line (source_lines t)) whole
+    ∙ (line_then line first (behind ++ rest) body.0.no_feed
+    ∙ (ap (λ (l : List Said). if bytes_eq (bare line first) (codes "end") then [] else said_by line (bare line first) ++ l) (to_end lines body.1 (next_line line) rest)
+    ∙ (sym (line_then line first behind body.0.no_feed)
+    ∙ ap (λ (t : Text). said_from line (source_lines t)) (sym (append_assoc (ended first) (text_of lines) (ended end_line))))))
+
+-- so a source up to its line `end` says what the whole text says
+says_all : (source rest : Text) → EndsAtEnd source → said_in (source ++ rest) ≡ said_in source
+unfolding said_in
+says_all source rest ends =
+    ap (λ (t : Text). up_to_fault (said_from 1 (source_lines (t ++ rest)))) ends.splits
+    ∙ (ap up_to_fault (to_end ends.lines ends.before 1 rest)
+    ∙ ap (λ (t : Text). up_to_fault (said_from 1 (source_lines t))) (sym ends.splits))
+
+-- what was read of a text, as a source, says what the text says
+pub read_says : (text read rest source ahead : Text) → text ≡ read ++ rest → read ≡ source ++ ahead → IsReadWhole source ahead rest → said_in source ≡ said_in text
+read_says text read rest source ahead input parts (inl ends) =
+    sym (ap said_in (input ∙ (ap (λ (t : Text). t ++ rest) parts ∙ append_assoc source ahead rest)) ∙ says_all source (ahead ++ rest) ends.0)
+read_says text read rest source ahead input parts (inr all) =
+    sym (ap said_in (input
+    ∙ (ap (λ (t : Text). t ++ rest) parts
+    ∙ (ap (λ (t : Text). (source ++ ahead) ++ t) all.1
+    ∙ (append-nil (source ++ ahead) ∙ (ap (λ (t : Text). source ++ t) all.0 ∙ append-nil source))))))
+
+-- so texts that say the same make the same chips
+pub made_of_same : (source text : Text) (chip : List NodeState) → said_in source ≡ said_in text → IsChipOfSource source chip → IsChipOfSource text chip
+made_of_same source text chip same made = record {
+  named = subst (λ (said : List Said). All (HasPlain chip) (bodies_in (map (λ (one : Said). one.text) said))) same made.named;
+  others = subst (λ (said : List Said). (n : ℕ) → All (λ words. yxx_in (slice_index_or words 0 []) ≢ Some n) (bodies_in (map (λ (one : Said). one.text) said)) → node_at chip n ≡ node_at default_chip n) same made.others;
+}

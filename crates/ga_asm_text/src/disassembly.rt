@@ -1,0 +1,294 @@
+//! An image in, source of the same memories and registers out.
+ghost use Rattle.ga_text.specs.Output.{WritesText, ReadsAndWrites};
+ghost use Rattle.std.specs.Prelude.{◌≡◌, ◌⊎◌, ◌<◌, ◌≤◌, [], ◌∷◌, length, codes, IfOk, IfErr, OnOk};
+ghost use Rattle.std.specs.List.{All};
+ghost use Rattle.ga_image.specs.FirstFault.{no_memory, IsFirstFault};
+ghost use Rattle.ga_image.specs.Grammar.{IsImage};
+ghost use Rattle.ga_text.specs.Lines.{lines_of};
+ghost use Rattle.ga_console.specs.Run.{IsFault};
+ghost use Rattle.ga_asm_text.specs.Source.{IsAccepted, Disassembles};
+ghost use Rattle.ga_asm_text.specs.inner.{Disassembly, IsOrdinary, IsUnmarked, Says, Adds, AddsRemark, number_word, register_words, address_words, cell_words, next_of, cells_words, next_behind, holds_words as holds_words_of, usual_p as usual_p_of, registers_words, memory_words, node_words, named_words, source_words, AreCells, HasRegisters, HasMemories, IsFit};
+
+use super::assembling::write_text;
+use super::listing::{push_hex, push_node};
+use super::remark::Roles;
+use ga_console::{Status, refuse};
+use ga_debug_info::{edited_image, tell_edited, tell_unsaid};
+use ga_grid::{Chip, NODES, NodeId, load_p};
+use ga_image::{ImageCause, ImageFault, parse};
+use ga_node::{Node, Place};
+use ga_text::{WholeRead, read_whole};
+use std::alloc::{AllocError, Global};
+use std::io::{Read, Write};
+
+/// The fault of an image for which memory was wanting.
+const NO_MEMORY: ImageFault = ImageFault {
+    line: 0,
+    cause: ImageCause::Memory,
+};
+
+/// Reads an image of either format up to its first line `end`, and writes source that gives the same memories, A, B and P. What
+/// else its nodes hold, and so the source doesn't say, is told on `errors`, a line for each node. A refused image gets its refusal.
+pub fn disassemble<R: Read, W: Write, E: Write>(
+    alloc: Global,
+    reader: &mut R,
+    writer: &mut W,
+    errors: &mut E,
+) -> Status
+    // Where the streams tell their bytes: what was read, and what was written for it by the status.
+    ensures { ReadsAndWrites (λ read rest text. Disassembles read rest text result)
+        (R.remaining reader.old) (R.remaining reader.new) (W.contents writer.old) (W.contents writer.new) }
+{
+    match read_whole(alloc, reader) {
+        WholeRead::Whole(image) => disassemble_text(alloc, writer, errors, image),
+        // No image that is accepted is so long.
+        WholeRead::TooLong(image) => disassemble_text(alloc, writer, errors, image),
+        WholeRead::ReadFailed => Status::StreamFault,
+        WholeRead::NoMemory => refuse(writer, NO_MEMORY),
+    }
+}
+
+/// Writes the source of an image, or refuses the image.
+fn disassemble_text<W: Write, E: Write>(
+    alloc: Global,
+    writer: &mut W,
+    errors: &mut E,
+    image: Vec<u8>,
+) -> Status
+    ensures { WritesText (λ text. Disassembly image.items text result) (W.contents writer.old) (W.contents writer.new) }
+{
+    match source_for(alloc, errors, image) {
+        Ok(text) => write_text(writer, text),
+        Err(fault) => refuse(writer, fault),
+    }
+}
+
+/// Source of an image, with what it leaves out on `errors`; or the image's first fault.
+fn source_for<E: Write>(
+    alloc: Global,
+    errors: &mut E,
+    image: Vec<u8>,
+) -> Result<Vec<u8>, ImageFault>
+    ensures ok { IfOk result (λ text. IsAccepted image.items text.items) }
+    ensures err { IfErr result (λ fault. IsFault image.items fault) }
+{
+    let chip = parse_told(alloc, errors, image.as_slice())?;
+    match source_of(alloc, &chip) {
+        Ok(text) => {
+            tell_unsaid(errors, &chip);
+            Ok(text)
+        }
+        Err(_) => Err(NO_MEMORY),
+    }
+}
+
+/// The chip of an image. Of a refused one it is told on `errors` what an editor wrote into it.
+fn parse_told<E: Write>(alloc: Global, errors: &mut E, image: &[u8]) -> Result<Chip, ImageFault>
+    ensures found { IfOk result (λ chip. IsImage (lines_of image.now) chip) }
+    ensures refused { IfErr result (λ fault. (fault ≡ no_memory) ⊎ IsFirstFault (lines_of image.now) fault) }
+{
+    let parsed = parse(alloc, image);
+    if parsed.is_err() {
+        tell_edited(errors, edited_image(image));
+    }
+    parsed
+}
+
+/// Source of the memories, A, B and P of a chip.
+fn source_of(alloc: Global, chip: &Chip) -> Result<Vec<u8>, AllocError>
+    ensures says { IfOk result (λ text. Says text.items (source_words 0 chip.now)) }
+    ensures size { OnOk result (length chip.now ≡ 144) }
+    ensures fit { OnOk result (All IsFit chip.now) }
+{
+    let mut text = Vec::new(alloc);
+    for number in 0..NODES as u8 {
+        let node = NodeId::new(number);
+        push_program(&mut text, node, chip.node(node))?;
+    }
+    Ok(text)
+}
+
+/// Adds what source says of a node, unless that is nothing.
+fn push_program(text: &mut Vec<u8>, id: NodeId, node: &Node) -> Result<(), AllocError>
+    ensures says { OnOk result (Adds text.old.items text.new.items (named_words id.number (node_words id.number node.now))) }
+    ensures fit { OnOk result (IsFit node.now) }
+{
+    let before = text.len();
+    push_node(text, id)?;
+    let begun = text.len();
+    push_registers(text, id, node, holds_words(node))?;
+    push_cells(text, node)?;
+    if text.len() == begun {
+        text.truncate(before);
+    }
+    Ok(())
+}
+
+/// Whether a cell isn't 0.
+#[tactic(auto, using(crate::proofs::Cells::looking_first, crate::proofs::Cells::found_in_ram, crate::proofs::Cells::found_in_rom, crate::proofs::Cells::looking_more, crate::proofs::Cells::found_nowhere))]
+fn holds_words(node: &Node) -> bool
+    ensures { result ≡ holds_words_of node.now }
+{
+    for cell in 0..64u8 {
+        if node.get(Place::Ram(cell)) != 0 {
+            return true;
+        }
+        if node.get(Place::Rom(cell)) != 0 {
+            return true;
+        }
+    }
+    false
+}
+
+/// Adds the registers whose values the source wouldn't have: P is 0 where there are cells, and else as at load.
+fn push_registers(
+    text: &mut Vec<u8>,
+    id: NodeId,
+    node: &Node,
+    has_cells: bool,
+) -> Result<(), AllocError>
+    ensures says { OnOk result (Adds text.old.items text.new.items (registers_words id.number node.now has_cells)) }
+    ensures fit { OnOk result (HasRegisters node.now) }
+{
+    push_register(text, b"/p", node.get(Place::P), usual_p(id, has_cells))?;
+    push_register(text, b"/a", node.get(Place::A), 0)?;
+    push_register(text, b"/b", node.get(Place::B), 0x15d)?;
+    Ok(())
+}
+
+/// P where no line gives it.
+fn usual_p(id: NodeId, has_cells: bool) -> u32
+    ensures { result ≡ usual_p_of id.number has_cells }
+{
+    if has_cells { 0 } else { load_p(id) }
+}
+
+/// Adds a register, unless it has this value.
+fn push_register(text: &mut Vec<u8>, name: &[u8], value: u32, usual: u32) -> Result<(), AllocError>
+    requires start { IsUnmarked name.now }
+    requires ordinary { IsOrdinary name.now }
+    requires short { length name.now ≤ 10 }
+    ensures { OnOk result (Adds text.old.items text.new.items (register_words name.now value usual)) }
+{
+    if value != usual {
+        text.extend_from_slice(name)?;
+        text.extend_from_slice(b" 0x")?;
+        push_hex(text, value, 5)?;
+        text.push(b'\n')?;
+    }
+    Ok(())
+}
+
+/// Adds the cells that aren't 0, each run of them behind its `org`.
+fn push_cells(text: &mut Vec<u8>, node: &Node) -> Result<(), AllocError>
+    ensures says { OnOk result (Adds text.old.items text.new.items (memory_words node.now)) }
+    ensures fit { OnOk result (HasMemories node.now) }
+{
+    let roles = Roles::of(node);
+    let next = push_ram(text, node, &roles)?;
+    push_rom(text, node, &roles, next)?;
+    Ok(())
+}
+
+/// Adds the cells of RAM. Tells the address behind the last one.
+fn push_ram(text: &mut Vec<u8>, node: &Node, roles: &Roles) -> Result<u32, AllocError>
+    ensures says { OnOk result (Adds text.old.items text.new.items (cells_words 0 0 node.now.ram)) }
+    ensures next { IfOk result (λ next. next ≡ next_behind 0 0 node.now.ram) }
+    ensures fit { OnOk result (AreCells node.now.ram) }
+{
+    let mut next = 0;
+    for cell in 0..64u8 {
+        next = push_word(
+            text,
+            roles,
+            node.get(Place::Ram(cell)),
+            u32::from(cell),
+            next,
+        )?;
+    }
+    Ok(next)
+}
+
+/// Adds the cells of ROM.
+fn push_rom(text: &mut Vec<u8>, node: &Node, roles: &Roles, behind: u32) -> Result<(), AllocError>
+    ensures says { OnOk result (Adds text.old.items text.new.items (cells_words 0x80 behind node.now.rom)) }
+    ensures fit { OnOk result (AreCells node.now.rom) }
+{
+    let mut next = behind;
+    for cell in 0..64u8 {
+        next = push_word(
+            text,
+            roles,
+            node.get(Place::Rom(cell)),
+            0x80 + u32::from(cell),
+            next,
+        )?;
+    }
+    Ok(())
+}
+
+/// Adds a cell unless it is 0, and `org` before it where it isn't the next one. Tells the address behind the last cell.
+fn push_word(
+    text: &mut Vec<u8>,
+    roles: &Roles,
+    word: u32,
+    address: u32,
+    next: u32,
+) -> Result<u32, AllocError>
+    requires { address < 0x400 }
+    ensures says { OnOk result (Adds text.old.items text.new.items (cell_words word address next)) }
+    ensures next { IfOk result (λ behind. behind ≡ next_of word address next) }
+{
+    if word == 0 {
+        return Ok(next);
+    }
+    push_address(text, address, next)?;
+    push_cell(text, word, roles.remark(word, address).as_slice())?;
+    Ok(address + 1)
+}
+
+/// Adds `org` and the address, unless it is the next one.
+fn push_address(text: &mut Vec<u8>, address: u32, next: u32) -> Result<(), AllocError>
+    ensures { OnOk result (Adds text.old.items text.new.items (address_words address next)) }
+{
+    if address != next {
+        text.extend_from_slice(b"org 0x")?;
+        push_hex(text, address, 2)?;
+        text.push(b'\n')?;
+    }
+    Ok(())
+}
+
+/// Adds a cell, with a remark behind it.
+fn push_cell(text: &mut Vec<u8>, word: u32, remark: &[u8]) -> Result<(), AllocError>
+    requires { length remark.now ≤ 80 }
+    ensures { OnOk result (Adds text.old.items text.new.items (number_word 6 word ∷ codes "," ∷ [])) }
+{
+    text.extend_from_slice(b"0x")?;
+    push_hex(text, word, 6)?;
+    text.extend_from_slice(b" , \\ ")?;
+    push_remark(text, remark)?;
+    text.push(b'\n')?;
+    Ok(())
+}
+
+/// Adds a remark, but for bytes that would end its line: what is said there is said in it alone.
+#[tactic(auto, using(crate::proofs::SourceLines::remark_none, crate::proofs::SourceLines::remark_both, crate::proofs::SourceLines::remark_more))]
+fn push_remark(text: &mut Vec<u8>, remark: &[u8]) -> Result<(), AllocError>
+    ensures { OnOk result (AddsRemark (length remark.now) text.old.items text.new.items) }
+{
+    for byte in remark {
+        push_inner(text, *byte)?;
+    }
+    Ok(())
+}
+
+/// Adds a byte, unless it would end its line.
+fn push_inner(text: &mut Vec<u8>, byte: u8) -> Result<(), AllocError>
+    ensures { OnOk result (AddsRemark 1 text.old.items text.new.items) }
+{
+    if byte != b'\n' && byte != b'\r' {
+        text.push(byte)?;
+    }
+    Ok(())
+}

@@ -1,0 +1,36 @@
+//! Source that is read whole.
+ghost use Rattle.std.specs.Prelude.{◌≡◌, ◌++◌, Some, IfOk, IfErr};
+ghost use Rattle.ga_text.specs.Lines.{Bytes};
+ghost use Rattle.ga_text.specs.Output.{IsWholeText};
+ghost use Rattle.ga_asm_text.specs.inner.{IsUnread};
+
+use ga_console::Status;
+use ga_debug_info::{tell_long, tell_memory};
+use ga_text::{WholeRead, read_whole};
+use std::alloc::Global;
+use std::io::{Read, Write};
+
+/// Reads source up to its first line `end`, or to its end. Where it can't be had whole, what stands in the way is told on `errors`,
+/// and the answer is the status to end with.
+pub(crate) fn read_source<R: Read, E: Write>(
+    alloc: Global,
+    reader: &mut R,
+    errors: &mut E,
+) -> Result<Vec<u8>, Status>
+    ensures { (left : Bytes) → R.remaining reader.old ≡ Some left →
+        (read rest : Bytes) × (left ≡ read ++ rest) × (R.remaining reader.new ≡ Some rest)
+        × IfOk result (λ source. IsWholeText read rest source.items) × IfErr result (IsUnread read) }
+{
+    match read_whole(alloc, reader) {
+        WholeRead::Whole(source) => Ok(source),
+        WholeRead::TooLong(_) => {
+            tell_long(errors);
+            Err(Status::ImageRefused)
+        }
+        WholeRead::ReadFailed => Err(Status::StreamFault),
+        WholeRead::NoMemory => {
+            tell_memory(errors);
+            Err(Status::ImageRefused)
+        }
+    }
+}

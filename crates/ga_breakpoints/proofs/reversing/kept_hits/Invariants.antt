@@ -1,7 +1,0 @@
-use Rattle.std.proofs.Common.{◌≡◌, drop}
-use Rattle.std.specs.Prelude.{replicate}
-use Rattle.ga_breakpoints.specs.Reversing.{hits_from}
-use Rattle.ga_breakpoints.proofs.reversing.kept_hits.Given as goal
-
-abbrev pub invariant-breakpoints : goal.invariant-breakpoints
-invariant-breakpoints l = hits_from l.lab l.place (drop l.place l.breakpoints) l.counts ≡ hits_from l.lab 0 l.breakpoints (replicate 64 0)

@@ -1,0 +1,24 @@
+use Rattle.std.proofs.Common.{◌≡◌, ◌∙◌, ◌+◌, List, ◌∷◌, drop, sym, ap, arith}
+use Rattle.std.proofs.lemmas.List.{drop_more}
+use Rattle.ga_dap_breakpoints.specs.declared.breakpoint.Breakpoint.{Breakpoint}
+use Rattle.ga_dap_breakpoints.specs.inner.Cells.{Cells, cells_done, counted_by, cells_from}
+use Rattle.ga_dap_breakpoints.proofs.hits.count_hits.Goals as goal
+
+pub breakpoints-preserved : goal.breakpoints-preserved
+breakpoints-preserved c =
+    let made = c.args.made.now in
+    let lab = c.args.lab.now in
+    let place = c.breakpoints.place in
+    let rest : List Breakpoint = drop (place + 1) c.args.breakpoints.now in
+    let one : Breakpoint = c.index-breakpoints-place.result in
+    let at : drop place c.args.breakpoints.now ≡ one ∷ rest =
+    drop_more c.args.breakpoints.now place one (omega (arith, c.breakpoints-test.true)) ∙ ap (λ (z : Breakpoint). z ∷ rest) (sym c.index-breakpoints-place.is) in
+    record {
+      tally = ap (λ (z : Cells). counted_by made lab (place + 1) rest z c.count_one.new.tally) c.count_one.ensures.cells
+          ∙ ap (counted_by made lab (place + 1) rest (cells_done one.watched one.node made lab c.breakpoints.cells)) c.count_one.ensures.tally
+          ∙ sym (ap (λ (z : List Breakpoint). counted_by made lab place z c.breakpoints.cells c.breakpoints.tally) at)
+          ∙ c.breakpoints.invariant.tally;
+      cells = ap (cells_from made lab rest) c.count_one.ensures.cells
+          ∙ sym (ap (λ (z : List Breakpoint). cells_from made lab z c.breakpoints.cells) at)
+          ∙ c.breakpoints.invariant.cells;
+    }

@@ -1,0 +1,23 @@
+use Rattle.std.proofs.Common.{arith}
+use Rattle.ga_node.specs.Record.{record_of}
+use Rattle.ga_provenance.proofs.Made.{then_of}
+use Rattle.ga_dap_breakpoints.proofs.Following.{word_stays, word_comes}
+use Rattle.ga_dap_breakpoints.proofs.words.word_after.Goals as goal
+
+pub returns-then-keeps_word : goal.returns-then-keeps_word
+returns-then-keeps_word c =
+    let s = c.args.lab.now in
+    let node = c.args.node in
+    let walk = c.args.walk.now in
+    let before = record_of c.node.result.now in
+    word_stays s node walk.step c.step-place.result c.args.word c.told.result before c.keeps_word.result c.step-place.ensures.value c.told.ensures
+    (then_of s node walk before c.requires.walk (omega (arith, c.step-place.ensures.value, c.step-place.ensures.within)) c.node.ensures) c.keeps_word.ensures c.if-keeps_word.true
+
+pub returns-else-keeps_word : goal.returns-else-keeps_word
+returns-else-keeps_word c =
+    let s = c.args.lab.now in
+    let node = c.args.node in
+    let walk = c.args.walk.now in
+    let before = record_of c.node.result.now in
+    word_comes s node walk.step c.step-place.result c.args.word c.word_behind.result c.told.result before c.keeps_word.result c.step-place.ensures.value c.told.ensures
+    (then_of s node walk before c.requires.walk (omega (arith, c.step-place.ensures.value, c.step-place.ensures.within)) c.node.ensures) c.keeps_word.ensures c.if-keeps_word.false c.word_behind.ensures

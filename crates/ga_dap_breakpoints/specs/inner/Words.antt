@@ -1,0 +1,75 @@
+-- The cell from which a node's instruction word came (Fetched.antt of ga_provenance), followed from step to step (F18A Technology Reference DB001, instruction
+-- fetch and ports), and where a line begins by it.
+use Rattle.std.specs.Prelude.{ℕ, ◌+◌, ◌-◌, ◌==◌, nat_lt, Bool, true, false, ◌&&◌, not, if◌then◌else◌, is_none, Option, Some, None}
+use Rattle.std.specs.List.{slice_get}
+use Rattle.ga_node.specs.Record.{NodeRecord}
+use Rattle.ga_node.specs.declared.kind.Kind.{Kind}
+use Rattle.ga_node.specs.declared.kind.Kind.TheVariants as kind
+use Rattle.ga_node.specs.declared.wait.Wait.{Wait}
+use Rattle.ga_node.specs.declared.wait.Wait.TheVariants as wait
+use Rattle.ga_grid.specs.declared.node_id.NodeId.{NodeId}
+use Rattle.ga_event.specs.declared.made.Made.{Made}
+use Rattle.ga_event.specs.declared.made.Made.TheVariants as made
+use Rattle.ga_event.specs.Told.{steps_of}
+use Rattle.ga_lab.specs.Machine.{State, history_of}
+use Rattle.ga_debug_info.specs.declared.notes.Notes.{Notes}
+use Rattle.ga_provenance.specs.Origins.{node_after}
+use Rattle.ga_provenance.specs.Fetched.{fetched_cell}
+use Rattle.ga_scheduler.specs.Conditions.{is_step_of}
+use Rattle.ga_dap_views.specs.declared.spots.Spot.{Spot}
+use Rattle.ga_dap_views.specs.Spots.{spot_by, spot_behind}
+use Rattle.ga_dap_breakpoints.specs.declared.stepping.Grain.{Grain}
+use Rattle.ga_dap_breakpoints.specs.declared.stepping.Grain.TheVariants.{Instruction, Line}
+use Rattle.ga_dap_breakpoints.specs.declared.stepping.Stepping.{Stepping}
+use Rattle.ga_dap_breakpoints.specs.Lines.{op_at, place_back, line_on_spot, comes_on}
+use Rattle.ga_dap_breakpoints.specs.Stepping.{call_behind}
+
+-- ---- a step that leaves the word: no fetch of the node's own, and no word that it takes as its code
+
+abbrev pub keeps_kind : Kind → Bool
+keeps_kind kind.Fetch = false
+keeps_kind (kind.Run code) = nat_lt code 32
+keeps_kind kind.Wait = true
+keeps_kind (kind.Stop code) = true
+
+abbrev pub awaits_code : Wait → Bool
+awaits_code (wait.Fetch sides) = true
+awaits_code (wait.Read sides) = false
+awaits_code (wait.Write side) = false
+awaits_code wait.Nothing = false
+
+abbrev pub keeps_word : Option Made → NodeRecord → ℕ → Bool
+keeps_word None before n = false
+keeps_word (Some (made.Own node step kind)) before n = keeps_kind kind
+keeps_word (Some (made.Pass writer i reader j word)) before n = if n == reader.number then not (awaits_code before.wait) else true
+
+-- ---- the cell of the word after the step with this number, if the word before it came from this cell
+
+abbrev pub word_after : State → NodeId → ℕ → Option ℕ → Option ℕ
+word_after s node k word =
+    if keeps_word (slice_get (history_of s node.number) k) (node_after s node.number k) node.number then word else fetched_cell s node (k + 1)
+
+-- the cell of a node's word after this event, on the machine that it left
+abbrev pub word_seen : NodeId → Option ℕ → Made → State → Option ℕ
+word_seen node word told s = if is_step_of node.number told then word_after s node (steps_of node.number s.kept - 1) word else word
+
+-- ---- where a line begins, by the cells of the words before and after the step
+
+abbrev pub spot_before : ℕ → State → NodeId → ℕ → Option ℕ → Option Spot
+spot_before began s node k word =
+    if place_back began s node k == k then spot_by (node_after s node.number k) word else spot_behind s node (place_back began s node k)
+
+abbrev pub begins_by : ℕ → Notes → State → NodeId → ℕ → Option ℕ → Option ℕ → Bool
+begins_by began notes s node k before behind =
+    comes_on notes node (spot_before began s node k before) (spot_by (node_after s node.number (k + 1)) behind) (op_at s node k)
+    (line_on_spot notes node (spot_by (node_after s node.number (k + 1)) behind))
+
+abbrev pub reaches_by : Grain → ℕ → Notes → NodeId → State → ℕ → Option ℕ → Option ℕ → Bool
+reaches_by Instruction began notes node s k before behind = true
+reaches_by Line began notes node s k before behind = begins_by began notes s node k before behind
+
+abbrev pub is_moved_by : Notes → Stepping → Option ℕ → Made → State → Bool
+is_moved_by notes by word told s =
+    is_step_of by.node.number told
+    && (is_none (call_behind s by.node by.over by.call)
+    && reaches_by by.grain by.began notes by.node s (steps_of by.node.number s.kept - 1) word (word_seen by.node word told s))

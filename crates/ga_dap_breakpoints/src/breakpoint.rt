@@ -1,0 +1,83 @@
+//! Breakpoints, and where they stand.
+
+ghost use Rattle.std.specs.Prelude.{◌≡◌};
+ghost use Rattle.ga_debug_info.specs.Notes.{worded_slot};
+ghost use Rattle.ga_dap_breakpoints.specs.Breakpoints.{on_slot, on_word, breakpoint_of_line, breakpoint_of_address};
+
+use crate::back::Watched;
+use crate::condition::{HitCount, ValueTest};
+use ga_dap_views::{Spot, memory_cell};
+use ga_debug_info::{Notes, SlotWord};
+use ga_grid::NodeId;
+
+/// What a node is watched for.
+#[derive(Clone, Copy, PartialEq, Eq, Debug)]
+pub struct Breakpoint {
+    /// The node.
+    pub node: NodeId,
+    /// What is watched: that the node comes to a slot, or writes a cell of its RAM.
+    pub watched: Watched,
+    /// What must hold of the node after the step that did what is watched.
+    pub condition: Option<ValueTest>,
+    /// Which of the events that did what is watched end a run.
+    pub hits: Option<HitCount>,
+}
+
+/// A breakpoint on a line of the source.
+#[derive(Clone, Copy, PartialEq, Eq, Debug)]
+pub struct LineBreakpoint {
+    /// The breakpoint: on the first slot of the line.
+    pub breakpoint: Breakpoint,
+    /// Its line, from 1 on: the requested one, or a later one.
+    pub line: u32,
+}
+
+/// A breakpoint that a node hits by coming to a slot of a cell.
+fn on_slot(node: NodeId, cell: u8, slot: u8) -> Breakpoint
+    ensures { result ≡ on_slot node cell slot }
+{
+    Breakpoint {
+        node,
+        watched: Watched::Comes(Spot { cell, slot }),
+        condition: None,
+        hits: None,
+    }
+}
+
+/// The slot that a word begins.
+fn slot_of(first: usize) -> u8
+    ensures { result ≡ worded_slot first }
+{
+    if first < 4 { first as u8 } else { 0 }
+}
+
+/// A breakpoint on the first slot of a word, with its line.
+fn on_word(word: SlotWord) -> LineBreakpoint
+    ensures { result ≡ on_word word }
+{
+    LineBreakpoint {
+        breakpoint: on_slot(word.node, word.cell, slot_of(word.first)),
+        line: word.line,
+    }
+}
+
+/// The breakpoint of a line of the source (Debug Adapter Protocol, "SetBreakpointsRequest"): on the first slot of the line, or of the next line that has
+/// code in a node, with that line; none where no line from there on has. Takes time by the words of the source.
+pub fn breakpoint_of_line(notes: &Notes, line: u32) -> Option<LineBreakpoint>
+    ensures { result ≡ breakpoint_of_line notes.now line }
+{
+    match notes.first_word(line) {
+        Some(word) => Some(on_word(word)),
+        None => None,
+    }
+}
+
+/// The breakpoint of an address of a node, as of a label: on the first slot of its cell; none where the address names no cell of memory.
+pub fn breakpoint_of_address(node: NodeId, address: u32) -> Option<Breakpoint>
+    ensures { result ≡ breakpoint_of_address node address }
+{
+    match memory_cell(address) {
+        Some(cell) => Some(on_slot(node, cell, 0)),
+        None => None,
+    }
+}

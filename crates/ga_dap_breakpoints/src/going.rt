@@ -1,0 +1,103 @@
+//! How a move ends, and `continue`.
+
+ghost use Rattle.std.specs.Prelude.{◌≡◌, ◌≤◌, None};
+ghost use Rattle.ga_scheduler.specs.Running.{running, after_events};
+ghost use Rattle.ga_dap_breakpoints.specs.Going.{HasGone, tally_on, going_on};
+ghost use Rattle.ga_dap_breakpoints.specs.inner.Cells.{halt_by, halt_of};
+
+use crate::halts::{Halting, Halts, is_stopping};
+use crate::hits::HitTally;
+use ga_grid::{NODES, NodeId};
+use ga_lab::{Lab, LabFault, Made};
+use ga_scheduler::{Schedule, WatchedEnd, WatchedRun, run_watched};
+
+/// Why a move ended, or a slice of it.
+#[derive(Clone, Copy, PartialEq, Eq, Debug)]
+pub enum Halt {
+    /// This event hit the breakpoint at this place of the list, the first of those that it hit.
+    Hit { made: Made, which: usize },
+    /// This event was a stop, and hit no breakpoint.
+    Stopped(Made),
+    /// This event completed the move. It hit no breakpoint and is no stop that ends the move.
+    Moved(Made),
+    /// As many events were made as were asked for: the move can be gone on with.
+    Cut,
+    /// No node of the chip has an event.
+    Quiet,
+    /// [`Lab::step`] refused the next event: `Full`, `Spent` or `Memory`.
+    Refused(LabFault),
+}
+
+/// The number of events, why the move ended, and the next schedule.
+#[derive(Clone, Copy)]
+pub struct Went {
+    /// How many events were made.
+    pub events: u64,
+    /// Why no more events were made.
+    pub halt: Halt,
+    /// The schedule after the last event, with which a further move continues.
+    pub schedule: Schedule,
+    /// How often each breakpoint was hit: a further move counts on.
+    pub tally: HitTally,
+}
+
+/// Why a move ended by an event.
+fn halt_by(halts: &Halts<'_>, node: Option<NodeId>, made: Made) -> Halt
+    ensures { result ≡ halt_by halts.now.tally.hit halts.now.stops node made }
+{
+    if let Some(which) = halts.tally.hit {
+        return Halt::Hit { made, which };
+    }
+    if is_stopping(halts.stops, node, &made) {
+        Halt::Stopped(made)
+    } else {
+        Halt::Moved(made)
+    }
+}
+
+/// Why a move ended, by how its run did.
+fn halt_of(halts: &Halts<'_>, node: Option<NodeId>, end: WatchedEnd) -> Halt
+    ensures { result ≡ halt_of halts.now.tally.hit halts.now.stops node end }
+{
+    match end {
+        WatchedEnd::Seen(made) => halt_by(halts, node, made),
+        WatchedEnd::Made => Halt::Cut,
+        WatchedEnd::Quiet => Halt::Quiet,
+        WatchedEnd::Refused(why) => Halt::Refused(why),
+    }
+}
+
+/// How a move went by a run that was watched so.
+pub(crate) fn went_by(run: WatchedRun, halts: &Halts<'_>, node: Option<NodeId>) -> Went
+    ensures events { result.events ≡ run.events }
+    ensures halt { result.halt ≡ halt_of halts.now.tally.hit halts.now.stops node run.end }
+    ensures schedule { result.schedule ≡ run.schedule }
+    ensures tally { result.tally ≡ halts.now.tally }
+{
+    Went {
+        events: run.events,
+        halt: halt_of(halts, node, run.end),
+        schedule: run.schedule,
+        tally: halts.tally,
+    }
+}
+
+/// `continue` (Debug Adapter Protocol, "ContinueRequest"): a slice of at most `most` events in the order of the schedule, until
+/// one hits a breakpoint, or is a stop if stops end it. The returned schedule continues a slice that was cut. The time is
+/// linear in the number of events and in the number of breakpoints; in addition, for each node that arrives at the slot number
+/// of a breakpoint, once in a slice, in how long it is within its word.
+pub fn go_on(lab: &mut Lab, schedule: Schedule, halts: Halts<'_>, most: u64) -> Went
+    ensures state { running lab.new result.schedule ≡ after_events (running lab.old schedule) result.events }
+    ensures hits { result.tally ≡ tally_on None halts.entry.breakpoints.now halts.entry.tally (running lab.old schedule) result.events }
+    ensures most { result.events ≤ most }
+    ensures end { HasGone (going_on halts.entry.breakpoints.now halts.entry.tally halts.entry.stops (running lab.old schedule)) (running lab.old schedule) most result.events result.halt }
+{
+    // It is called for its contract only: the history can be replayed.
+    lab.chip();
+    let mut watch = Halting {
+        halts,
+        cells: [None; NODES],
+    };
+    let run = run_watched(lab, schedule, None, most, &mut watch);
+    went_by(run, &watch.halts, None)
+}

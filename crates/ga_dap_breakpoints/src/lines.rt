@@ -1,0 +1,200 @@
+//! A node gone back by lines of its source.
+
+ghost use Rattle.std.specs.Prelude.{◌≡◌, ◌<◌, ◌≤◌};
+ghost use Rattle.ga_event.specs.Told.{steps_of};
+ghost use Rattle.ga_lab.specs.Machine.{standing};
+ghost use Rattle.ga_dap_breakpoints.specs.inner.Words.{spot_before, begins_by};
+ghost use Rattle.ga_dap_breakpoints.specs.Lines.{op_told, is_return_op, is_jump, place_back, line_on_spot, begins_at, comes_on, beginning_from, stepped_back_line};
+
+use crate::back::go_back;
+use crate::words::spot_by;
+use ga_dap_views::{Spot, is_calling, line_at, line_start, put_by, spot_back};
+use ga_debug_info::Notes;
+use ga_grid::NodeId;
+use ga_lab::{Lab, Made, Walk};
+use ga_node::Kind;
+use ga_slots::Op;
+
+/// The opcode that the step with this event executed.
+fn op_told(told: &Option<Made>) -> Option<Op>
+    ensures { result ≡ op_told told.now }
+{
+    match told {
+        Some(
+            Made::Own {
+                kind: Kind::Run(code),
+                ..
+            },
+        ) => Some(Op::from_code(*code % 32)),
+        _ => None,
+    }
+}
+
+fn is_return_op(op: Option<Op>) -> bool
+    ensures { result ≡ is_return_op op }
+{
+    match op {
+        Some(Op::Return) => true,
+        _ => false,
+    }
+}
+
+/// Whether an opcode is a jump; `unext` stays in its cell.
+fn is_jump(op: Option<Op>) -> bool
+    ensures { result ≡ is_jump op }
+{
+    match op {
+        Some(Op::Return | Op::Execute | Op::Jump | Op::Call) => true,
+        Some(Op::Next | Op::If | Op::MinusIf) => true,
+        _ => false,
+    }
+}
+
+/// Of the step at a place, the place before it; if it returned from a call that the node made after its first `began` steps,
+/// the place of that call.
+fn place_back(lab: &Lab, node: NodeId, place: u32, began: u32) -> u32
+    requires { place ≤ steps_of node.number lab.now.kept }
+    ensures value { result ≡ place_back began lab.now node place }
+    ensures within { result ≤ place }
+{
+    if !is_return_op(op_told(&lab.told(node, place))) {
+        return place;
+    }
+    let call = put_by(lab, node, place, 0);
+    if began < call && is_calling(lab, node, call) {
+        call.saturating_sub(1)
+    } else {
+        place
+    }
+}
+
+/// The line of a node at a slot.
+fn line_on_spot(notes: &Notes, node: NodeId, spot: Option<Spot>) -> Option<u32>
+    ensures { result ≡ line_on_spot notes.now node spot }
+{
+    line_at(notes, node, spot?)
+}
+
+/// Whether a slot is the first of a line.
+fn begins_at(notes: &Notes, node: NodeId, line: u32, spot: Spot) -> bool
+    ensures { result ≡ begins_at notes.now node line spot }
+{
+    match line_start(notes, node, line) {
+        Some(word) => word.cell == spot.cell && word.first == usize::from(spot.slot),
+        None => false,
+    }
+}
+
+/// Whether a node that is at a slot arrived at a line by this step: from another line, or by a jump to its first slot.
+fn comes_on(
+    notes: &Notes,
+    node: NodeId,
+    before: Option<Spot>,
+    spot: Option<Spot>,
+    op: Option<Op>,
+) -> bool
+    ensures { result ≡ comes_on notes.now node before spot op (line_on_spot notes.now node spot) }
+{
+    let Some(at) = spot else {
+        return false;
+    };
+    let Some(line) = line_at(notes, node, at) else {
+        return false;
+    };
+    match line_on_spot(notes, node, before) {
+        Some(other) => other != line || is_jump(op) && begins_at(notes, node, line, at),
+        None => true,
+    }
+}
+
+/// The slot of a node before its step at a place, by the cell of its word before that step; over the call if the step returned
+/// from one that the node made after its first `began` steps. The node is walked back there.
+fn spot_before(
+    lab: &Lab,
+    walk: &mut Walk<'_>,
+    node: NodeId,
+    place: u32,
+    began: u32,
+    word: Option<u8>,
+) -> Option<Spot>
+    requires walk { walk.old ≡ standing lab.now node walk.old.step }
+    requires order { place ≤ walk.old.step }
+    requires within { place ≤ steps_of node.number lab.now.kept }
+    ensures { result ≡ spot_before began lab.now node place word }
+{
+    let before = place_back(lab, node, place, began);
+    if before == place {
+        walk.back_to(place);
+        spot_by(walk.node(), word)
+    } else {
+        spot_back(lab, walk, node, before)
+    }
+}
+
+/// Whether a line of the source begins for a node after its step with this number, by the cells from which its words came
+/// before and after the step: it arrived from another line, stepping over the call if it returned from one that it made after
+/// its first `began` steps, or by a jump to the first slot of the first word of the line. The time is linear in the length of
+/// that call, and otherwise independent of the history.
+pub(crate) fn begins_by(
+    lab: &Lab,
+    notes: &Notes,
+    node: NodeId,
+    step: u32,
+    began: u32,
+    before: Option<u8>,
+    behind: Option<u8>,
+) -> bool
+    requires { step < steps_of node.number lab.now.kept }
+    ensures { result ≡ begins_by began notes.now lab.now node step before behind }
+{
+    // It is less than the node's steps, so that one more can be counted.
+    let steps = lab.steps(node);
+    prove!(step < steps);
+    let mut walk = lab.walk(node, step + 1);
+    let spot = spot_by(walk.node(), behind);
+    let there = spot_before(lab, &mut walk, node, step, began, before);
+    let told = lab.told(node, step);
+    comes_on(notes, node, there, spot, op_told(&told))
+}
+
+/// The nearest beginning of a line at a place or before it, among at most `most` places.
+fn beginning_from(lab: &Lab, notes: &Notes, node: NodeId, from: u32, most: u32) -> u32
+    requires { from ≤ steps_of node.number lab.now.kept }
+    ensures { result ≡ beginning_from notes.now lab.now node from most }
+{
+    let mut walk = lab.walk(node, from);
+    let mut spot = spot_back(lab, &mut walk, node, from);
+    let mut place = from;
+    let mut left = most;
+    'going: while left > 0 {
+        if place == 0 {
+            return 0;
+        }
+        let before = place_back(lab, node, place - 1, 0);
+        let there = spot_back(lab, &mut walk, node, before);
+        let told = lab.told(node, place - 1);
+        let op = op_told(&told);
+        if comes_on(notes, node, there, spot, op) {
+            return place;
+        }
+        place = before;
+        spot = there;
+        left -= 1;
+    }
+    0
+}
+
+/// `stepBack` by a line (Debug Adapter Protocol, "SteppingGranularity"): rolls a node back to the beginning of its line, or, if
+/// it is at the beginning of one, to that of the line before; steps over calls, and removes all dependents. Returns the number
+/// of removed events.
+pub fn step_back_line(lab: &mut Lab, notes: &Notes, node: NodeId) -> u32
+    ensures { lab.new ≡ stepped_back_line notes.now lab.old node }
+{
+    let steps = lab.steps(node);
+    if steps == 0 {
+        return 0;
+    }
+    let from = place_back(lab, node, steps - 1, 0);
+    let keeps = beginning_from(lab, notes, node, from, steps);
+    go_back(lab, node, keeps)
+}

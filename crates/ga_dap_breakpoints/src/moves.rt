@@ -1,0 +1,229 @@
+//! A move of one node.
+
+ghost use Rattle.std.specs.Prelude.{◌≡◌, ◌-◌, ◌<◌, ◌≤◌, ◌&&◌, Some, true, position};
+ghost use Rattle.ga_event.specs.Told.{steps_of};
+ghost use Rattle.ga_scheduler.specs.Conditions.{is_step_of};
+ghost use Rattle.ga_scheduler.specs.Running.{running};
+ghost use Rattle.ga_scheduler.specs.Watched.{IsNewestMade, after_first};
+ghost use Rattle.ga_dap_views.specs.Calls.{is_calling, entries_from};
+ghost use Rattle.ga_provenance.specs.Fetched.{fetched_cell};
+ghost use Rattle.ga_dap_breakpoints.specs.declared.stepping.Grain.TheVariants.{Line};
+ghost use Rattle.ga_dap_breakpoints.specs.Stepping.{is_from, call_behind, step_seen, stepped_on};
+ghost use Rattle.ga_dap_breakpoints.specs.inner.Words.{word_seen, reaches_by, is_moved_by};
+ghost use Rattle.ga_dap_breakpoints.specs.Going.{HasGone, tally_on, stepping_on};
+
+use crate::going::{Went, went_by};
+use crate::halts::{Halting, Halts, see_halt};
+use crate::hits::is_step_of;
+use crate::lines::begins_by;
+use crate::stepping::{Grain, Stepping};
+use crate::words::{word_after, word_behind};
+use ga_dap_views::{entries_from, is_calling};
+use ga_debug_info::Notes;
+use ga_grid::{NODES, NodeId};
+use ga_lab::{Lab, Made};
+use ga_scheduler::{Schedule, Watch, run_watched};
+
+/// What watches a move.
+#[derive(Clone, Copy)]
+struct Steps<'a> {
+    notes: &'a Notes,
+    halting: Halting<'a>,
+    stepping: Stepping,
+    // The cell from which the node's word came, where the move is by lines.
+    word: Option<u8>,
+}
+
+/// Whether an entry of the return stack stood at this place before.
+fn is_from(from: Option<u8>, place: usize) -> bool
+    ensures { result ≡ is_from place from }
+{
+    match from {
+        Some(from) => usize::from(from) == place,
+        None => false,
+    }
+}
+
+/// The place of the entry after the node's newest step, if it was at `place` before.
+fn place_behind(lab: &Lab, node: NodeId, place: usize) -> Option<usize>
+    ensures { result ≡ position (is_from place) (entries_from lab.now node (steps_of node.number lab.now.kept - 1)) }
+{
+    let steps = lab.steps(node);
+    let entries = entries_from(lab, node, steps.saturating_sub(1));
+    entries.iter().position(|from| is_from(*from, place))
+}
+
+/// Whether the node's newest step was a call and calls are stepped over.
+fn is_gone_over(lab: &Lab, node: NodeId, over: bool) -> bool
+    ensures { result ≡ (over && is_calling lab.now node (steps_of node.number lab.now.kept)) }
+{
+    over && is_calling(lab, node, lab.steps(node))
+}
+
+/// The call from which the node is to return first, after its newest step.
+fn call_behind(lab: &Lab, node: NodeId, over: bool, call: Option<usize>) -> Option<usize>
+    ensures { result ≡ call_behind lab.now node over call }
+{
+    match call {
+        Some(place) => place_behind(lab, node, place),
+        None => {
+            if is_gone_over(lab, node, over) {
+                Some(0)
+            } else {
+                None
+            }
+        }
+    }
+}
+
+/// By how many steps of a node its newest one was preceded, where the newest event is one.
+fn newest_step(lab: &Lab, made: &Made, node: NodeId) -> u32
+    requires newest { IsNewestMade lab.now made.now }
+    requires own { is_step_of node.number made.now ≡ true }
+    ensures step { result ≡ steps_of node.number lab.now.kept - 1 }
+    ensures within { result < steps_of node.number lab.now.kept }
+{
+    // It is called for its contract only: the history can be replayed.
+    lab.chip();
+    lab.steps(node).saturating_sub(1)
+}
+
+/// A move after the newest event.
+fn step_seen(lab: &Lab, by: Stepping, made: &Made) -> Stepping
+    ensures { result ≡ step_seen by made.now lab.now }
+{
+    if !is_step_of(made, by.node) {
+        return by;
+    }
+    let call = call_behind(lab, by.node, by.over, by.call);
+    Stepping { call, ..by }
+}
+
+/// The cell from which a node's word came, after the newest event, if the word before it came from `word`.
+fn word_seen(lab: &Lab, node: NodeId, word: Option<u8>, made: &Made) -> Option<u8>
+    requires { IsNewestMade lab.now made.now }
+    ensures { result ≡ word_seen node word made.now lab.now }
+{
+    if !is_step_of(made, node) {
+        return word;
+    }
+    let step = newest_step(lab, made, node);
+    let walk = lab.walk(node, step);
+    word_after(lab, &walk, node, word)
+}
+
+/// Whether a move of this granularity can end by a step of a node, by the cells of the words before and after it.
+fn reaches_by(
+    lab: &Lab,
+    notes: &Notes,
+    node: NodeId,
+    grain: Grain,
+    began: u32,
+    step: u32,
+    before: Option<u8>,
+    behind: Option<u8>,
+) -> bool
+    requires { step < steps_of node.number lab.now.kept }
+    ensures { result ≡ reaches_by grain began notes.now node lab.now step before behind }
+{
+    match grain {
+        Grain::Instruction => true,
+        Grain::Line => begins_by(lab, notes, node, step, began, before, behind),
+    }
+}
+
+/// Whether the newest event completes a move, with the call from which the node is to return after it, by the cells of the
+/// words before and after the event.
+fn is_moved_by(
+    lab: &Lab,
+    notes: &Notes,
+    by: &Stepping,
+    call: Option<usize>,
+    before: Option<u8>,
+    behind: Option<u8>,
+    made: &Made,
+) -> bool
+    requires newest { IsNewestMade lab.now made.now }
+    requires call { is_step_of by.now.node.number made.now ≡ true → call ≡ call_behind lab.now by.now.node by.now.over by.now.call }
+    requires behind { behind ≡ word_seen by.now.node before made.now lab.now }
+    ensures { result ≡ is_moved_by notes.now by.now before made.now lab.now }
+{
+    if !is_step_of(made, by.node) {
+        return false;
+    }
+    if call.is_some() {
+        return false;
+    }
+    let step = newest_step(lab, made, by.node);
+    reaches_by(
+        lab, notes, by.node, by.grain, by.began, step, before, behind,
+    )
+}
+
+impl<'a> Watch for Steps<'a> {
+    ghost use Rattle.std.specs.Prelude.{Some, ◌||◌};
+    ghost use Rattle.ga_dap_breakpoints.specs.inner.Cells.{ends_by, with_hits};
+    ghost use Rattle.ga_dap_breakpoints.specs.Stepping.{step_seen};
+    ghost use Rattle.ga_dap_breakpoints.specs.inner.Words.{word_seen, is_moved_by};
+
+    ghost ends = { λ w told s. ends_by w.halting.halts.breakpoints.now w.halting.cells w.halting.halts.tally w.halting.halts.stops (Some w.stepping.node) told s || is_moved_by w.notes.now w.stepping w.word told s };
+
+    ghost seen = { λ w told s. record w { halting = with_hits w.halting told s; stepping = step_seen w.stepping told s; word = word_seen w.stepping.node w.word told s } };
+
+    fn sees(&mut self, made: &Made, lab: &Lab) -> bool {
+        let by = self.stepping;
+        let before = self.word;
+        let next = step_seen(lab, by, made);
+        let behind = word_seen(lab, by.node, before, made);
+        self.stepping = next;
+        self.word = behind;
+        see_halt(&mut self.halting, Some(by.node), made, lab)
+            || is_moved_by(lab, self.notes, &by, next.call, before, behind, made)
+    }
+}
+
+/// The cell from which the word of a node came, where a move of it is by lines.
+fn word_begun(lab: &Lab, by: &Stepping) -> Option<u8>
+    ensures { by.now.grain ≡ Line → result ≡ fetched_cell lab.now by.now.node (steps_of by.now.node.number lab.now.kept) }
+{
+    match by.grain {
+        Grain::Instruction => None,
+        Grain::Line => word_behind(lab, by.node, lab.steps(by.node)),
+    }
+}
+
+/// A slice of a move of a node, of at most `most` events. The node makes each event that it has; only while it has none do
+/// others make theirs, in the order of the schedule. The slice ends when the move is complete, a breakpoint is hit at any node,
+/// or a stop ends it. The same move and the returned schedule continue a slice that was cut. The time is linear in the number
+/// of events and of breakpoints; in addition in how long each node that arrives at the slot number of a breakpoint is within
+/// its word, and for a move by lines, once in a slice, in how long the node is within its word and in the length of its calls.
+pub fn step_on(
+    lab: &mut Lab,
+    schedule: Schedule,
+    stepping: &mut Stepping,
+    notes: &Notes,
+    halts: Halts<'_>,
+    most: u64,
+) -> Went
+    ensures state { running lab.new result.schedule ≡ after_first (Some stepping.old.node) (running lab.old schedule) result.events }
+    ensures stepping { stepping.new ≡ stepped_on stepping.old (running lab.old schedule) result.events }
+    ensures hits { result.tally ≡ tally_on (Some stepping.old.node) halts.entry.breakpoints.now halts.entry.tally (running lab.old schedule) result.events }
+    ensures most { result.events ≤ most }
+    ensures end { HasGone (stepping_on notes.now halts.entry.breakpoints.now halts.entry.tally halts.entry.stops stepping.old (running lab.old schedule)) (running lab.old schedule) most result.events result.halt }
+{
+    let node = stepping.node;
+    // It is called for its contract only: the history can be replayed.
+    lab.chip();
+    let mut watch = Steps {
+        notes,
+        halting: Halting {
+            halts,
+            cells: [None; NODES],
+        },
+        stepping: *stepping,
+        word: word_begun(lab, stepping),
+    };
+    let run = run_watched(lab, schedule, Some(node), most, &mut watch);
+    *stepping = watch.stepping;
+    went_by(run, &watch.halting.halts, Some(node))
+}

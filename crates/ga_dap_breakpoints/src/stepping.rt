@@ -1,0 +1,106 @@
+//! Steps of one node.
+
+ghost use Rattle.std.specs.Prelude.{◌≡◌, ◌==◌, ◌-◌, ◌<◌, map, IfSome};
+ghost use Rattle.std.specs.List.{range_with_len};
+ghost use Rattle.ga_event.specs.Told.{steps_of};
+ghost use Rattle.ga_dap_breakpoints.specs.Stepping.{is_open_at, open_place};
+
+use ga_dap_views::{is_calling, put_by};
+use ga_grid::NodeId;
+use ga_lab::Lab;
+
+/// The granularity of a step (Debug Adapter Protocol, "SteppingGranularity").
+#[derive(Clone, Copy, PartialEq, Eq, Debug)]
+pub enum Grain {
+    /// To the node's next step.
+    Instruction,
+    /// To the beginning of a line of its source: another line, or the same one after a jump.
+    Line,
+}
+
+/// A move of a node that is under way. It is kept from one slice of it to the next.
+#[derive(Clone, Copy, PartialEq, Eq, Debug)]
+pub struct Stepping {
+    /// The node.
+    pub node: NodeId,
+    /// The granularity of the move.
+    pub grain: Grain,
+    /// Whether the calls that the node makes are stepped over.
+    pub over: bool,
+    /// The place on the return stack, from 0 on, of the entry of the call from which the node is to return first.
+    pub call: Option<usize>,
+    /// How many steps of the node were in the history when the move began: a line continues after a call that the node made
+    /// since.
+    pub began: u32,
+}
+
+/// Whether the entry at a place of the return stack of a node is that of a call.
+fn is_open_at(lab: &Lab, node: NodeId, place: u8) -> bool
+    requires { place < 9 }
+    ensures { result ≡ is_open_at lab.now node place }
+{
+    let step = put_by(lab, node, lab.steps(node), place);
+    is_calling(lab, node, step)
+}
+
+/// The place of the newest call from which a node did not come back.
+fn open_place(lab: &Lab, node: NodeId) -> Option<usize>
+    ensures { result ≡ open_place lab.now node }
+{
+    (0..9).position(|place| is_open_at(lab, node, place))
+}
+
+impl Stepping {
+    ghost use Rattle.std.specs.Prelude.{◌≡◌};
+    ghost use Rattle.ga_dap_breakpoints.specs.Stepping.{step_in, step_over, out_from, step_out};
+
+    /// `stepIn` (Debug Adapter Protocol, "StepInRequest").
+    pub fn step_in(lab: &Lab, node: NodeId, grain: Grain) -> Self
+        ensures { result ≡ step_in lab.now node grain }
+    {
+        Stepping {
+            node,
+            grain,
+            over: false,
+            call: None,
+            began: lab.steps(node),
+        }
+    }
+
+    /// `next` (Debug Adapter Protocol, "NextRequest"): a move of a node over the calls that it makes.
+    pub fn next(lab: &Lab, node: NodeId, grain: Grain) -> Self
+        ensures { result ≡ step_over lab.now node grain }
+    {
+        Stepping {
+            node,
+            grain,
+            over: true,
+            call: None,
+            began: lab.steps(node),
+        }
+    }
+
+    /// A move that returns from a call, by the place of its entry.
+    fn out_from(lab: &Lab, node: NodeId, newest: usize) -> Self
+        ensures { result ≡ out_from lab.now node newest }
+    {
+        Stepping {
+            node,
+            grain: Grain::Instruction,
+            over: false,
+            call: Some(newest),
+            began: lab.steps(node),
+        }
+    }
+
+    /// `stepOut` (Debug Adapter Protocol, "StepOutRequest"): to where the node came back from the newest call that is open; none where no call is. Takes
+    /// time by how many steps the node made since that call, or since the load.
+    pub fn step_out(lab: &Lab, node: NodeId) -> Option<Self>
+        ensures { result ≡ step_out lab.now node }
+    {
+        match open_place(lab, node) {
+            Some(newest) => Some(Stepping::out_from(lab, node, newest)),
+            None => None,
+        }
+    }
+}

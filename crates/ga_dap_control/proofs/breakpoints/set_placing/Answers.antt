@@ -1,0 +1,18 @@
+use Rattle.std.proofs.Common.{◌∙◌, List, map, refl, ap}
+use Rattle.serde_json.specs.View.{view}
+use Rattle.ga_dap_queries.specs.Sending.{answered}
+use Rattle.ga_dap_control.specs.declared.configuration.SetBy.{SetBy}
+use Rattle.ga_dap_control.proofs.breakpoints.set_placing.Goals as goal
+
+pub returns-clause-sent : goal.returns-clause-sent
+returns-clause-sent c = (
+  answered c.args.request.now (view c.in_ok-body.body),
+  ap (answered c.args.request.now) c.in_ok-body.ensures,
+  record {
+    placed = refl;
+    points = c.in_ok-points.ensures ∙ ap (λ (z : List SetBy). map (λ (one : SetBy). one.breakpoint) z) c.as_slice.ensures.value;
+    next = refl;
+    others = refl;
+  },
+  c.in_ok-respond.ensures.sent,
+)

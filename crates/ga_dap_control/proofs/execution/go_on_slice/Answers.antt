@@ -1,0 +1,18 @@
+use Rattle.std.proofs.Common.{◌∙◌, None, refl}
+use Rattle.ga_scheduler.specs.Running.{Running, running}
+use Rattle.ga_dap_control.specs.Slices.{slice_limit}
+use Rattle.ga_dap_control.proofs.Answered.{gone_by, hits_so}
+use Rattle.ga_dap_control.proofs.execution.go_on_slice.Goals as goal
+
+pub returns : goal.returns
+returns c =
+    let r : Running = running c.args.program.now.lab c.args.execution.now.schedule in
+    let counted = c.halts-halts.ensures.hits ∙ c.tally_begun-tally.ensures in (
+      c.go_on-went.ensures.state,
+      c.go_on-went.ensures.most,
+      hits_so None _ _ _ _ r c.go_on-went.result.events c.go_on-went.result.tally c.halts-halts.ensures.points counted c.go_on-went.ensures.hits,
+      gone_by _ _ _ _ _ _ r slice_limit c.go_on-went.result.events c.go_on-went.result.halt c.halts-halts.ensures.points counted c.halts-halts.ensures.stops
+          c.go_on-went.ensures.end,
+      refl,
+      refl,
+    )

@@ -1,0 +1,17 @@
+use Rattle.std.proofs.Common.{◌∙◌, ap}
+use Rattle.ga_dap_control.specs.declared.execution.Execution.{Execution}
+use Rattle.ga_dap_control.specs.Slices.{goal_behind}
+use Rattle.ga_dap_control.proofs.execution.make_events.Goals as goal
+
+pub returns : goal.returns
+returns c = (
+  c.advance-went.result,
+  c.advance-went.new.execution,
+  c.stuck_of-now.result,
+  c.newly_stuck-stuck.result,
+  c.advance-went.ensures,
+  c.stuck_of-now.ensures,
+  c.newly_stuck-stuck.ensures,
+  c.stop_by-stop.ensures,
+  c.end_for.ensures ∙ ap (λ (z : Execution). goal_behind z c.stop_by-stop.result) c.keep_reported.ensures,
+)

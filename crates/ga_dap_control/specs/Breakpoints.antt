@@ -1,0 +1,94 @@
+-- The requests that set breakpoints (Debug Adapter Protocol, "SetBreakpointsRequest", "SetFunctionBreakpointsRequest", "SetInstructionBreakpointsRequest",
+-- "SetDataBreakpointsRequest", "SetExceptionBreakpointsRequest"). Each replaces those that the same request set before.
+use Rattle.std.specs.Prelude.{◌≡◌, ◌==◌, ℕ, List, [], map, filter, length, replicate, Bool, true, false, not, ◌||◌, codes, bytes_eq, string_bytes, Option, Some, None}
+use Rattle.std.specs.List.{list_all, list_any}
+use Rattle.serde_json.specs.Data.{Data, boolean, string, object, array, no_members, member}
+use Rattle.serde_json.specs.View.{view, items_of}
+use Rattle.serde_json.specs.Find.{get, as_str}
+use Rattle.ga_text.specs.Lines.{Text}
+use Rattle.ga_dap_views.specs.Json.{object_of}
+use Rattle.ga_dap_breakpoints.specs.declared.breakpoint.Breakpoint.{Breakpoint}
+use Rattle.ga_dap_protocol.specs.Messages.{member_text}
+use Rattle.ga_dap_protocol.specs.declared.request.ClientRequest.{ClientRequest}
+use Rattle.ga_dap_queries.specs.declared.debuggee.Debuggee.{Debuggee}
+use Rattle.ga_dap_control.specs.declared.configuration.Configuration.{Configuration}
+use Rattle.ga_dap_control.specs.declared.configuration.Family.{Family}
+use Rattle.ga_dap_control.specs.declared.configuration.Family.TheVariants as family
+use Rattle.ga_dap_control.specs.declared.configuration.SetBy.{SetBy}
+use Rattle.ga_dap_control.specs.Placing.{Placement, Places}
+use Rattle.ga_dap_queries.specs.Arguments.{member_values}
+use Rattle.ga_dap_queries.specs.Sending.{Message, answered, acknowledged, refused_response}
+
+-- ---- breakpoints
+
+-- a request that sets breakpoints, by a number; and another request set a breakpoint
+abbrev pub family_number : Family → ℕ
+family_number family.Source = 0
+family_number family.Function = 1
+family_number family.Instruction = 2
+family_number family.Data = 3
+
+abbrev pub is_of_another : Family → SetBy → Bool
+is_of_another kind one = not (family_number one.family == family_number kind)
+
+-- the breakpoints that other requests set remain, and the requested ones follow them
+abbrev pub left_by : Family → Configuration → Placement
+left_by kind set = record { told = []; placed = filter (is_of_another kind) set.points.placed.items; next = set.points.next_id }
+
+-- these breakpoints are set now, and what else the client set stays
+pub record IsSetTo (placement : Placement) (set new : Configuration) : Type 0 where
+  pub placed : new.points.placed.items ≡ placement.placed
+  pub points : new.points.points.items ≡ map (λ (one : SetBy). one.breakpoint) placement.placed
+  pub next : new.points.next_id ≡ placement.next
+  pub others : new ≡ record set { points = new.points }
+
+abbrev pub breakpoints_body : List Data → Data
+breakpoints_body told = object_of (codes "breakpoints") (array (items_of told))
+
+abbrev pub SetsPoints : Debuggee → Family → Configuration → ClientRequest → Message → Configuration → Type 0
+SetsPoints p kind set request message new =
+    (placement : Placement) × Places p kind (member_values (codes "breakpoints") (view request.arguments)) (left_by kind set) placement
+    × (message ≡ answered request (breakpoints_body placement.told)) × IsSetTo placement set new
+
+-- `setBreakpoints`, for the program's own file; in another no breakpoint can stand
+abbrev pub is_same_text : Text → Option Text → Bool
+is_same_text name None = false
+is_same_text name (Some text) = bytes_eq text name
+
+abbrev pub is_own_path : Text → Option Data → Bool
+is_own_path path None = false
+is_own_path path (Some source) = is_same_text path (member_text (codes "path") source)
+
+abbrev pub is_own_file : Debuggee → Data → Bool
+is_own_file p d = is_own_path (string_bytes p.path) (get (codes "source") d)
+
+unfoldable pub elsewhere : Data
+elsewhere = object (member (codes "message") (string (codes "the program is another file")) (member (codes "verified") (boolean false) no_members))
+
+abbrev pub SetsLinesIf : Bool → Debuggee → Configuration → ClientRequest → Message → Configuration → Type 0
+SetsLinesIf true p set request message new = SetsPoints p family.Source set request message new
+SetsLinesIf false p set request message new =
+    (message ≡ answered request (breakpoints_body (replicate (length (member_values (codes "breakpoints") (view request.arguments))) elsewhere))) × (new ≡ set)
+
+abbrev pub SetsLines : Debuggee → Configuration → ClientRequest → Message → Configuration → Type 0
+SetsLines p set request message new = SetsLinesIf (is_own_file p (view request.arguments)) p set request message new
+
+-- ---- filters
+
+abbrev pub is_text : Text → Data → Bool
+is_text name d = is_same_text name (as_str d)
+
+-- a filter: a node that stops, or that can never go on, ends a run
+abbrev pub is_filter : Data → Bool
+is_filter d = is_text (codes "stop") d || is_text (codes "stuck") d
+
+-- the filters that are asked for are set, where each is one
+abbrev pub SetsFiltersIf : Bool → List Data → Configuration → ClientRequest → Message → Configuration → Type 0
+SetsFiltersIf true names set request message new =
+    (message ≡ acknowledged request) × (new ≡ record set { stops = list_any (is_text (codes "stop")) names; stuck = list_any (is_text (codes "stuck")) names })
+SetsFiltersIf false names set request message new =
+    (message ≡ refused_response request (codes "setExceptionBreakpoints: the filters are stop and stuck")) × (new ≡ set)
+
+abbrev pub SetsFilters : Configuration → ClientRequest → Message → Configuration → Type 0
+SetsFilters set request message new =
+    let names = member_values (codes "filters") (view request.arguments) in SetsFiltersIf (list_all is_filter names) names set request message new

@@ -1,0 +1,8 @@
+-- What came of the breakpoints of a request so far.
+use Rattle.std.specs.Prelude.{map}
+use Rattle.serde_json.specs.View.{view}
+use Rattle.ga_dap_control.specs.declared.placing.Placing.{Placing}
+use Rattle.ga_dap_control.specs.Placing.{Placement}
+
+abbrev pub placement_of : Placing → Placement
+placement_of p = record { told = map view p.told.items; placed = p.placed.items; next = p.next }

@@ -1,0 +1,193 @@
+//! The requests that go back.
+
+ghost use Rattle.std.specs.Prelude.{◌≡◌, ◌++◌, length, string_bytes, slice_index_or, IfOk, OnOk};
+ghost use Rattle.serde_json.specs.View.{view};
+ghost use Rattle.ga_event.specs.Told.{steps_of};
+ghost use Rattle.ga_dap_control.specs.Back.{grain_asked, stepped_by, reversed_by, AreStepsOf, WentBack, gone_line, gone_with_it, gone_of, gone_below, gone_head, gone_words};
+
+use crate::moving::grain_asked;
+use ga_dap_breakpoints::{Breakpoint, Grain, reverse_to, step_back, step_back_line};
+use ga_dap_queries::{Debuggee, add_name};
+use ga_grid::NodeId;
+use ga_lab::Lab;
+use serde_json::Value;
+use std::alloc::{AllocError, Global};
+
+/// What went where a node was gone back: how many steps of each node were kept before, and how many events went.
+#[derive(Drop)]
+pub struct Gone {
+    pub node: NodeId,
+    pub before: [u32; 144],
+    pub removed: u32,
+}
+
+/// How many steps of each node are kept.
+fn steps_kept(lab: &Lab) -> [u32; 144]
+    ensures steps { AreStepsOf lab.now result }
+    ensures size { length result ≡ 144 }
+{
+    let mut steps = [0u32; 144];
+    for number in 0..144u8 {
+        let kept = lab.steps(NodeId::new(number));
+        steps[number as usize] = kept;
+    }
+    steps
+}
+
+/// Rolls a node back by a line or a step.
+fn step_by(program: &mut Debuggee, node: NodeId, grain: Grain)
+    ensures { program.new ≡ stepped_by grain program.old node }
+{
+    match grain {
+        Grain::Instruction => {
+            step_back(&mut program.lab, node);
+        }
+        Grain::Line => step_line(program, node),
+    }
+}
+
+/// Rolls a node back by a line.
+fn step_line(program: &mut Debuggee, node: NodeId)
+    ensures { program.new ≡ stepped_by Grain.Line program.old node }
+{
+    match &program.source {
+        Some(notes) => {
+            step_back_line(&mut program.lab, notes, node);
+        }
+        None => {
+            step_back_line(&mut program.lab, &program.unsaid, node);
+        }
+    }
+}
+
+/// Rolls a node back by a line or a step, and returns what was removed.
+pub fn step_node_back(program: &mut Debuggee, node: NodeId, arguments: &Value) -> Gone
+    ensures program { program.new ≡ stepped_by (grain_asked program.old (view arguments.now)) program.old node }
+    ensures node { result.node ≡ node }
+    ensures went { WentBack program.old.lab program.new.lab result.before result.removed }
+{
+    let before = steps_kept(&program.lab);
+    let kept = program.lab.counts().kept;
+    let grain = grain_asked(program, arguments);
+    step_by(program, node, grain);
+    let removed = kept.saturating_sub(program.lab.counts().kept);
+    Gone {
+        node,
+        before,
+        removed,
+    }
+}
+
+/// Rolls a node back to the newest step that hit one of its breakpoints, and returns what was removed.
+pub fn reverse_node(program: &mut Debuggee, node: NodeId, points: &[Breakpoint]) -> Gone
+    ensures program { program.new ≡ reversed_by program.old node points.now }
+    ensures node { result.node ≡ node }
+    ensures went { WentBack program.old.lab program.new.lab result.before result.removed }
+{
+    let before = steps_kept(&program.lab);
+    let kept = program.lab.counts().kept;
+    reverse_to(&mut program.lab, node, points);
+    let removed = kept.saturating_sub(program.lab.counts().kept);
+    Gone {
+        node,
+        before,
+        removed,
+    }
+}
+
+/// The line about the node that was rolled back.
+fn gone_head(alloc: Global, lab: &Lab, gone: &Gone) -> Result<String, AllocError>
+    ensures { IfOk result (λ text. string_bytes text ≡ gone_head gone.now.node gone.now.removed lab.now) }
+{
+    let kept = lab.counts().kept;
+    let step = u64::from(lab.steps(gone.node)) + 1;
+    let removed = gone.removed;
+    let mut text = String::from_str(alloc, "rewind ")?;
+    add_name(&mut text, gone.node)?;
+    write!(text, " {step}: removed {removed} kept {kept}\n")?;
+    Ok(text)
+}
+
+/// The lines that tell what went.
+pub fn gone_text(alloc: Global, lab: &Lab, gone: &Gone) -> Result<String, AllocError>
+    ensures { IfOk result (λ text. string_bytes text ≡ gone_words gone.now.node gone.now.before gone.now.removed lab.now) }
+{
+    let mut text = gone_head(alloc, lab, gone)?;
+    add_others(alloc, &mut text, lab, gone)?;
+    Ok(text)
+}
+
+/// Adds a line for each other node of which steps went.
+fn add_others(alloc: Global, text: &mut String, lab: &Lab, gone: &Gone) -> Result<(), AllocError>
+    ensures { OnOk result (string_bytes text.new ≡ string_bytes text.old ++ gone_below gone.now.node.number gone.now.before lab.now 144) }
+{
+    'nodes: for number in 0..144u8 {
+        let node = NodeId::new(number);
+        add_gone(alloc, text, lab, gone, node)?;
+    }
+    Ok(())
+}
+
+/// Adds the steps of a node that went, where it is another one and any did.
+fn add_gone(
+    alloc: Global,
+    text: &mut String,
+    lab: &Lab,
+    gone: &Gone,
+    node: NodeId,
+) -> Result<(), AllocError>
+    ensures { OnOk result (string_bytes text.new ≡ string_bytes text.old ++ gone_of gone.now.node.number gone.now.before lab.now node.number) }
+{
+    if node.number == gone.node.number {
+        return Ok(());
+    }
+    add_other(
+        alloc,
+        text,
+        node,
+        gone.before[node.index()],
+        lab.steps(node),
+    )
+}
+
+/// The line about another node.
+fn gone_line(alloc: Global, node: NodeId, first: u64, before: u32) -> Result<String, AllocError>
+    ensures { IfOk result (λ text. string_bytes text ≡ gone_line node.number first before) }
+{
+    let mut text = String::from_str(alloc, "  with it ")?;
+    add_name(&mut text, node)?;
+    write!(text, " {first} to {before}\n")?;
+    Ok(text)
+}
+
+/// Adds the line about another node.
+fn add_line(
+    alloc: Global,
+    text: &mut String,
+    node: NodeId,
+    first: u64,
+    before: u32,
+) -> Result<(), AllocError>
+    ensures { OnOk result (string_bytes text.new ≡ string_bytes text.old ++ gone_line node.number first before) }
+{
+    let line = gone_line(alloc, node, first, before)?;
+    text.push_str(line.as_str())?;
+    Ok(())
+}
+
+/// Adds the steps of another node that went, where any did.
+fn add_other(
+    alloc: Global,
+    text: &mut String,
+    node: NodeId,
+    before: u32,
+    left: u32,
+) -> Result<(), AllocError>
+    ensures { OnOk result (string_bytes text.new ≡ string_bytes text.old ++ gone_with_it node.number before left) }
+{
+    if before <= left {
+        return Ok(());
+    }
+    let first = u64::from(left) + 1;
+    add_line(alloc, text, node, first, before)
+}

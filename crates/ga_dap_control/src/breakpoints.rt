@@ -1,0 +1,249 @@
+//! The requests that set breakpoints.
+
+ghost use Rattle.std.specs.Prelude.{◌≡◌, [], codes, map, length, replicate, IfOk, OnOk, OnErr};
+ghost use Rattle.std.specs.List.{list_all, list_any};
+ghost use Rattle.serde_json.specs.View.{view};
+ghost use Rattle.serde_json.specs.declared.value.Value.{Value as AValue};
+ghost use Rattle.ga_dap_control.specs.Placing.{Places};
+ghost use Rattle.ga_dap_control.specs.Breakpoints.{left_by, breakpoints_body, elsewhere, is_own_file, is_text, is_filter, IsSetTo, SetsFiltersIf, SetsFilters, SetsLines, SetsPoints};
+ghost use Rattle.ga_dap_control.specs.inner.{placement_of};
+ghost use Rattle.ga_dap_queries.specs.Arguments.{member_values};
+ghost use Rattle.ga_dap_queries.specs.Sending.{Sends, Message, answered};
+
+use crate::configuration::{Configuration, Family, Points, SetBy, breakpoints_of};
+use crate::placing::{Placing, place_all};
+use ga_dap_protocol::{ClientRequest, Outbox, text_at};
+use ga_dap_queries::{Debuggee, values_at};
+use serde_json::{Map, Value, json, push, put};
+use std::alloc::{AllocError, Global};
+
+/// Whether a request speaks of the program's own file.
+fn is_own_file(program: &Debuggee, arguments: &Value) -> bool
+    ensures { result ≡ is_own_file program.now (view arguments.now) }
+{
+    let Some(source) = arguments.get("source") else {
+        return false;
+    };
+    match text_at(source, "path") {
+        Some(path) => path == program.path.as_str(),
+        None => false,
+    }
+}
+
+/// A breakpoint in another file.
+#[tactic(auto, unfolding(crate::specs::Breakpoints::elsewhere))]
+fn elsewhere(alloc: Global) -> Result<Value, AllocError>
+    ensures { IfOk result (λ v. view v ≡ elsewhere) }
+{
+    json!(in alloc; {"message": "the program is another file", "verified": false})
+}
+
+/// What is sent for each breakpoint if the request names another file.
+#[tactic(auto, using(std::proofs::lemmas::List::map_push, std::proofs::lemmas::List::replicate_more))]
+fn place_nowhere(alloc: Global, count: usize) -> Result<Vec<Value>, AllocError>
+    ensures { IfOk result (λ list. map view list.items ≡ replicate count elsewhere) }
+{
+    let mut list = Vec::new(alloc);
+    'asked: for _place in 0..count {
+        let told = elsewhere(alloc)?;
+        push(&mut list, told)?;
+    }
+    Ok(list)
+}
+
+fn breakpoints_body(alloc: Global, list: Vec<Value>) -> Result<Value, AllocError>
+    ensures { IfOk result (λ v. view v ≡ breakpoints_body (map view list.items)) }
+{
+    let mut map = Map::new(alloc);
+    put(&mut map, alloc, "breakpoints", Value::Array(list))?;
+    Ok(Value::Object(map))
+}
+
+/// `setBreakpoints`: the breakpoints on lines of the file are replaced.
+pub fn set_lines(
+    alloc: Global,
+    program: &Debuggee,
+    settings: &mut Configuration,
+    request: &ClientRequest,
+    out: &mut Outbox,
+) -> Result<(), AllocError>
+    ensures sent { OnOk result ((message : Message) × SetsLines program.now settings.old request.now message settings.new × Sends out.old message out.new) }
+    ensures kept { OnErr result (settings.new ≡ settings.old) }
+{
+    if is_own_file(program, &request.arguments) {
+        set_points(alloc, program, settings, Family::Source, request, out)
+    } else {
+        tell_nowhere(alloc, request, out)
+    }
+}
+
+/// How many breakpoints are asked for.
+#[tactic(auto, using(crate::proofs::Placed::counted))]
+fn count_asked(arguments: &Value) -> usize
+    ensures { result ≡ length (member_values (codes "breakpoints") (view arguments.now)) }
+{
+    values_at(arguments, "breakpoints").len()
+}
+
+/// Reports that no breakpoint can be in another file.
+fn tell_nowhere(alloc: Global, request: &ClientRequest, out: &mut Outbox) -> Result<(), AllocError>
+    ensures sent { OnOk result (Sends out.old (answered request.now (breakpoints_body (replicate (length (member_values (codes "breakpoints") (view request.now.arguments))) elsewhere))) out.new) }
+    ensures err { OnErr result (out.new ≡ out.old) }
+{
+    let count = count_asked(&request.arguments);
+    let list = place_nowhere(alloc, count)?;
+    let body = breakpoints_body(alloc, list)?;
+    out.respond(request, body)
+}
+
+/// No breakpoint is placed yet after those that other requests set.
+fn placing_new(alloc: Global, placed: Vec<SetBy>, next: u64) -> Placing
+    ensures { placement_of result ≡ record { told = []; placed = placed.items; next = next } }
+{
+    Placing {
+        told: Vec::new(alloc),
+        placed,
+        next,
+    }
+}
+
+/// What comes of the breakpoints that are asked for.
+#[tactic(auto, using(crate::proofs::Placed::placed_so))]
+fn placing_of(
+    alloc: Global,
+    program: &Debuggee,
+    settings: &Configuration,
+    family: Family,
+    request: &ClientRequest,
+) -> Result<Placing, AllocError>
+    ensures { IfOk result (λ placing. Places program.now family (member_values (codes "breakpoints") (view request.now.arguments)) (left_by family settings.now) (placement_of placing)) }
+{
+    let placed = settings.points.left_by(alloc, family)?;
+    let mut placing = placing_new(alloc, placed, settings.points.next_id);
+    let asked = values_at(&request.arguments, "breakpoints");
+    place_all(alloc, program, family, asked, &mut placing)?;
+    Ok(placing)
+}
+
+/// Sets the breakpoints that were placed, and reports each.
+fn set_placing(
+    alloc: Global,
+    placing: Placing,
+    settings: &mut Configuration,
+    request: &ClientRequest,
+    out: &mut Outbox,
+) -> Result<(), AllocError>
+    ensures sent { OnOk result ((message : Message) × (message ≡ answered request.now (breakpoints_body (placement_of placing).told)) × IsSetTo (placement_of placing) settings.old settings.new × Sends out.old message out.new) }
+    ensures kept { OnErr result (settings.new ≡ settings.old) }
+{
+    let points = breakpoints_of(alloc, placing.placed.as_slice())?;
+    let Placing { told, placed, next } = placing;
+    let body = breakpoints_body(alloc, told)?;
+    out.respond(request, body)?;
+    settings.points = Points {
+        points,
+        placed,
+        next_id: next,
+    };
+    Ok(())
+}
+
+/// The breakpoints that one request set are replaced by those that are asked for.
+#[tactic(auto, using(ga_dap_queries::proofs::Sent::ok_then))]
+pub fn set_points(
+    alloc: Global,
+    program: &Debuggee,
+    settings: &mut Configuration,
+    family: Family,
+    request: &ClientRequest,
+    out: &mut Outbox,
+) -> Result<(), AllocError>
+    ensures sent { OnOk result ((message : Message) × SetsPoints program.now family settings.old request.now message settings.new × Sends out.old message out.new) }
+    ensures kept { OnErr result (settings.new ≡ settings.old) }
+{
+    let placing = placing_of(alloc, program, settings, family, request)?;
+    set_placing(alloc, placing, settings, request, out)
+}
+
+/// Whether an item is a text, this one.
+fn is_text(item: &Value, name: &str) -> bool
+    ensures { result ≡ is_text name.now (view item.now) }
+{
+    match item.as_str() {
+        Some(text) => text == name,
+        None => false,
+    }
+}
+
+/// Whether an item is the name of a filter.
+fn is_filter(item: &Value) -> bool
+    ensures { result ≡ is_filter (view item.now) }
+{
+    is_text(item, "stop") || is_text(item, "stuck")
+}
+
+fn each_is_filter(items: &[Value]) -> bool
+    ensures { result ≡ list_all (λ (item : AValue). is_filter (view item)) items.now }
+{
+    items.iter().all(|item| is_filter(item))
+}
+
+/// Whether each item is the name of a filter.
+fn are_filters(items: &[Value]) -> bool
+    ensures { result ≡ list_all is_filter (map view items.now) }
+{
+    each_is_filter(items)
+}
+
+fn one_is_text(items: &[Value], name: &str) -> bool
+    ensures { result ≡ list_any (λ (item : AValue). is_text name.now (view item)) items.now }
+{
+    items.iter().any(|item| is_text(item, name))
+}
+
+fn has_filter(items: &[Value], name: &str) -> bool
+    ensures { result ≡ list_any (is_text name.now) (map view items.now) }
+{
+    one_is_text(items, name)
+}
+
+/// Sets the filters that are asked for, where each item is the name of one.
+fn set_filters_if(
+    settings: &mut Configuration,
+    filters: &[Value],
+    known: bool,
+    request: &ClientRequest,
+    out: &mut Outbox,
+) -> Result<(), AllocError>
+    ensures sent { OnOk result ((message : Message) × SetsFiltersIf known (map view filters.now) settings.old request.now message settings.new × Sends out.old message out.new) }
+    ensures kept { OnErr result (settings.new ≡ settings.old) }
+{
+    if known {
+        let stops = has_filter(filters, "stop");
+        let stuck = has_filter(filters, "stuck");
+        out.acknowledge(request)?;
+        settings.stops = stops;
+        settings.stuck = stuck;
+        Ok(())
+    } else {
+        out.refuse(
+            request,
+            "setExceptionBreakpoints: the filters are stop and stuck",
+        )
+    }
+}
+
+/// `setExceptionBreakpoints`.
+#[tactic(auto, using(ga_dap_queries::proofs::Sent::ok_then, crate::proofs::Placed::filters_so))]
+pub fn set_filters(
+    settings: &mut Configuration,
+    request: &ClientRequest,
+    out: &mut Outbox,
+) -> Result<(), AllocError>
+    ensures sent { OnOk result ((message : Message) × SetsFilters settings.old request.now message settings.new × Sends out.old message out.new) }
+    ensures kept { OnErr result (settings.new ≡ settings.old) }
+{
+    let filters = values_at(&request.arguments, "filters");
+    let known = are_filters(filters);
+    set_filters_if(settings, filters, known, request, out)
+}

@@ -1,0 +1,196 @@
+//! What the client set: breakpoints, and which faults end a run.
+
+ghost use Rattle.std.specs.Prelude.{◌≡◌, map, IfOk};
+ghost use Rattle.ga_dap_control.specs.declared.configuration.SetBy.{SetBy as ASetBy};
+ghost use Rattle.ga_dap_control.specs.Breakpoints.{family_number, is_of_another};
+ghost use Rattle.ga_dap_control.specs.Stopping.{is_one_hit};
+
+use ga_dap_breakpoints::{Breakpoint, Halts, HitTally, has_been_hit};
+use ga_lab::{Lab, Made};
+use std::alloc::{AllocError, Global};
+
+/// Which request set a breakpoint.
+#[derive(Clone, Copy, PartialEq, Eq, Debug)]
+pub enum Family {
+    /// `setBreakpoints`.
+    Source,
+    /// `setFunctionBreakpoints`.
+    Function,
+    /// `setInstructionBreakpoints`.
+    Instruction,
+    /// `setDataBreakpoints`.
+    Data,
+}
+
+/// A breakpoint, with the request that set it, and the number by which the client knows it.
+#[derive(Clone, Copy, PartialEq, Eq, Debug)]
+pub struct SetBy {
+    pub breakpoint: Breakpoint,
+    pub family: Family,
+    pub id: u64,
+}
+
+/// The breakpoints that are set.
+#[derive(Drop)]
+pub struct Points {
+    pub points: Vec<Breakpoint>,
+    /// The breakpoints that are set, with who set them.
+    pub placed: Vec<SetBy>,
+    /// The number of the next breakpoint.
+    pub next_id: u64,
+}
+
+/// What the client set.
+#[derive(Drop)]
+pub struct Configuration {
+    /// The breakpoints.
+    pub points: Points,
+    /// Filter `stop`: a node that stops ends a run.
+    pub stops: bool,
+    /// Filter `stuck`: a node that can never go on ends a run.
+    pub stuck: bool,
+}
+
+fn family_number(family: Family) -> u8
+    ensures { result ≡ family_number family }
+{
+    match family {
+        Family::Source => 0,
+        Family::Function => 1,
+        Family::Instruction => 2,
+        Family::Data => 3,
+    }
+}
+
+/// Whether another request set a breakpoint.
+fn is_of_another(family: Family, one: SetBy) -> bool
+    ensures { result ≡ is_of_another family one }
+{
+    family_number(one.family) != family_number(family)
+}
+
+/// The breakpoints of a list, without who set them.
+pub(crate) fn breakpoints_of(alloc: Global, placed: &[SetBy]) -> Result<Vec<Breakpoint>, AllocError>
+    ensures { IfOk result (λ list. list.items ≡ map (λ (one : ASetBy). one.breakpoint) placed.now) }
+{
+    let mut list = Vec::new(alloc);
+    'placed: for one in placed {
+        list.push(one.breakpoint)?;
+    }
+    Ok(list)
+}
+
+/// Whether this event, the newest, hit a breakpoint and satisfied its hit condition.
+#[tactic(auto, unfolding(crate::specs::Stopping::is_one_hit))]
+fn is_one_hit(lab: &Lab, made: &Made, one: SetBy) -> bool
+    ensures { result ≡ is_one_hit made.now lab.now one }
+{
+    has_been_hit(lab, made, &one.breakpoint)
+}
+
+/// The numbers of some breakpoints.
+fn ids_of(alloc: Global, placed: &[SetBy]) -> Result<Vec<u64>, AllocError>
+    ensures { IfOk result (λ list. list.items ≡ map (λ (one : ASetBy). one.id) placed.now) }
+{
+    let mut list = Vec::new(alloc);
+    'placed: for one in placed {
+        list.push(one.id)?;
+    }
+    Ok(list)
+}
+
+impl Points {
+    ghost use Rattle.std.specs.Prelude.{◌≡◌, [], filter, IfOk};
+    ghost use Rattle.std.specs.List.{slice_get};
+    ghost use Rattle.ga_dap_control.specs.Breakpoints.{is_of_another};
+    ghost use Rattle.ga_dap_control.specs.Stopping.{is_one_hit, ids_hit};
+
+    /// No breakpoints.
+    pub fn none(alloc: Global) -> Self
+        ensures points { result.points.items ≡ [] }
+        ensures placed { result.placed.items ≡ [] }
+        ensures next { result.next_id ≡ 1 }
+    {
+        Points {
+            points: Vec::new(alloc),
+            placed: Vec::new(alloc),
+            next_id: 1,
+        }
+    }
+
+    /// The breakpoints that other requests set.
+    pub fn left_by(&self, alloc: Global, family: Family) -> Result<Vec<SetBy>, AllocError>
+        ensures { IfOk result (λ list. list.items ≡ filter (is_of_another family) self.now.placed.items) }
+    {
+        let mut list = Vec::new(alloc);
+        'placed: for one in &self.placed {
+            if is_of_another(family, *one) {
+                list.push(*one)?;
+            }
+        }
+        Ok(list)
+    }
+
+    /// The breakpoints that what was made, the newest event, hit as they are asked for.
+    fn hits(&self, alloc: Global, lab: &Lab, made: &Made) -> Result<Vec<SetBy>, AllocError>
+        ensures { IfOk result (λ list. list.items ≡ filter (is_one_hit made.now lab.now) self.now.placed.items) }
+    {
+        let mut list = Vec::new(alloc);
+        'placed: for one in &self.placed {
+            if is_one_hit(lab, made, *one) {
+                list.push(*one)?;
+            }
+        }
+        Ok(list)
+    }
+
+    /// The numbers of the breakpoints that what was made, the newest event, hit as they are asked for.
+    pub fn ids_hit(&self, alloc: Global, lab: &Lab, made: &Made) -> Result<Vec<u64>, AllocError>
+        ensures { IfOk result (λ ids. ids.items ≡ ids_hit made.now lab.now self.now.placed.items) }
+    {
+        let hits = self.hits(alloc, lab, made)?;
+        ids_of(alloc, hits.as_slice())
+    }
+
+    /// The breakpoint at a place.
+    pub fn point_at(&self, place: usize) -> Option<Breakpoint>
+        ensures { result ≡ slice_get self.now.points.items place }
+    {
+        match self.points.get(place) {
+            Some(point) => Some(*point),
+            None => None,
+        }
+    }
+}
+
+impl Configuration {
+    ghost use Rattle.std.specs.Prelude.{◌≡◌, [], true};
+
+    /// What is set before the client sets anything: no breakpoint, and each fault ends a run.
+    pub fn new(alloc: Global) -> Self
+        ensures points { result.points.points.items ≡ [] }
+        ensures placed { result.points.placed.items ≡ [] }
+        ensures next { result.points.next_id ≡ 1 }
+        ensures stops { result.stops ≡ true }
+        ensures stuck { result.stuck ≡ true }
+    {
+        Configuration {
+            points: Points::none(alloc),
+            stops: true,
+            stuck: true,
+        }
+    }
+
+    /// What ends a run early, where each breakpoint was hit so often.
+    pub fn halts(&self, tally: HitTally) -> Halts<'_>
+        ensures points { result.breakpoints.now ≡ self.now.points.points.items }
+        ensures stops { result.stops ≡ self.now.stops }
+        ensures hits { result.tally ≡ tally }
+    {
+        Halts {
+            breakpoints: self.points.points.as_slice(),
+            stops: self.stops,
+            tally,
+        }
+    }
+}

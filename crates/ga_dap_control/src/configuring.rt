@@ -1,0 +1,115 @@
+//! `configurationDone`.
+
+ghost use Rattle.std.specs.Prelude.{◌≡◌, OnOk, OnErr};
+ghost use Rattle.ga_dap_queries.specs.Sending.{SendsAll, Messages};
+ghost use Rattle.ga_causal.specs.Dependence.{is_marked};
+ghost use Rattle.ga_dap_queries.specs.Events.{IsFirstShown};
+ghost use Rattle.ga_dap_control.specs.Configuring.{AreShown, threads_told, BeginsSo, Configures, ConfiguresIf, ConfiguresOnce};
+
+use crate::execution::{Execution, Goal};
+use ga_dap_protocol::{ClientRequest, Outbox};
+use ga_dap_queries::{Debuggee, first_shown, shown_nodes, tell_changed, tell_stopped};
+use ga_grid::NodeId;
+use std::alloc::{AllocError, Global};
+
+/// The first node that has something to show; 000 where none has.
+pub(crate) fn first_of(program: &Debuggee) -> NodeId
+    ensures { IsFirstShown program.now.lab program.now.nodes.items result.number }
+{
+    first_shown(&program.lab, program.nodes.as_slice())
+}
+
+/// The nodes that have something to show.
+fn shown_of(program: &Debuggee) -> [bool; 144]
+    ensures { AreShown program.now (is_marked result) }
+{
+    shown_nodes(&program.lab, program.nodes.as_slice())
+}
+
+/// `configurationDone`: sends the threads; the chip is then stopped at load or runs.
+pub fn configure(
+    alloc: Global,
+    program: &Debuggee,
+    execution: &mut Execution,
+    request: &ClientRequest,
+    out: &mut Outbox,
+) -> Result<(), AllocError>
+    ensures sent { OnOk result ((messages : Messages) × Configures program.now execution.old request.now messages execution.new × SendsAll out.old messages out.new) }
+    ensures kept { OnErr result (execution.new ≡ execution.old) }
+{
+    let done = execution.is_configured;
+    configure_if(alloc, program, execution, request, done, out)
+}
+
+/// `configurationDone`: refused where it is done, and else carried out.
+fn configure_if(
+    alloc: Global,
+    program: &Debuggee,
+    execution: &mut Execution,
+    request: &ClientRequest,
+    done: bool,
+    out: &mut Outbox,
+) -> Result<(), AllocError>
+    ensures sent { OnOk result ((messages : Messages) × ConfiguresIf done program.now execution.old request.now messages execution.new × SendsAll out.old messages out.new) }
+    ensures kept { OnErr result (execution.new ≡ execution.old) }
+{
+    if done {
+        out.refuse(request, "configurationDone: it is done")
+    } else {
+        configure_once(alloc, program, execution, request, out)
+    }
+}
+
+/// Answers `configurationDone`, and sends the threads.
+fn tell_threads_started(
+    alloc: Global,
+    request: &ClientRequest,
+    now: &[bool; 144],
+    out: &mut Outbox,
+) -> Result<(), AllocError>
+    ensures { OnOk result (SendsAll out.old (threads_told request.now (is_marked now.now)) out.new) }
+{
+    out.acknowledge(request)?;
+    tell_changed(alloc, &[false; 144], now, out)
+}
+
+/// `configurationDone` for the first time: sends the threads; the chip is then stopped at load or runs.
+fn configure_once(
+    alloc: Global,
+    program: &Debuggee,
+    execution: &mut Execution,
+    request: &ClientRequest,
+    out: &mut Outbox,
+) -> Result<(), AllocError>
+    ensures sent { OnOk result ((messages : Messages) × ConfiguresOnce program.now execution.old request.now messages execution.new × SendsAll out.old messages out.new) }
+    ensures kept { OnErr result (execution.new ≡ execution.old) }
+{
+    let now = shown_of(program);
+    tell_threads_started(alloc, request, &now, out)?;
+    let stops = execution.stops_on_entry;
+    begin_so(alloc, program, execution, stops, out)
+}
+
+/// The chip is stopped at load, or runs.
+fn begin_so(
+    alloc: Global,
+    program: &Debuggee,
+    execution: &mut Execution,
+    stops: bool,
+    out: &mut Outbox,
+) -> Result<(), AllocError>
+    ensures sent { OnOk result ((messages : Messages) × BeginsSo stops program.now execution.old messages execution.new × SendsAll out.old messages out.new) }
+    ensures kept { OnErr result (execution.new ≡ execution.old) }
+{
+    if stops {
+        let first = first_of(program);
+        tell_stopped(alloc, "entry", "at load", first, out)?;
+        execution.is_configured = true;
+        Ok(())
+    } else {
+        execution.goal = Some(Goal::Continue);
+        execution.tally = None;
+        execution.is_configured = true;
+        Ok(())
+    }
+}

@@ -1,0 +1,159 @@
+//! What was launched, and the requests of it that make no event and take none back.
+
+ghost use Rattle.std.specs.Prelude.{◌≡◌, codes, OnOk, OnErr};
+ghost use Rattle.ga_dap_control.specs.Breakpoints.{SetsFilters, SetsLines, SetsPoints};
+ghost use Rattle.ga_dap_control.specs.Requests.{Sets, DoesInPlace};
+ghost use Rattle.ga_dap_queries.specs.Sending.{Sends, SendsAll, Messages, refused_response};
+
+use crate::breakpoints::{set_filters, set_lines, set_points};
+use crate::configuration::{Configuration, Family};
+use crate::configuring::configure;
+use crate::execution::Execution;
+use crate::moving::{StepKind, begin_continue, begin_step, pause};
+use ga_dap_protocol::{ClientRequest, Outbox};
+use ga_dap_queries::{
+    Debuggee, RequestName, tell_data_info, tell_exception, tell_instructions, tell_scopes,
+    tell_stack, tell_threads, tell_variables,
+};
+use std::alloc::{AllocError, Global};
+
+/// What was launched, what the client set of it, and its run.
+#[derive(Drop)]
+pub struct Launched {
+    pub program: Debuggee,
+    pub settings: Configuration,
+    pub execution: Execution,
+}
+
+/// `setBreakpoints`. Hits are counted anew.
+#[tactic(auto, using(crate::proofs::Answered::sets_so))]
+fn set_lines_of(
+    alloc: Global,
+    launched: &mut Launched,
+    request: &ClientRequest,
+    out: &mut Outbox,
+) -> Result<(), AllocError>
+    ensures sent { OnOk result ((messages : Messages) × Sets (SetsLines launched.old.program launched.old.settings request.now) launched.old messages launched.new × SendsAll out.old messages out.new) }
+    ensures kept { OnErr result (launched.new ≡ launched.old) }
+{
+    let settings = &mut launched.settings;
+    set_lines(alloc, &launched.program, settings, request, out)?;
+    launched.execution.tally = None;
+    Ok(())
+}
+
+/// Sets the breakpoints on no line that a request asks for. Hits are counted anew.
+fn set_points_of(
+    alloc: Global,
+    launched: &mut Launched,
+    family: Family,
+    request: &ClientRequest,
+    out: &mut Outbox,
+) -> Result<(), AllocError>
+    ensures sent { OnOk result ((messages : Messages) × Sets (SetsPoints launched.old.program family launched.old.settings request.now) launched.old messages launched.new × SendsAll out.old messages out.new) }
+    ensures kept { OnErr result (launched.new ≡ launched.old) }
+{
+    let settings = &mut launched.settings;
+    set_points(alloc, &launched.program, settings, family, request, out)?;
+    launched.execution.tally = None;
+    Ok(())
+}
+
+/// `setExceptionBreakpoints`. Hits are counted anew.
+#[tactic(auto, using(crate::proofs::Answered::sets_so))]
+fn set_filters_of(
+    launched: &mut Launched,
+    request: &ClientRequest,
+    out: &mut Outbox,
+) -> Result<(), AllocError>
+    ensures sent { OnOk result ((messages : Messages) × Sets (SetsFilters launched.old.settings request.now) launched.old messages launched.new × SendsAll out.old messages out.new) }
+    ensures kept { OnErr result (launched.new ≡ launched.old) }
+{
+    set_filters(&mut launched.settings, request, out)?;
+    launched.execution.tally = None;
+    Ok(())
+}
+
+/// Answers a request that makes no event and takes none back.
+pub fn answer_in_place(
+    alloc: Global,
+    launched: &mut Launched,
+    command: RequestName,
+    request: &ClientRequest,
+    out: &mut Outbox,
+) -> Result<(), AllocError>
+    ensures sent { OnOk result ((messages : Messages) × DoesInPlace command launched.old request.now messages launched.new × SendsAll out.old messages out.new) }
+    ensures kept { OnErr result (launched.new ≡ launched.old) }
+{
+    match command {
+        RequestName::SetBreakpoints => set_lines_of(alloc, launched, request, out),
+        RequestName::SetFunctionBreakpoints => {
+            set_points_of(alloc, launched, Family::Function, request, out)
+        }
+        RequestName::SetInstructionBreakpoints => {
+            set_points_of(alloc, launched, Family::Instruction, request, out)
+        }
+        RequestName::SetDataBreakpoints => {
+            set_points_of(alloc, launched, Family::Data, request, out)
+        }
+        RequestName::DataBreakpointInfo => tell_data_info(alloc, request, out),
+        RequestName::SetExceptionBreakpoints => set_filters_of(launched, request, out),
+        RequestName::ConfigurationDone => configure(
+            alloc,
+            &launched.program,
+            &mut launched.execution,
+            request,
+            out,
+        ),
+        RequestName::Threads => tell_threads(alloc, &launched.program, request, out),
+        RequestName::StackTrace => tell_stack(alloc, &launched.program, request, out),
+        RequestName::Scopes => tell_scopes(alloc, request, out),
+        RequestName::Variables => tell_variables(alloc, &launched.program, request, out),
+        RequestName::ExceptionInfo => tell_exception(alloc, &launched.program, request, out),
+        RequestName::Disassemble => tell_instructions(alloc, &launched.program, request, out),
+        RequestName::Continue => begin_continue(alloc, &mut launched.execution, request, out),
+        RequestName::Next => begin_step(
+            &launched.program,
+            &mut launched.execution,
+            request,
+            StepKind::Over,
+            out,
+        ),
+        RequestName::StepIn => begin_step(
+            &launched.program,
+            &mut launched.execution,
+            request,
+            StepKind::In,
+            out,
+        ),
+        RequestName::StepOut => begin_step(
+            &launched.program,
+            &mut launched.execution,
+            request,
+            StepKind::Out,
+            out,
+        ),
+        RequestName::Pause => pause(
+            alloc,
+            &launched.program,
+            &mut launched.execution,
+            request,
+            out,
+        ),
+        RequestName::Initialize => refuse_unknown(request, out),
+        RequestName::Launch => refuse_unknown(request, out),
+        RequestName::StepBack => refuse_unknown(request, out),
+        RequestName::ReverseContinue => refuse_unknown(request, out),
+        RequestName::Evaluate => refuse_unknown(request, out),
+        RequestName::Terminate => refuse_unknown(request, out),
+        RequestName::Disconnect => refuse_unknown(request, out),
+    }
+}
+
+/// Refuses a request that is answered nowhere.
+fn refuse_unknown(request: &ClientRequest, out: &mut Outbox) -> Result<(), AllocError>
+    ensures sent { OnOk result (Sends out.old (refused_response request.now (codes "no such request")) out.new) }
+    ensures err { OnErr result (out.new ≡ out.old) }
+{
+    out.refuse(request, "no such request")
+}

@@ -1,0 +1,251 @@
+//! The requests that begin a run, and `pause`.
+
+ghost use Rattle.std.specs.Prelude.{◌≡◌, ◌==◌, Option, unwrap_or, IfOk, OnOk, OnErr};
+ghost use Rattle.serde_json.specs.View.{view};
+ghost use Rattle.ga_grid.specs.Chip.{record_at};
+ghost use Rattle.ga_grid.specs.declared.node_id.NodeId.{NodeId as ANode};
+ghost use Rattle.ga_lab.specs.Machine.{chip_of};
+ghost use Rattle.ga_dap_queries.specs.Arguments.{AsksOfThread};
+ghost use Rattle.ga_dap_control.specs.Back.{grain_asked};
+ghost use Rattle.ga_dap_queries.specs.Sending.{Sends, SendsAll, Message, Messages, acknowledged};
+ghost use Rattle.ga_dap_control.specs.Moving.{continued, begun, no_thread_words, node_stopped_words, stepping_of, BeginsStep, BeginsStepBy, BeginsStepping, PausesRun, PausesAt, Pauses, Continues};
+
+use crate::configuring::first_of;
+use crate::execution::{Execution, Goal};
+use ga_dap_breakpoints::{Grain, Stepping};
+use ga_dap_protocol::{ClientRequest, Outbox, text_at};
+use ga_dap_queries::{Debuggee, node_asked, tell_stopped};
+use ga_grid::NodeId;
+use ga_lab::Lab;
+use serde_json::{Value, json};
+use std::alloc::{AllocError, Global};
+
+#[tactic(auto, unfolding(crate::specs::Moving::continued))]
+fn continued(alloc: Global) -> Result<Value, AllocError>
+    ensures { IfOk result (λ v. view v ≡ continued) }
+{
+    json!(in alloc; {"allThreadsContinued": true})
+}
+
+/// `continue`.
+#[tactic(auto, using(ga_dap_queries::proofs::Sent::sent_one))]
+pub fn begin_continue(
+    alloc: Global,
+    execution: &mut Execution,
+    request: &ClientRequest,
+    out: &mut Outbox,
+) -> Result<(), AllocError>
+    ensures sent { OnOk result ((messages : Messages) × Continues execution.old request.now messages execution.new × SendsAll out.old messages out.new) }
+    ensures kept { OnErr result (execution.new ≡ execution.old) }
+{
+    let body = continued(alloc)?;
+    out.respond(request, body)?;
+    execution.goal = Some(Goal::Continue);
+    execution.tally = None;
+    Ok(())
+}
+
+/// The granularity of one step: lines if the source has them.
+pub fn grain_asked(program: &Debuggee, arguments: &Value) -> Grain
+    ensures { result ≡ grain_asked program.now (view arguments.now) }
+{
+    if program.source.is_none() {
+        return Grain::Instruction;
+    }
+    match text_at(arguments, "granularity") {
+        None => Grain::Line,
+        Some(name) => {
+            if name == "instruction" {
+                Grain::Instruction
+            } else {
+                Grain::Line
+            }
+        }
+    }
+}
+
+/// A request that moves one node.
+#[derive(Clone, Copy, PartialEq, Eq, Debug)]
+pub enum StepKind {
+    /// `next`: over the calls that it makes.
+    Over,
+    /// `stepIn`.
+    In,
+    /// `stepOut`: back from a call.
+    Out,
+}
+
+/// The message if the request names no such thread.
+fn no_thread(kind: StepKind) -> &'static str
+    ensures { result.now ≡ no_thread_words kind }
+{
+    match kind {
+        StepKind::Over => "next: no such thread",
+        StepKind::In => "stepIn: no such thread",
+        StepKind::Out => "stepOut: no such thread",
+    }
+}
+
+/// The message if the node is stopped.
+fn node_stopped(kind: StepKind) -> &'static str
+    ensures { result.now ≡ node_stopped_words kind }
+{
+    match kind {
+        StepKind::Over => "next: the node is stopped",
+        StepKind::In => "stepIn: the node is stopped",
+        StepKind::Out => "stepOut: the node is stopped",
+    }
+}
+
+/// The move of a node; none where it is in no call from which it could come back.
+fn stepping_of(
+    program: &Debuggee,
+    kind: StepKind,
+    node: NodeId,
+    arguments: &Value,
+) -> Option<Stepping>
+    ensures { result ≡ stepping_of program.now kind node (view arguments.now) }
+{
+    match kind {
+        StepKind::Over => Some(Stepping::next(&program.lab, node, grain_asked(program, arguments))),
+        StepKind::In => Some(Stepping::step_in(
+            &program.lab,
+            node,
+            grain_asked(program, arguments),
+        )),
+        StepKind::Out => Stepping::step_out(&program.lab, node),
+    }
+}
+
+/// `next`, `stepIn` and `stepOut`.
+pub fn begin_step(
+    program: &Debuggee,
+    execution: &mut Execution,
+    request: &ClientRequest,
+    kind: StepKind,
+    out: &mut Outbox,
+) -> Result<(), AllocError>
+    ensures sent { OnOk result ((message : Message) × BeginsStep program.now kind execution.old request.now message execution.new × Sends out.old message out.new) }
+    ensures kept { OnErr result (execution.new ≡ execution.old) }
+{
+    match node_asked(&request.arguments) {
+        None => out.refuse(request, no_thread(kind)),
+        Some(node) => begin_step_of(program, execution, request, kind, node, out),
+    }
+}
+
+/// Whether a node isn't stopped.
+fn can_step(lab: &Lab, node: NodeId) -> bool
+    ensures { result ≡ ((record_at (chip_of lab.now) node.number).stop == 0) }
+{
+    lab.node(node).stop() == 0
+}
+
+/// `next`, `stepIn` and `stepOut` of a node.
+fn begin_step_of(
+    program: &Debuggee,
+    execution: &mut Execution,
+    request: &ClientRequest,
+    kind: StepKind,
+    node: NodeId,
+    out: &mut Outbox,
+) -> Result<(), AllocError>
+    ensures sent { OnOk result ((message : Message) × BeginsStepBy program.now kind execution.old request.now node message execution.new × Sends out.old message out.new) }
+    ensures kept { OnErr result (execution.new ≡ execution.old) }
+{
+    if can_step(&program.lab, node) {
+        let stepping = stepping_of(program, kind, node, &request.arguments);
+        begin_stepping(execution, request, stepping, out)
+    } else {
+        out.refuse(request, node_stopped(kind))
+    }
+}
+
+/// Begins a move, where there is one.
+fn begin_stepping(
+    execution: &mut Execution,
+    request: &ClientRequest,
+    stepping: Option<Stepping>,
+    out: &mut Outbox,
+) -> Result<(), AllocError>
+    ensures sent { OnOk result ((message : Message) × BeginsStepping execution.old request.now stepping message execution.new × Sends out.old message out.new) }
+    ensures kept { OnErr result (execution.new ≡ execution.old) }
+{
+    match stepping {
+        Some(stepping) => begin(execution, request, stepping, out),
+        None => out.refuse(request, "stepOut: the node is in no call that is kept"),
+    }
+}
+
+/// Begins a move.
+fn begin(
+    execution: &mut Execution,
+    request: &ClientRequest,
+    stepping: Stepping,
+    out: &mut Outbox,
+) -> Result<(), AllocError>
+    ensures sent { OnOk result (Sends out.old (acknowledged request.now) out.new × (execution.new ≡ begun execution.old (Goal.Step stepping))) }
+    ensures kept { OnErr result (execution.new ≡ execution.old) }
+{
+    out.acknowledge(request)?;
+    execution.goal = Some(Goal::Step(stepping));
+    execution.tally = None;
+    Ok(())
+}
+
+/// The node of the requested thread, else another.
+fn node_or(arguments: &Value, first: NodeId) -> NodeId
+    ensures { (asked : Option ANode) × AsksOfThread (view arguments.now) asked × (result ≡ unwrap_or asked first) }
+{
+    match node_asked(arguments) {
+        Some(node) => node,
+        None => first,
+    }
+}
+
+/// Reports that a run ended.
+fn tell_paused(
+    alloc: Global,
+    program: &Debuggee,
+    request: &ClientRequest,
+    out: &mut Outbox,
+) -> Result<(), AllocError>
+    ensures { OnOk result ((messages : Messages) × PausesRun program.now request.now messages × SendsAll out.old messages out.new) }
+{
+    out.acknowledge(request)?;
+    let first = first_of(program);
+    let node = node_or(&request.arguments, first);
+    tell_stopped(alloc, "pause", "pause", node, out)
+}
+
+/// Reports that no run is in progress any longer.
+fn tell_pause(
+    alloc: Global,
+    program: &Debuggee,
+    goal: Option<Goal>,
+    request: &ClientRequest,
+    out: &mut Outbox,
+) -> Result<(), AllocError>
+    ensures { OnOk result ((messages : Messages) × PausesAt program.now request.now goal messages × SendsAll out.old messages out.new) }
+{
+    match goal {
+        None => out.acknowledge(request),
+        Some(_) => tell_paused(alloc, program, request, out),
+    }
+}
+
+/// `pause`: ends the run under way.
+pub fn pause(
+    alloc: Global,
+    program: &Debuggee,
+    execution: &mut Execution,
+    request: &ClientRequest,
+    out: &mut Outbox,
+) -> Result<(), AllocError>
+    ensures sent { OnOk result ((messages : Messages) × Pauses program.now execution.old request.now messages execution.new × SendsAll out.old messages out.new) }
+    ensures kept { OnErr result (execution.new ≡ execution.old) }
+{
+    tell_pause(alloc, program, execution.goal, request, out)?;
+    execution.goal = None;
+    Ok(())
+}

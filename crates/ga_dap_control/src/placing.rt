@@ -1,0 +1,171 @@
+//! The breakpoints of a request, one after another.
+
+ghost use Rattle.std.specs.Prelude.{◌≡◌, ◌+◌, ◌%◌, ◌^◌, ◌++◌, ◌∷◌, [], map, string_bytes, Option, Some, IfOk, OnOk};
+ghost use Rattle.serde_json.specs.View.{view};
+ghost use Rattle.ga_dap_control.specs.declared.finding.FoundPlace.{FoundPlace as APlace};
+ghost use Rattle.ga_dap_control.specs.Placing.{Placement, IsPlaceOf, unverified_object, verified_object, lined_object, verified_on, told_placed, set_by, placed_next, PlacesOne, Places};
+ghost use Rattle.ga_dap_control.specs.inner.{placement_of};
+
+use crate::configuration::{Family, SetBy};
+use crate::finding::{FoundPlace, Unplaced, asked_at, found, unplaced_reason};
+use ga_dap_breakpoints::Breakpoint;
+use ga_dap_queries::Debuggee;
+use serde_json::{Value, json, push};
+use std::alloc::{AllocError, Global};
+
+/// What came of the breakpoints of a request so far.
+#[derive(Drop)]
+pub struct Placing {
+    /// What is sent for each breakpoint.
+    pub told: Vec<Value>,
+    /// The breakpoints that are set.
+    pub placed: Vec<SetBy>,
+    /// The number of the next breakpoint.
+    pub next: u64,
+}
+
+#[tactic(auto, unfolding(crate::specs::Placing::unverified_object))]
+fn unverified(alloc: Global, id: u64, why: &str) -> Result<Value, AllocError>
+    ensures { IfOk result (λ v. view v ≡ unverified_object id why.now) }
+{
+    json!(in alloc; {"id": id, "message": why, "verified": false})
+}
+
+#[tactic(auto, unfolding(crate::specs::Placing::verified_object))]
+fn verified(alloc: Global, id: u64) -> Result<Value, AllocError>
+    ensures { IfOk result (λ v. view v ≡ verified_object id) }
+{
+    json!(in alloc; {"id": id, "verified": true})
+}
+
+#[tactic(auto, unfolding(crate::specs::Placing::lined_object))]
+fn verified_on_line(
+    alloc: Global,
+    name: &str,
+    path: &str,
+    id: u64,
+    line: u32,
+) -> Result<Value, AllocError>
+    ensures { IfOk result (λ v. view v ≡ lined_object name.now path.now id line) }
+{
+    json!(in alloc; {"id": id, "line": line, "source": {"name": name, "path": path}, "verified": true})
+}
+
+fn verified_on(
+    alloc: Global,
+    program: &Debuggee,
+    id: u64,
+    line: Option<u32>,
+) -> Result<Value, AllocError>
+    ensures { IfOk result (λ v. view v ≡ verified_on program.now id line) }
+{
+    match line {
+        Some(line) => {
+            verified_on_line(
+                alloc,
+                program.name.as_str(),
+                program.path.as_str(),
+                id,
+                line,
+            )
+        }
+        None => verified(alloc, id),
+    }
+}
+
+/// What is sent for a breakpoint.
+fn told_placed(
+    alloc: Global,
+    program: &Debuggee,
+    family: Family,
+    id: u64,
+    found: Result<FoundPlace, Unplaced>,
+) -> Result<Value, AllocError>
+    ensures { IfOk result (λ v. view v ≡ told_placed program.now family id found) }
+{
+    match found {
+        Ok(found) => verified_on(alloc, program, id, found.line),
+        Err(why) => unverified(alloc, id, unplaced_reason(family, why)),
+    }
+}
+
+/// Adds a breakpoint that was found.
+fn add_found(
+    placed: &mut Vec<SetBy>,
+    family: Family,
+    id: u64,
+    found: Result<FoundPlace, Unplaced>,
+) -> Result<(), AllocError>
+    ensures { OnOk result (placed.new.items ≡ placed.old.items ++ set_by family id found) }
+{
+    match found {
+        Ok(found) => add_one(placed, family, id, found.breakpoint),
+        Err(_) => Ok(()),
+    }
+}
+
+fn add_one(
+    placed: &mut Vec<SetBy>,
+    family: Family,
+    id: u64,
+    breakpoint: Breakpoint,
+) -> Result<(), AllocError>
+    ensures { OnOk result (placed.new.items ≡ placed.old.items ++ record { breakpoint = breakpoint; family = family; id = id } ∷ []) }
+{
+    placed.push(SetBy {
+        breakpoint,
+        family,
+        id,
+    })?;
+    Ok(())
+}
+
+/// Sets a breakpoint at the place that was found, and reports it.
+fn place_found(
+    alloc: Global,
+    program: &Debuggee,
+    family: Family,
+    found: Result<FoundPlace, Unplaced>,
+    placing: &mut Placing,
+) -> Result<(), AllocError>
+    ensures { OnOk result (placement_of placing.new ≡ placed_next program.now family found (placement_of placing.old)) }
+{
+    let id = placing.next;
+    let told = told_placed(alloc, program, family, id, found)?;
+    push(&mut placing.told, told)?;
+    add_found(&mut placing.placed, family, id, found)?;
+    placing.next = id.wrapping_add(1);
+    Ok(())
+}
+
+/// Sets a requested breakpoint if it has a place, and reports it.
+fn place_one(
+    alloc: Global,
+    program: &Debuggee,
+    family: Family,
+    asked: &Value,
+    placing: &mut Placing,
+) -> Result<(), AllocError>
+    ensures { OnOk result (PlacesOne program.now family (view asked.now) (placement_of placing.old) (placement_of placing.new)) }
+{
+    let found = found(program, family, asked);
+    let asked = asked_at(found, placing.placed.len(), asked);
+    place_found(alloc, program, family, asked, placing)
+}
+
+/// Sets each requested breakpoint that has a place, and reports it.
+#[tactic(auto, using(crate::proofs::Placed::places_on, crate::proofs::Placed::behind_one))]
+pub(crate) fn place_all(
+    alloc: Global,
+    program: &Debuggee,
+    family: Family,
+    asked: &[Value],
+    placing: &mut Placing,
+) -> Result<(), AllocError>
+    ensures { OnOk result (Places program.now family (map view asked.now) (placement_of placing.old) (placement_of placing.new)) }
+{
+    'asked: for one in asked {
+        place_one(alloc, program, family, one, placing)?;
+    }
+    Ok(())
+}

@@ -1,0 +1,129 @@
+//! What is sent to a client when a run ended.
+
+ghost use Rattle.std.specs.Prelude.{◌≡◌, ◌++◌, Some, codes, string_bytes, IfOk, OnOk, OnErr};
+ghost use Rattle.serde_json.specs.View.{view};
+ghost use Rattle.ga_text.specs.Lines.{Text};
+ghost use Rattle.ga_dap_protocol.specs.Messages.{member_text};
+ghost use Rattle.ga_dap_queries.specs.Sending.{Sends, Message};
+ghost use Rattle.ga_dap_control.specs.Stopping.{hit, ids_hit, fault_words, fault_message, stop_message, TellsStop};
+
+use crate::configuration::Configuration;
+use crate::configuring::first_of;
+use crate::execution::StopReason;
+use ga_dap_protocol::{Outbox, text_at};
+use ga_dap_queries::{Debuggee, exception_info, tell_hit, tell_stopped};
+use ga_grid::NodeId;
+use ga_lab::{LabFault, Made};
+use serde_json::Value;
+use std::alloc::{AllocError, Global};
+
+fn words_of(why: LabFault) -> &'static str
+    ensures { result.now ≡ fault_words why }
+{
+    match why {
+        LabFault::Full => "full: as many events are kept as may be",
+        LabFault::Memory => "memory was refused to the next event",
+        LabFault::Spent => "spent: as many events were made as can be counted",
+        LabFault::Waiting => "the node waits",
+        LabFault::Stopped => "the node is stopped",
+        LabFault::Empty => "nothing is kept",
+        LabFault::NoStep => "there is no such step",
+    }
+}
+
+/// The description of `exceptionInfo`, followed by a text.
+fn text_behind(alloc: Global, info: &Value, behind: &str) -> Result<String, AllocError>
+    ensures { IfOk result (λ text. (does : Text) → member_text (codes "description") (view info.now) ≡ Some does → string_bytes text ≡ does ++ behind.now) }
+{
+    let mut text = String::new(alloc);
+    if let Some(does) = text_at(info, "description") {
+        text.push_str(does)?;
+    }
+    text.push_str(behind)?;
+    Ok(text)
+}
+
+/// Reports a node that can't continue, and why.
+fn tell_fault(
+    alloc: Global,
+    program: &Debuggee,
+    node: NodeId,
+    behind: &str,
+    out: &mut Outbox,
+) -> Result<(), AllocError>
+    ensures sent { OnOk result (Sends out.old (fault_message program.now node.number behind.now) out.new) }
+    ensures err { OnErr result (out.new ≡ out.old) }
+{
+    let info = exception_info(alloc, &program.lab, false, node)?;
+    let text = text_behind(alloc, &info, behind)?;
+    tell_stopped(alloc, "exception", text.as_str(), node, out)
+}
+
+/// Reports the breakpoints that this event hit.
+fn tell_hits(
+    alloc: Global,
+    program: &Debuggee,
+    settings: &Configuration,
+    reason: &str,
+    description: &str,
+    node: NodeId,
+    made: &Made,
+    out: &mut Outbox,
+) -> Result<(), AllocError>
+    ensures sent { OnOk result (Sends out.old (hit reason.now description.now node.number (ids_hit made.now program.now.lab settings.now.points.placed.items)) out.new) }
+    ensures err { OnErr result (out.new ≡ out.old) }
+{
+    let ids = settings.points.ids_hit(alloc, &program.lab, made)?;
+    tell_hit(alloc, reason, description, node, ids.as_slice(), out)
+}
+
+/// `stopped` where a run ended for this reason.
+#[tactic(auto, using(ga_dap_queries::proofs::Sent::ok_then))]
+pub fn tell_stop(
+    alloc: Global,
+    program: &Debuggee,
+    settings: &Configuration,
+    stop: StopReason,
+    out: &mut Outbox,
+) -> Result<(), AllocError>
+    ensures sent { OnOk result ((message : Message) × TellsStop program.now settings.now stop message × Sends out.old message out.new) }
+    ensures err { OnErr result (out.new ≡ out.old) }
+{
+    let first = first_of(program);
+    tell_stop_at(alloc, program, settings, stop, first, out)
+}
+
+/// `stopped` where a run ended for this reason, and this is the first node that has something to show.
+fn tell_stop_at(
+    alloc: Global,
+    program: &Debuggee,
+    settings: &Configuration,
+    stop: StopReason,
+    first: NodeId,
+    out: &mut Outbox,
+) -> Result<(), AllocError>
+    ensures sent { OnOk result (Sends out.old (stop_message program.now settings.now.points.placed.items first.number stop) out.new) }
+    ensures err { OnErr result (out.new ≡ out.old) }
+{
+    match stop {
+        StopReason::Step(node) => tell_stopped(alloc, "step", "step", node, out),
+        StopReason::Breakpoint { node, made } => {
+            let why = "breakpoint";
+            tell_hits(alloc, program, settings, why, why, node, &made, out)
+        }
+        StopReason::Write { node, made } => {
+            let (reason, why) = ("data breakpoint", "a watched cell was written");
+            tell_hits(alloc, program, settings, reason, why, node, &made, out)
+        }
+        StopReason::Stopped(node) => tell_fault(alloc, program, node, "", out),
+        StopReason::Stuck(node) => tell_fault(alloc, program, node, ", and can never go on", out),
+        StopReason::Quiet => tell_stopped(
+            alloc,
+            "pause",
+            "quiet: no node has an event",
+            first,
+            out,
+        ),
+        StopReason::Refused(why) => tell_stopped(alloc, "pause", words_of(why), first, out),
+    }
+}

@@ -1,0 +1,22 @@
+//! The laws of framing, each the contract of a function that does nothing. They are about the definitions only.
+
+ghost use Rattle.std.specs.Prelude.{◌≡◌, ◌≤◌, ◌++◌, ℕ, List, length};
+ghost use Rattle.ga_dap_protocol.specs.Framing.{content_limit, framed, IsMessage, BeginsOne, BeginsNone};
+
+/// What is written for a content part within the limit is its message.
+pub fn written()
+    ensures { (content : List ℕ) → length content ≤ content_limit → IsMessage content (framed content) }
+{}
+
+/// A text begins with at most one message, which has one content part. An input therefore has the same messages however it is
+/// cut.
+pub fn one_message()
+    ensures text { (text other content inner after behind : List ℕ) → IsMessage content text → IsMessage inner other →
+        text ++ after ≡ other ++ behind → (text ≡ other) × (after ≡ behind) }
+    ensures content { (text content inner : List ℕ) → IsMessage content text → IsMessage inner text → content ≡ inner }
+{}
+
+/// If a text begins with a message, more bytes make no other: what begins with a message begins no longer one.
+pub fn whole_once()
+    ensures { (content text after : List ℕ) → IsMessage content text → BeginsOne (text ++ after) → ⊥ }
+{}

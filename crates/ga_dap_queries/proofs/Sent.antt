@@ -1,0 +1,100 @@
+-- Messages that are sent one after another.
+use Rattle.std.proofs.Common.{◌≡◌, ℕ, Option, subst, List, [], ◌∷◌, ◌++◌, Result, Ok, Err, refl, ap, ◌<◌, ◌+◌, ◌/◌, ◌%◌, ◌^◌, ◌∙◌, decimal, slice_index, arith, Bool, length, set, sym, add-one, inl, inr, false, get_or-set_other}
+use Rattle.ga_text.specs.Lines.{Text}
+use Rattle.ga_grid.specs.declared.node_id.NodeId.{NodeId}
+use Rattle.ga_dap_protocol.specs.declared.request.ClientRequest.{ClientRequest}
+use Rattle.ga_dap_queries.specs.declared.debuggee.Debuggee.{Debuggee}
+use Rattle.ga_dap_queries.specs.Disassembling.{TellsSome, TellsInstructions, TellsReferred}
+use Rattle.ga_dap_queries.specs.Sending.{Message, Sends, SendsAll, answered}
+use Rattle.std.specs.Prelude.{OnOk}
+use Rattle.serde_json.specs.Data.{Data}
+use Rattle.ga_dap_protocol.specs.Sent.{SentMessages}
+use Rattle.std.proofs.lemmas.Fmt.{decimal_digit}
+use Rattle.std.proofs.lemmas.List.{append_assoc}
+use Rattle.hex.specs.Hex.{encode_with, encode_lower, lower_digits}
+use Rattle.ga_word.proofs.HexText.{six_same}
+use Rattle.ga_word.specs.Word.{hex6_of}
+use Rattle.std.proofs.lemmas.Bool.{cases_eq}
+use Rattle.std.proofs.lemmas.Grind.{get_or-set_at}
+use Rattle.ga_causal.specs.Dependence.{is_marked}
+use Rattle.ga_dap_queries.specs.Events.{changed_messages, changed_below}
+
+-- ---- what is sent about memory, by what the request names
+
+pub with_reference : (p : Debuggee) (request : ClientRequest) (a b : Option Text) (message : Message) → a ≡ b → TellsReferred p request a message → TellsReferred p request b message
+with_reference p request a b message e told = subst (λ (z : Option Text). TellsReferred p request z message) e told
+
+pub with_count : (p : Debuggee) (request : ClientRequest) (at : NodeId × ℕ) (a b : Option ℕ) (message : Message) → a ≡ b → TellsInstructions p request at a message
+    → TellsInstructions p request at b message
+with_count p request at a b message e told = subst (λ (z : Option ℕ). TellsInstructions p request at z message) e told
+
+pub with_within : (p : Debuggee) (request : ClientRequest) (at : NodeId × ℕ) (a b : Option ℕ) (message : Message) → a ≡ b → TellsSome p request at a message
+    → TellsSome p request at b message
+with_within p request at a b message e told = subst (λ (z : Option ℕ). TellsSome p request at z message) e told
+
+pub sent_one : (old : SentMessages) (message : Message) (new : SentMessages) → Sends old message new → SendsAll old (message ∷ []) new
+sent_one old message new one = (new, one, refl)
+
+pub sent_both : (old : SentMessages) (xs : List Message) (between : SentMessages) (ys : List Message) (new : SentMessages) → SendsAll old xs between → SendsAll between ys new
+    → SendsAll old (xs ++ ys) new
+sent_both old [] between ys new first rest = subst (λ (z : SentMessages). SendsAll z ys new) first rest
+sent_both old (x ∷ xs) between ys new first rest = (first.0, first.1, sent_both first.0 xs between ys new first.2 rest)
+
+pub sent_next : (old : SentMessages) (xs : List Message) (between : SentMessages) (message : Message) (new : SentMessages) → SendsAll old xs between → Sends between message new
+    → SendsAll old (xs ++ (message ∷ [])) new
+sent_next old xs between message new first one = sent_both old xs between (message ∷ []) new first (sent_one between message new one)
+
+-- what holds if a call succeeded, in other words
+pub ok_then : {T E P Q : Type 0} → (r : Result T E) → OnOk r P → (P → Q) → OnOk r Q
+ok_then (Ok x) p f = f p
+ok_then (Err e) p f = tt
+
+-- a response whose body is what it is to be
+pub answers_so : (request : ClientRequest) (body wanted : Data) (old new : SentMessages) → body ≡ wanted → Sends old (answered request body) new
+    → (message : Message) × (message ≡ answered request wanted) × Sends old message new
+answers_so request body wanted old new e sent = (answered request body, ap (answered request) e, sent)
+
+-- ---- digits of names and of references to memory
+
+pub three_digits : (a b c : ℕ) → a < 10 → b < 10 → c < 10 → (old new : Text) → new ≡ old ++ decimal a ++ decimal b ++ decimal c
+    → new ≡ old ++ (48 + a) ∷ (48 + b) ∷ (48 + c) ∷ []
+three_digits a b c la lb lc old new added =
+    added
+    ∙ ap (λ (z : Text). old ++ z ++ decimal b ++ decimal c) (decimal_digit a la)
+    ∙ ap (λ (z : Text). old ++ ((48 + a) ∷ []) ++ z ++ decimal c) (decimal_digit b lb)
+    ∙ ap (λ (z : Text). old ++ ((48 + a) ∷ []) ++ ((48 + b) ∷ []) ++ z) (decimal_digit c lc)
+    ∙ append_assoc (old ++ ((48 + a) ∷ [])) ((48 + b) ∷ []) ((48 + c) ∷ [])
+    ∙ append_assoc old ((48 + a) ∷ []) ((48 + b) ∷ (48 + c) ∷ [])
+
+pub six_digits : (n : ℕ) → n < 2 ^ 24 → encode_lower (n / 65536 ∷ n / 256 % 256 ∷ n % 256 ∷ []) ≡ hex6_of n
+unfolding encode_with
+six_digits n h =
+    six_same _ _ _ _ _ _ _ _ _ _ _ _
+    (ap (slice_index lower_digits) (omega (arith, h)))
+    (ap (slice_index lower_digits) (omega arith))
+    (ap (slice_index lower_digits) (omega arith))
+    (ap (slice_index lower_digits) (omega arith))
+    (ap (slice_index lower_digits) (omega arith))
+    (ap (slice_index lower_digits) (omega arith))
+
+-- ---- marks of the nodes, one after another
+
+pub marked_more : (flags : List Bool) (k : ℕ) (b : Bool) (f : ℕ → Bool) → k < length flags → ((n : ℕ) → n < k → is_marked flags n ≡ f n) → b ≡ f k
+    → (n : ℕ) → n < k + 1 → is_marked (set flags k b) n ≡ f n
+marked_more flags k b f within old e n lt = elim (cases_eq n k) as (λ w. is_marked (set flags k b) n ≡ f n) [
+  | inl q ↦ (let here : is_marked (set flags k b) n ≡ b = get_or-set_at flags k n b false q within in here ∙ e ∙ ap f (sym q))
+  | inr ne ↦ (let here : is_marked (set flags k b) n ≡ is_marked flags n = get_or-set_other flags k n b false ne in here ∙ old n (omega (arith, lt, ne)))
+]
+
+pub none_changed : (before now : ℕ → Bool) (old : SentMessages) → SendsAll old (changed_below before now 0) old
+unfolding changed_below
+none_changed before now old = refl
+
+pub next_changed : (before now : ℕ → Bool) (n m : ℕ) (b c : Bool) (old between new : SentMessages) → m ≡ n → b ≡ before m → c ≡ now m
+    → SendsAll old (changed_below before now n) between → SendsAll between (changed_messages b c m) new → SendsAll old (changed_below before now (n + 1)) new
+unfolding changed_below
+next_changed before now n m b c old between new e was is first rest =
+    let same : SendsAll between (changed_messages (before n) (now n) n) new =
+    subst (λ (k : ℕ). SendsAll between (changed_messages (before k) (now k) k) new) e
+    (subst (λ (x : Bool). SendsAll between (changed_messages x (now m) m) new) was (subst (λ (y : Bool). SendsAll between (changed_messages b y m) new) is rest)) in
+    rw add-one (sent_both old (changed_below before now n) between (changed_messages (before n) (now n) n) new first same)

@@ -1,0 +1,19 @@
+use Rattle.std.proofs.Common.{◌∙◌, Option, ap}
+use Rattle.serde_json.specs.View.{view}
+use Rattle.ga_text.specs.Lines.{Text}
+use Rattle.ga_dap_queries.specs.Sending.{answered}
+use Rattle.ga_dap_queries.specs.Watching.{watched_of_scope}
+use Rattle.ga_dap_queries.proofs.Sent.{ok_then}
+use Rattle.ga_dap_queries.proofs.watching.tell_data_info.Goals as goal
+
+pub returns-clause-sent : goal.returns-clause-sent
+returns-clause-sent c = ok_then c.respond.result c.respond.ensures.sent
+    (λ sent. (
+      answered c.args.request.now (view c.in_ok-body.body),
+      (
+        c.scope_asked-at.result,
+        c.scope_asked-at.ensures,
+        ap (answered c.args.request.now) (c.in_ok-body.ensures ∙ ap (λ (z : Option Text). watched_of_scope c.scope_asked-at.result z) c.text_at.ensures),
+      ),
+      sent,
+    ))

@@ -1,0 +1,37 @@
+-- What is sent for a request (Debug Adapter Protocol, "Base protocol": `Response`, `Event`, `ErrorResponse`).
+use Rattle.std.specs.Prelude.{◌≡◌, ℕ, List, [], ◌∷◌, string_bytes}
+use Rattle.serde_json.specs.Data.{Data}
+use Rattle.ga_text.specs.Lines.{Text}
+use Rattle.ga_dap_protocol.specs.Messages.{response, bare_response, error_response, event}
+use Rattle.ga_dap_protocol.specs.Sent.{SentMessages, next_seq, IsSent}
+use Rattle.ga_dap_protocol.specs.declared.request.ClientRequest.{ClientRequest}
+
+-- a message but for its number
+abbrev pub Message : Type 0
+Message = ℕ → Data
+
+abbrev pub Messages : Type 0
+Messages = List Message
+
+-- the responses to a request: with a body, without one, and that it is refused
+abbrev pub answered : ClientRequest → Data → Message
+answered request body seq = response seq request.seq (string_bytes request.command) body
+
+abbrev pub acknowledged : ClientRequest → Message
+acknowledged request seq = bare_response seq request.seq (string_bytes request.command)
+
+abbrev pub refused_response : ClientRequest → Text → Message
+refused_response request why seq = error_response seq request.seq (string_bytes request.command) why
+
+-- an event
+abbrev pub event_told : Text → Data → Message
+event_told name body seq = event seq name body
+
+-- a message is added with the next number
+abbrev pub Sends : SentMessages → Message → SentMessages → Type 0
+Sends old message new = IsSent old (next_seq old.seq) (message (next_seq old.seq)) new
+
+-- some messages are added, in order, each with the next number
+abbrev pub SendsAll : SentMessages → List Message → SentMessages → Type 0
+SendsAll old [] new = new ≡ old
+SendsAll old (message ∷ rest) new = (between : SentMessages) × Sends old message between × SendsAll between rest new

@@ -1,0 +1,171 @@
+//! `disassemble`.
+
+ghost use Rattle.std.specs.Prelude.{◌≡◌, ◌≢◌, ◌<◌, ◌≤◌, ◌^◌, ℕ, Some, IfSome, IfNone, OnOk, OnErr};
+ghost use Rattle.serde_json.specs.View.{view};
+ghost use Rattle.ga_dap_queries.specs.Sending.{Sends, Message};
+ghost use Rattle.ga_dap_queries.specs.Disassembling.{SpellsHexadecimal, SpellsReference, RefersTo, offset_given, cells_on, first_told, count_within, TellsSome, TellsInstructions, TellsMemory, TellsReferred, AnswersInstructions};
+
+use crate::debuggee::Debuggee;
+use ga_dap_protocol::{ClientRequest, Outbox, number_at, text_at};
+use ga_dap_views::{cell_of_chip, disassembled};
+use ga_grid::NodeId;
+use serde_json::Value;
+use std::alloc::{AllocError, Global};
+
+/// The maximum number of instructions in a response.
+const MOST_INSTRUCTIONS: u64 = 4096;
+
+/// The whole number of a member; 0 where it has none.
+pub fn offset_at(value: &Value, name: &str) -> i64
+    ensures { result ≡ offset_given name.now (view value.now) }
+{
+    value.get(name).and_then(Value::as_i64).unwrap_or(0)
+}
+
+/// The number that hexadecimal digits spell.
+fn hexadecimal(digits: &str) -> Option<u64>
+    ensures found { IfSome result (λ number. SpellsHexadecimal digits.now number) }
+    ensures none { IfNone result ((number : ℕ) → number < 2 ^ 64 → SpellsHexadecimal digits.now number → ⊥) }
+{
+    match u64::from_str_radix(digits, 16) {
+        Ok(number) => Some(number),
+        Err(_) => None,
+    }
+}
+
+/// The number that a reference to memory spells in hexadecimal digits.
+fn address_asked(reference: &str) -> Option<u64>
+    ensures found { IfSome result (λ address. SpellsReference reference.now address) }
+    ensures none { IfNone result ((address : ℕ) → address < 2 ^ 64 → SpellsReference reference.now address → ⊥) }
+{
+    match reference.strip_prefix("0x") {
+        Some(digits) => hexadecimal(digits),
+        None => None,
+    }
+}
+
+/// How many addresses on an offset leads, of the 4096 of a node.
+pub fn cells_on(offset: i64) -> u32
+    ensures value { result ≡ cells_on offset }
+    ensures most { result < 4096 }
+{
+    offset.rem_euclid(4096).unsigned_abs() as u32
+}
+
+/// The address of the first requested instruction.
+fn first_told(arguments: &Value, cell: u8) -> u32
+    ensures value { result ≡ first_told (view arguments.now) cell }
+    ensures most { result < 4096 }
+{
+    let behind = cells_on(offset_at(arguments, "offset"))
+        + cells_on(offset_at(arguments, "instructionOffset"));
+    (u32::from(cell) + behind) % 4096
+}
+
+/// The node and the cell of a reference to memory, where there are.
+pub fn cell_referred(reference: &str) -> Option<(NodeId, u8)>
+    ensures { RefersTo reference.now result }
+{
+    match address_asked(reference) {
+        Some(address) => cell_of_chip(address),
+        None => None,
+    }
+}
+
+/// `disassemble`.
+pub fn tell_instructions(
+    alloc: Global,
+    program: &Debuggee,
+    request: &ClientRequest,
+    out: &mut Outbox,
+) -> Result<(), AllocError>
+    ensures sent { OnOk result ((message : Message) × AnswersInstructions program.now request.now message × Sends out.old message out.new) }
+    ensures err { OnErr result (out.new ≡ out.old) }
+{
+    match text_at(&request.arguments, "memoryReference") {
+        None => out.refuse(request, "disassemble: there is no memoryReference"),
+        Some(reference) => tell_referred(alloc, program, request, reference, out),
+    }
+}
+
+/// The instructions from a reference to memory on.
+fn tell_referred(
+    alloc: Global,
+    program: &Debuggee,
+    request: &ClientRequest,
+    reference: &str,
+    out: &mut Outbox,
+) -> Result<(), AllocError>
+    ensures sent { OnOk result ((message : Message) × TellsReferred program.now request.now (Some reference.now) message × Sends out.old message out.new) }
+    ensures err { OnErr result (out.new ≡ out.old) }
+{
+    match cell_referred(reference) {
+        None => out.refuse(request, "disassemble: no such memory"),
+        Some(at) => tell_instructions_at(alloc, program, request, at, out),
+    }
+}
+
+/// The instructions from a cell on.
+fn tell_instructions_at(
+    alloc: Global,
+    program: &Debuggee,
+    request: &ClientRequest,
+    at: (NodeId, u8),
+    out: &mut Outbox,
+) -> Result<(), AllocError>
+    ensures sent { OnOk result ((message : Message) × TellsMemory program.now request.now (Some at) message × Sends out.old message out.new) }
+    ensures err { OnErr result (out.new ≡ out.old) }
+{
+    match number_at(&request.arguments, "instructionCount") {
+        None => out.refuse(request, "disassemble: there is no instructionCount"),
+        Some(count) => tell_counted(alloc, program, request, at, count, out),
+    }
+}
+
+/// The number of instructions to send, if it is not too large.
+fn count_within(count: u64) -> Option<u32>
+    ensures value { result ≡ count_within count }
+    ensures most { IfSome result (λ count. count ≤ 4096) }
+{
+    if count > MOST_INSTRUCTIONS {
+        return None;
+    }
+    Some(count as u32)
+}
+
+/// Sends `count` instructions from a cell on, if they are not too many.
+fn tell_counted(
+    alloc: Global,
+    program: &Debuggee,
+    request: &ClientRequest,
+    at: (NodeId, u8),
+    count: u64,
+    out: &mut Outbox,
+) -> Result<(), AllocError>
+    ensures sent { OnOk result ((message : Message) × TellsInstructions program.now request.now at (Some count) message × Sends out.old message out.new) }
+    ensures err { OnErr result (out.new ≡ out.old) }
+{
+    match count_within(count) {
+        None => out.refuse(request, "disassemble: 4096 instructions at most"),
+        Some(count) => tell_some(alloc, program, request, at, count, out),
+    }
+}
+
+/// Sends `count` instructions from a cell on.
+fn tell_some(
+    alloc: Global,
+    program: &Debuggee,
+    request: &ClientRequest,
+    at: (NodeId, u8),
+    count: u32,
+    out: &mut Outbox,
+) -> Result<(), AllocError>
+    requires { count ≤ 4096 }
+    ensures sent { OnOk result ((message : Message) × TellsSome program.now request.now at (Some count) message × Sends out.old message out.new) }
+    ensures err { OnErr result (out.new ≡ out.old) }
+{
+    let first = first_told(&request.arguments, at.1);
+    let (lab, notes) = (&program.lab, program.notes());
+    let body = disassembled(alloc, program.file(), lab, notes, at.0, first, count)?;
+    out.respond(request, body)
+}

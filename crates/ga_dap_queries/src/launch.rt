@@ -1,0 +1,75 @@
+//! What `launch` asks for.
+
+ghost use Rattle.std.specs.Prelude.{◌≡◌, ◌≤◌, option_map, IfSome};
+ghost use Rattle.serde_json.specs.View.{view};
+ghost use Rattle.ga_scheduler.specs.Schedules.{at_random};
+ghost use Rattle.ga_dap_queries.specs.Launching.{limit_asked, seed_asked, schedule_asked, stops_on_entry};
+
+use crate::arguments::flag_at;
+use ga_dap_protocol::{number_at, text_at};
+use ga_scheduler::Schedule;
+use serde_json::Value;
+
+/// How many events are kept at most, where the client doesn't say.
+const USUAL_LIMIT: u64 = 4_000_000;
+
+/// How many events are to be kept at most, where that can be.
+pub fn limit_asked(arguments: &Value) -> Option<u32>
+    ensures value { result ≡ limit_asked (view arguments.now) }
+    ensures most { IfSome result (λ limit. limit ≤ 4000000) }
+{
+    if arguments.get("limit").is_none() {
+        return Some(USUAL_LIMIT as u32);
+    }
+    let limit = number_at(arguments, "limit")?;
+    if limit < 1 || limit > USUAL_LIMIT {
+        return None;
+    }
+    Some(limit as u32)
+}
+
+/// The requested seed, if it is valid; 0 if none is requested.
+fn seed_asked(arguments: &Value) -> Option<u32>
+    ensures { result ≡ seed_asked (view arguments.now) }
+{
+    if arguments.get("seed").is_none() {
+        return Some(0);
+    }
+    u32::try_from(number_at(arguments, "seed")?).ok()
+}
+
+/// An order that is drawn, where its seed can be.
+fn drawn_order(arguments: &Value) -> Option<Schedule>
+    ensures { result ≡ option_map at_random (seed_asked (view arguments.now)) }
+{
+    match seed_asked(arguments) {
+        Some(seed) => Some(Schedule::at_random(u64::from(seed))),
+        None => None,
+    }
+}
+
+/// The order in which the nodes are to make their events, where there is such a one.
+pub fn schedule_asked(arguments: &Value) -> Option<Schedule>
+    ensures { result ≡ schedule_asked (view arguments.now) }
+{
+    if arguments.get("order").is_none() {
+        return Some(Schedule::in_rounds());
+    }
+    let order = text_at(arguments, "order")?;
+    if order == "rounds" {
+        Some(Schedule::in_rounds())
+    } else if order == "greedy" {
+        Some(Schedule::greedily())
+    } else if order == "random" {
+        drawn_order(arguments)
+    } else {
+        None
+    }
+}
+
+/// Whether the nodes are stopped at load until the client continues.
+pub fn stops_on_entry(arguments: &Value) -> bool
+    ensures { result ≡ stops_on_entry (view arguments.now) }
+{
+    flag_at(arguments, "stopOnEntry").unwrap_or(true)
+}

@@ -1,0 +1,178 @@
+//! The requests that read.
+
+ghost use Rattle.std.specs.Prelude.{◌≡◌, if◌then◌else◌, codes, option_map, IfOk, OnOk, OnErr};
+ghost use Rattle.serde_json.specs.View.{view};
+ghost use Rattle.ga_dap_queries.specs.Sending.{Sends, Message};
+ghost use Rattle.ga_dap_views.specs.Variables.{is_memory_scope};
+ghost use Rattle.ga_dap_queries.specs.Readings.{is_kind_asked, no_variables, variables_asked, TellsVariables, AnswersThreads, AnswersStack, AnswersScopes, AnswersVariables, AnswersException};
+
+use crate::arguments::{framed_node_asked, node_asked, number_given_or, scope_asked};
+use crate::debuggee::Debuggee;
+use crate::exceptions::exception_info;
+use crate::stuck::is_stuck;
+use ga_dap_protocol::{ClientRequest, Outbox, text_at};
+use ga_dap_views::{Scope, scopes, stack_trace, threads, variables};
+use ga_grid::NodeId;
+use ga_lab::Lab;
+use serde_json::{Value, json};
+use std::alloc::{AllocError, Global};
+
+/// `threads`.
+#[tactic(auto, using(crate::proofs::Sent::ok_then, crate::proofs::Sent::answers_so))]
+pub fn tell_threads(
+    alloc: Global,
+    program: &Debuggee,
+    request: &ClientRequest,
+    out: &mut Outbox,
+) -> Result<(), AllocError>
+    ensures sent { OnOk result ((message : Message) × AnswersThreads program.now request.now message × Sends out.old message out.new) }
+    ensures err { OnErr result (out.new ≡ out.old) }
+{
+    let body = threads(alloc, &program.lab, program.nodes.as_slice())?;
+    out.respond(request, body)
+}
+
+/// `stackTrace`.
+pub fn tell_stack(
+    alloc: Global,
+    program: &Debuggee,
+    request: &ClientRequest,
+    out: &mut Outbox,
+) -> Result<(), AllocError>
+    ensures sent { OnOk result ((message : Message) × AnswersStack program.now request.now message × Sends out.old message out.new) }
+    ensures err { OnErr result (out.new ≡ out.old) }
+{
+    match node_asked(&request.arguments) {
+        None => out.refuse(request, "stackTrace: no such thread"),
+        Some(node) => {
+            let start = number_given_or(&request.arguments, "startFrame", 0);
+            let count = number_given_or(&request.arguments, "levels", 0);
+            let (lab, notes) = (&program.lab, program.notes());
+            let body = stack_trace(alloc, program.file(), lab, notes, node, start, count)?;
+            out.respond(request, body)
+        }
+    }
+}
+
+/// `scopes`.
+pub fn tell_scopes(
+    alloc: Global,
+    request: &ClientRequest,
+    out: &mut Outbox,
+) -> Result<(), AllocError>
+    ensures sent { OnOk result ((message : Message) × AnswersScopes request.now message × Sends out.old message out.new) }
+    ensures err { OnErr result (out.new ≡ out.old) }
+{
+    match framed_node_asked(&request.arguments) {
+        None => out.refuse(request, "scopes: no such frame"),
+        Some(node) => {
+            let body = scopes(alloc, node)?;
+            out.respond(request, body)
+        }
+    }
+}
+
+/// `variables`.
+pub fn tell_variables(
+    alloc: Global,
+    program: &Debuggee,
+    request: &ClientRequest,
+    out: &mut Outbox,
+) -> Result<(), AllocError>
+    ensures sent { OnOk result ((message : Message) × AnswersVariables program.now request.now message × Sends out.old message out.new) }
+    ensures err { OnErr result (out.new ≡ out.old) }
+{
+    match scope_asked(&request.arguments) {
+        None => out.refuse(request, "variables: no such reference"),
+        Some(at) => tell_variables_at(alloc, program, request, at, out),
+    }
+}
+
+/// Whether those of a memory are asked for, which are indexed, or all others, which are named.
+fn is_kind_asked(of: Scope, filter: Option<&str>) -> bool
+    ensures { result ≡ is_kind_asked of (option_map (λ text. text.now) filter.entry) }
+{
+    match filter {
+        Some(filter) => filter != left_out(of),
+        None => true,
+    }
+}
+
+/// The filter that leaves the variables of a scope out.
+fn left_out(of: Scope) -> &'static str
+    ensures { result.now ≡ (if is_memory_scope of then codes "named" else codes "indexed") }
+{
+    match of {
+        Scope::Ram => "named",
+        Scope::Rom => "named",
+        Scope::Registers => "indexed",
+        Scope::Data => "indexed",
+        Scope::Returns => "indexed",
+        Scope::Links => "indexed",
+    }
+}
+
+#[tactic(auto, unfolding(crate::specs::Readings::no_variables))]
+fn no_variables(alloc: Global) -> Result<Value, AllocError>
+    ensures { IfOk result (λ v. view v ≡ no_variables) }
+{
+    json!(in alloc; {"variables": []})
+}
+
+/// The variables of a scope, where they are asked for.
+fn variables_asked(
+    alloc: Global,
+    lab: &Lab,
+    asked: bool,
+    stuck: bool,
+    at: (NodeId, Scope),
+    start: u64,
+    count: u64,
+) -> Result<Value, AllocError>
+    ensures { IfOk result (λ v. view v ≡ variables_asked asked lab.now stuck at.0.number at.1 start count) }
+{
+    if asked {
+        variables(alloc, lab, stuck, at, start, count)
+    } else {
+        no_variables(alloc)
+    }
+}
+
+/// The variables of a scope.
+fn tell_variables_at(
+    alloc: Global,
+    program: &Debuggee,
+    request: &ClientRequest,
+    at: (NodeId, Scope),
+    out: &mut Outbox,
+) -> Result<(), AllocError>
+    ensures sent { OnOk result ((message : Message) × TellsVariables program.now request.now at message × Sends out.old message out.new) }
+    ensures err { OnErr result (out.new ≡ out.old) }
+{
+    let start = number_given_or(&request.arguments, "start", 0);
+    let count = number_given_or(&request.arguments, "count", 0);
+    let stuck = is_stuck(program.lab.chip(), at.0);
+    let asked = is_kind_asked(at.1, text_at(&request.arguments, "filter"));
+    let body = variables_asked(alloc, &program.lab, asked, stuck, at, start, count)?;
+    out.respond(request, body)
+}
+
+/// `exceptionInfo`.
+pub fn tell_exception(
+    alloc: Global,
+    program: &Debuggee,
+    request: &ClientRequest,
+    out: &mut Outbox,
+) -> Result<(), AllocError>
+    ensures sent { OnOk result ((message : Message) × AnswersException program.now request.now message × Sends out.old message out.new) }
+    ensures err { OnErr result (out.new ≡ out.old) }
+{
+    match node_asked(&request.arguments) {
+        None => out.refuse(request, "exceptionInfo: no such thread"),
+        Some(node) => {
+            let stuck = is_stuck(program.lab.chip(), node);
+            let body = exception_info(alloc, &program.lab, stuck, node)?;
+            out.respond(request, body)
+        }
+    }
+}

@@ -1,0 +1,227 @@
+//! The events that a client is sent.
+
+ghost use Rattle.std.specs.Prelude.{◌≡◌, ◌<◌, ℕ, codes, length, map, IfOk, OnOk, OnErr};
+ghost use Rattle.serde_json.specs.View.{view};
+ghost use Rattle.ga_causal.specs.Dependence.{is_marked};
+ghost use Rattle.ga_dap_views.specs.Json.{whole_number};
+ghost use Rattle.ga_dap_views.specs.Threads.{has_thread};
+ghost use Rattle.ga_dap_queries.specs.Sending.{Sends, SendsAll, event_told};
+ghost use Rattle.ga_dap_queries.specs.Events.{output_body, thread_body, thread_reason, stopped_body, hit_object, hit_body, changed_messages, changed_below, IsFirstShown};
+
+use ga_dap_protocol::Outbox;
+use ga_dap_views::{has_thread, thread_of};
+use ga_grid::NodeId;
+use ga_lab::Lab;
+use serde_json::{Value, json, push};
+use std::alloc::{AllocError, Global};
+
+#[tactic(auto, unfolding(crate::specs::Events::output_body))]
+fn output_body(alloc: Global, category: &str, text: &str) -> Result<Value, AllocError>
+    ensures { IfOk result (λ v. view v ≡ output_body category.now text.now) }
+{
+    json!(in alloc; {"category": category, "output": text})
+}
+
+/// `output` (Debug Adapter Protocol, "OutputEvent").
+pub fn tell_output(
+    alloc: Global,
+    category: &str,
+    text: &str,
+    out: &mut Outbox,
+) -> Result<(), AllocError>
+    ensures sent { OnOk result (Sends out.old (event_told (codes "output") (output_body category.now text.now)) out.new) }
+    ensures err { OnErr result (out.new ≡ out.old) }
+{
+    let body = output_body(alloc, category, text)?;
+    out.tell("output", body)
+}
+
+fn thread_reason(started: bool) -> &'static str
+    ensures { result.now ≡ thread_reason started }
+{
+    if started { "started" } else { "exited" }
+}
+
+#[tactic(auto, unfolding(crate::specs::Events::thread_body))]
+fn thread_body(alloc: Global, reason: &str, node: NodeId) -> Result<Value, AllocError>
+    ensures { IfOk result (λ v. view v ≡ thread_body reason.now node.number) }
+{
+    json!(in alloc; {"reason": reason, "threadId": thread_of(node)})
+}
+
+/// `thread` (Debug Adapter Protocol, "ThreadEvent").
+pub fn tell_thread(
+    alloc: Global,
+    started: bool,
+    node: NodeId,
+    out: &mut Outbox,
+) -> Result<(), AllocError>
+    ensures sent { OnOk result (Sends out.old (event_told (codes "thread") (thread_body (thread_reason started) node.number)) out.new) }
+    ensures err { OnErr result (out.new ≡ out.old) }
+{
+    let body = thread_body(alloc, thread_reason(started), node)?;
+    out.tell("thread", body)
+}
+
+/// The nodes that have something to show.
+pub fn shown_nodes(lab: &Lab, programs: &[NodeId]) -> [bool; 144]
+    ensures marks { (n : ℕ) → n < 144 → is_marked result n ≡ has_thread lab.now programs.now n }
+    ensures size { length result ≡ 144 }
+{
+    let mut nodes = [false; 144];
+    for number in 0..144u8 {
+        let is_shown = has_thread(lab, programs, NodeId::new(number));
+        nodes[number as usize] = is_shown;
+    }
+    nodes
+}
+
+/// Sends the nodes that have something to show and had not, and the other way round.
+#[tactic(auto, using(crate::proofs::Sent::none_changed, crate::proofs::Sent::next_changed))]
+pub fn tell_changed(
+    alloc: Global,
+    before: &[bool; 144],
+    now: &[bool; 144],
+    out: &mut Outbox,
+) -> Result<(), AllocError>
+    ensures { OnOk result (SendsAll out.old (changed_below (is_marked before.now) (is_marked now.now) 144) out.new) }
+{
+    'nodes: for number in 0..144u8 {
+        let node = NodeId::new(number);
+        let (was, is) = (is_marked(before, node), is_marked(now, node));
+        tell_if_changed(alloc, was, is, node, out)?;
+    }
+    Ok(())
+}
+
+/// The mark of a node.
+fn is_marked(marks: &[bool; 144], node: NodeId) -> bool
+    ensures { result ≡ is_marked marks.now node.number }
+{
+    marks[node.index()]
+}
+
+/// Sends a node that has something to show and had not, or the other way round.
+fn tell_if_changed(
+    alloc: Global,
+    before: bool,
+    now: bool,
+    node: NodeId,
+    out: &mut Outbox,
+) -> Result<(), AllocError>
+    ensures sent { OnOk result (SendsAll out.old (changed_messages before now node.number) out.new) }
+{
+    match (before, now) {
+        (false, true) => tell_thread(alloc, true, node, out),
+        (true, false) => tell_thread(alloc, false, node, out),
+        (false, false) => Ok(()),
+        (true, true) => Ok(()),
+    }
+}
+
+/// The first node that has something to show; 000 where none has.
+pub fn first_shown(lab: &Lab, programs: &[NodeId]) -> NodeId
+    ensures { IsFirstShown lab.now programs.now result.number }
+{
+    'nodes: for number in 0..144u8 {
+        let node = NodeId::new(number);
+        if has_thread(lab, programs, node) {
+            return node;
+        }
+    }
+    NodeId::new(0)
+}
+
+#[tactic(auto, unfolding(crate::specs::Events::stopped_body))]
+fn stopped_body(
+    alloc: Global,
+    reason: &str,
+    description: &str,
+    node: NodeId,
+) -> Result<Value, AllocError>
+    ensures { IfOk result (λ v. view v ≡ stopped_body reason.now description.now node.number) }
+{
+    json!(in alloc; {
+        "allThreadsStopped": true,
+        "description": description,
+        "reason": reason,
+        "text": description,
+        "threadId": thread_of(node)
+    })
+}
+
+/// `stopped` (Debug Adapter Protocol, "StoppedEvent"): the chip is stopped.
+pub fn tell_stopped(
+    alloc: Global,
+    reason: &str,
+    description: &str,
+    node: NodeId,
+    out: &mut Outbox,
+) -> Result<(), AllocError>
+    ensures sent { OnOk result (Sends out.old (event_told (codes "stopped") (stopped_body reason.now description.now node.number)) out.new) }
+    ensures err { OnErr result (out.new ≡ out.old) }
+{
+    let body = stopped_body(alloc, reason, description, node)?;
+    out.tell("stopped", body)
+}
+
+/// The numbers of some breakpoints.
+#[tactic(auto, using(std::proofs::lemmas::List::map_push))]
+fn numbers_of(alloc: Global, ids: &[u64]) -> Result<Vec<Value>, AllocError>
+    ensures { IfOk result (λ list. map view list.items ≡ map whole_number ids.now) }
+{
+    let mut list = Vec::new(alloc);
+    'ids: for id in ids {
+        push(&mut list, Value::from(*id))?;
+    }
+    Ok(list)
+}
+
+#[tactic(auto, unfolding(crate::specs::Events::hit_object))]
+fn hit_object(
+    alloc: Global,
+    reason: &str,
+    description: &str,
+    node: NodeId,
+    ids: Value,
+) -> Result<Value, AllocError>
+    ensures { IfOk result (λ v. view v ≡ hit_object reason.now description.now node.number (view ids)) }
+{
+    json!(in alloc; {
+        "allThreadsStopped": true,
+        "description": description,
+        "hitBreakpointIds": ids,
+        "reason": reason,
+        "text": description,
+        "threadId": thread_of(node)
+    })
+}
+
+fn hit_body(
+    alloc: Global,
+    reason: &str,
+    description: &str,
+    node: NodeId,
+    ids: &[u64],
+) -> Result<Value, AllocError>
+    ensures { IfOk result (λ v. view v ≡ hit_body reason.now description.now node.number ids.now) }
+{
+    let numbers = numbers_of(alloc, ids)?;
+    hit_object(alloc, reason, description, node, Value::Array(numbers))
+}
+
+/// `stopped` at breakpoints (Debug Adapter Protocol, "StoppedEvent"): the chip is stopped.
+pub fn tell_hit(
+    alloc: Global,
+    reason: &str,
+    description: &str,
+    node: NodeId,
+    ids: &[u64],
+    out: &mut Outbox,
+) -> Result<(), AllocError>
+    ensures sent { OnOk result (Sends out.old (event_told (codes "stopped") (hit_body reason.now description.now node.number ids.now)) out.new) }
+    ensures err { OnErr result (out.new ≡ out.old) }
+{
+    let body = hit_body(alloc, reason, description, node, ids)?;
+    out.tell("stopped", body)
+}

@@ -1,0 +1,185 @@
+//! `dataBreakpointInfo`.
+
+ghost use Rattle.std.specs.Prelude.{◌≡◌, ◌<◌, ◌^◌, ◌∷◌, [], Some, option_map, string_bytes, IfOk, OnOk, OnErr};
+ghost use Rattle.serde_json.specs.View.{view};
+ghost use Rattle.hex.specs.Hex.{encode_lower};
+ghost use Rattle.ga_word.specs.Word.{hex6_of};
+ghost use Rattle.ga_text.specs.Digits.{hex2_of};
+ghost use Rattle.ga_dap_queries.specs.Evaluating.{cell_in_brackets};
+ghost use Rattle.ga_dap_views.specs.Variables.{memory_reference};
+ghost use Rattle.ga_dap_views.specs.declared.scope.Scope.TheVariants.{Ram};
+ghost use Rattle.ga_dap_views.specs.declared.variable.Variable.TheVariants.{Cell};
+ghost use Rattle.ga_dap_queries.specs.Sending.{Sends, Message};
+ghost use Rattle.ga_dap_queries.specs.Watching.{watched_object, unwatched_object, cell_description, ram_cell_named, watched_cell, watched_in, watched_of_scope, AnswersDataInfo};
+
+use crate::arguments::scope_asked;
+use crate::naming::add_name;
+use ga_dap_protocol::{ClientRequest, Outbox, text_at};
+use ga_dap_views::{Scope, chip_address};
+use ga_grid::NodeId;
+use ga_text::byte_of;
+use serde_json::{Value, json};
+use std::alloc::{AllocError, Global};
+
+#[tactic(auto, unfolding(crate::specs::Watching::watched_object))]
+fn watched_object(alloc: Global, id: &str, description: &str) -> Result<Value, AllocError>
+    ensures { IfOk result (λ v. view v ≡ watched_object id.now description.now) }
+{
+    json!(in alloc; {"accessTypes": ["write"], "canPersist": true, "dataId": id, "description": description})
+}
+
+#[tactic(auto, unfolding(crate::specs::Watching::unwatched_object))]
+fn unwatched_object(alloc: Global) -> Result<Value, AllocError>
+    ensures { IfOk result (λ v. view v ≡ unwatched_object) }
+{
+    json!(in alloc; {"dataId": null, "description": "only cells of RAM are watched"})
+}
+
+/// Six hexadecimal digits.
+fn six_digits(alloc: Global, high: u8, middle: u8, low: u8) -> Result<String, AllocError>
+    ensures { IfOk result (λ text. string_bytes text ≡ encode_lower (high ∷ middle ∷ low ∷ [])) }
+{
+    let bytes = [high, middle, low];
+    hex::encode(alloc, bytes.as_slice())
+}
+
+/// The six hexadecimal digits of an address of the chip.
+#[tactic(auto, using(crate::proofs::Sent::six_digits))]
+fn address_digits(alloc: Global, address: u32) -> Result<String, AllocError>
+    requires { address < 2 ^ 24 }
+    ensures { IfOk result (λ text. string_bytes text ≡ hex6_of address) }
+{
+    six_digits(
+        alloc,
+        (address / 65536) as u8,
+        (address / 256 % 256) as u8,
+        (address % 256) as u8,
+    )
+}
+
+/// A reference to an address of the chip.
+fn reference_text(alloc: Global, address: u32) -> Result<String, AllocError>
+    requires { address < 2 ^ 24 }
+    ensures { IfOk result (λ text. string_bytes text ≡ memory_reference address) }
+{
+    let digits = address_digits(alloc, address)?;
+    let mut text = String::from_str(alloc, "0x")?;
+    text.push_str(digits.as_str())?;
+    Ok(text)
+}
+
+/// Two hexadecimal digits.
+#[tactic(auto, unfolding(hex::specs::Hex::encode_with))]
+fn two_digits(alloc: Global, byte: u8) -> Result<String, AllocError>
+    ensures { IfOk result (λ text. string_bytes text ≡ hex2_of byte) }
+{
+    let bytes = [byte];
+    hex::encode(alloc, bytes.as_slice())
+}
+
+/// A cell of a node.
+fn cell_description(alloc: Global, node: NodeId, cell: u8) -> Result<String, AllocError>
+    ensures { IfOk result (λ text. string_bytes text ≡ cell_description node cell) }
+{
+    let digits = two_digits(alloc, cell)?;
+    let mut text = String::from_str(alloc, "node ")?;
+    add_name(&mut text, node)?;
+    text.push_str(", cell ")?;
+    text.push_str(digits.as_str())?;
+    Ok(text)
+}
+
+/// The cell of two hexadecimal digits in brackets.
+fn cell_in_brackets(text: &[u8]) -> Option<u8>
+    ensures { option_map (λ cell. Cell cell) result ≡ cell_in_brackets text.now }
+{
+    if text.len() == 4 && text[0] == b'[' && text[3] == b']' {
+        byte_of(&text[1..3])
+    } else {
+        None
+    }
+}
+
+/// The cell of RAM of a name.
+fn ram_cell_named(text: &[u8]) -> Option<u8>
+    ensures { result ≡ ram_cell_named text.now }
+{
+    match cell_in_brackets(text) {
+        Some(cell) => { if cell < 128 { Some(cell) } else { None } }
+        None => None,
+    }
+}
+
+/// What is sent about a cell of RAM.
+fn watched_cell(alloc: Global, node: NodeId, cell: Option<u8>) -> Result<Value, AllocError>
+    ensures { IfOk result (λ v. view v ≡ watched_cell node cell) }
+{
+    match cell {
+        Some(cell) => watched_named(alloc, node, cell),
+        None => unwatched_object(alloc),
+    }
+}
+
+fn watched_named(alloc: Global, node: NodeId, cell: u8) -> Result<Value, AllocError>
+    ensures { IfOk result (λ v. view v ≡ watched_cell node (Some cell)) }
+{
+    let id = reference_text(alloc, chip_address(node, cell))?;
+    let description = cell_description(alloc, node, cell)?;
+    watched_object(alloc, id.as_str(), description.as_str())
+}
+
+/// What is sent about the variable of a name in the RAM of a node.
+fn watched_in_ram(alloc: Global, node: NodeId, name: Option<&str>) -> Result<Value, AllocError>
+    ensures { IfOk result (λ v. view v ≡ watched_in Ram node (option_map (λ text. text.now) name.entry)) }
+{
+    match name {
+        Some(text) => watched_cell(alloc, node, ram_cell_named(text.as_bytes())),
+        None => unwatched_object(alloc),
+    }
+}
+
+/// What is sent about the variable of a name in a scope.
+fn watched_in(
+    alloc: Global,
+    scope: Scope,
+    node: NodeId,
+    name: Option<&str>,
+) -> Result<Value, AllocError>
+    ensures { IfOk result (λ v. view v ≡ watched_in scope node (option_map (λ text. text.now) name.entry)) }
+{
+    match scope {
+        Scope::Ram => watched_in_ram(alloc, node, name),
+        Scope::Registers => unwatched_object(alloc),
+        Scope::Data => unwatched_object(alloc),
+        Scope::Returns => unwatched_object(alloc),
+        Scope::Links => unwatched_object(alloc),
+        Scope::Rom => unwatched_object(alloc),
+    }
+}
+
+fn watched_of_scope(
+    alloc: Global,
+    at: Option<(NodeId, Scope)>,
+    name: Option<&str>,
+) -> Result<Value, AllocError>
+    ensures { IfOk result (λ v. view v ≡ watched_of_scope at (option_map (λ text. text.now) name.entry)) }
+{
+    match at {
+        Some(at) => watched_in(alloc, at.1, at.0, name),
+        None => unwatched_object(alloc),
+    }
+}
+
+/// `dataBreakpointInfo`.
+pub fn tell_data_info(
+    alloc: Global,
+    request: &ClientRequest,
+    out: &mut Outbox,
+) -> Result<(), AllocError>
+    ensures sent { OnOk result ((message : Message) × AnswersDataInfo request.now message × Sends out.old message out.new) }
+    ensures err { OnErr result (out.new ≡ out.old) }
+{
+    let at = scope_asked(&request.arguments);
+    let body = watched_of_scope(alloc, at, text_at(&request.arguments, "name"))?;
+    out.respond(request, body)
+}

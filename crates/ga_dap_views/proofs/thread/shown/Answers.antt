@@ -1,0 +1,16 @@
+use Rattle.std.proofs.Common.{◌≡◌, ◌∙◌, ℕ, sym, ap, map, arith}
+use Rattle.serde_json.specs.View.{view}
+use Rattle.ga_dap_views.specs.Threads.{thread_in, with_threads}
+use Rattle.ga_dap_views.proofs.Lists.{no_threads, thread_step}
+use Rattle.ga_dap_views.proofs.thread.shown.Goals as goal
+
+pub nodes-init : goal.nodes-init
+nodes-init c = ap (map view) c.new-list.ensures.items ∙ sym (ap (map (thread_in c.args.lab.now)) (no_threads c.args.lab.now c.args.programs.now))
+
+pub nodes-preserved : goal.nodes-preserved
+nodes-preserved c =
+    thread_step c.args.lab.now c.args.programs.now c.nodes.number c.new.result.number _ _ c.new.ensures c.nodes.invariant c.in_ok-add_thread.ensures
+
+pub returns : goal.returns
+returns c = let all : c.nodes.number ≡ 144 = omega arith in
+    c.nodes.invariant ∙ ap (λ (z : ℕ). map (thread_in c.args.lab.now) (with_threads c.args.lab.now c.args.programs.now z)) all

@@ -1,0 +1,59 @@
+-- The open calls of a node, from which it has not returned (F18A Technology Reference DB001, return stack and opcodes;
+-- Flow.antt of ga_event has for each step where the words come from that it leaves).
+use Rattle.std.specs.Prelude.{ℕ, zero, suc, ◌-◌, ◌%◌, ◌==◌, Bool, true, false, ◌&&◌, if◌then◌else◌, List, map, filter, Option, Some, None, option_map, unwrap_or}
+use Rattle.std.specs.List.{range_with_len, slice_get}
+use Rattle.ga_slots.specs.declared.op.Op.{Op}
+use Rattle.ga_slots.specs.declared.op.Op.TheVariants.{Call}
+use Rattle.ga_slots.specs.Codes.{op_of}
+use Rattle.ga_node.specs.declared.kind.Kind.TheVariants as kind
+use Rattle.ga_grid.specs.declared.node_id.NodeId.{NodeId}
+use Rattle.ga_event.specs.declared.made.Made.{Made}
+use Rattle.ga_event.specs.declared.made.Made.TheVariants as made
+use Rattle.ga_event.specs.Told.{steps_of}
+use Rattle.ga_lab.specs.Machine.{State, history_of}
+use Rattle.ga_event.specs.declared.flow.part.Part.TheVariants as part
+use Rattle.ga_event.specs.Flow.{Flow, Same}
+use Rattle.ga_provenance.specs.Origins.{flow_at}
+use Rattle.ga_dap_views.specs.declared.calls.OpenCall.{OpenCall}
+use Rattle.ga_dap_views.specs.Spots.{spot_behind}
+
+-- The place of an entry on the return stack before a step, by its place after the step. The words are in a ring: a pop leaves a
+-- copy of the second word in the last place, which is no entry. A word that was pushed, exchanged or counted down is a new one.
+abbrev pub kept_from : Flow → ℕ → Option ℕ
+kept_from (Same (part.Return from)) place = if place == 8 && from == 1 then None else Some from
+kept_from _ place = None
+
+-- for each place of the return stack, the place that its entry after a node's step k + 1 had before the step
+abbrev pub entries_from : State → NodeId → ℕ → List (Option ℕ)
+entries_from s node k = map (λ place. kept_from (flow_at s node.number k (part.Return place)) place) (range_with_len 0 9)
+
+-- Which of a node's first steps put the entry that is at a place after them; 0 if it was there at load.
+abbrev pub put_by : State → NodeId → ℕ → ℕ → ℕ
+put_by s node zero place = 0
+put_by s node (suc k) place =
+    unwrap_or (option_map (put_by s node k) (kept_from (flow_at s node.number k (part.Return place)) place)) (suc k)
+
+-- whether a step, as made, is a call
+abbrev pub is_call_op : Op → Bool
+is_call_op Call = true
+is_call_op _ = false
+
+abbrev pub is_call : Option Made → Bool
+is_call (Some (made.Own node step (kind.Run code))) = is_call_op (op_of (code % 32))
+is_call _ = false
+
+abbrev pub is_calling : State → NodeId → ℕ → Bool
+is_calling s node zero = false
+is_calling s node (suc k) = is_call (slice_get (history_of s node.number) k)
+
+-- A call is open while the address that it put on the return stack is there: the numbers of such steps, the newest first. The
+-- stack has nine places.
+abbrev pub open_steps : State → NodeId → ℕ → List ℕ
+open_steps s node step = filter (is_calling s node) (map (put_by s node step) (range_with_len 0 9))
+
+-- an open call, with the node's position before its step
+abbrev pub open_call : State → NodeId → ℕ → OpenCall
+open_call s node step = record { step = step; at = spot_behind s node (step - 1) }
+
+abbrev pub open_calls : State → NodeId → List OpenCall
+open_calls s node = map (open_call s node) (open_steps s node (steps_of node.number s.kept))

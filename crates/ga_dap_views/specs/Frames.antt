@@ -1,0 +1,80 @@
+-- The response to `stackTrace` (Debug Adapter Protocol, "StackTraceRequest", "StackFrame"): the position of a node, and its
+-- open calls.
+use Rattle.std.specs.Prelude.{ℕ, zero, suc, ◌+◌, ◌++◌, length, codes, Option, Some, None}
+use Rattle.std.specs.List.{slice_get}
+use Rattle.serde_json.specs.Data.{Data, string, object, no_members, member}
+use Rattle.ga_text.specs.Lines.{Text}
+use Rattle.ga_text.specs.Digits.{decimal3_of}
+use Rattle.ga_grid.specs.Grid.{yxx_of}
+use Rattle.ga_grid.specs.declared.node_id.NodeId.{NodeId}
+use Rattle.ga_lab.specs.Machine.{State}
+use Rattle.ga_debug_info.specs.declared.notes.Notes.{Notes}
+use Rattle.ga_debug_info.specs.declared.wording.SlotWord.{SlotWord}
+use Rattle.ga_dap_views.specs.declared.spots.Spot.{Spot}
+use Rattle.ga_dap_views.specs.declared.calls.OpenCall.{OpenCall}
+use Rattle.ga_dap_views.specs.declared.frames.SourceFile.{SourceFile}
+use Rattle.ga_dap_views.specs.Calls.{open_calls}
+use Rattle.ga_dap_views.specs.Json.{whole_number, array_of}
+use Rattle.ga_dap_views.specs.Labels.{cell_words, spot_word}
+use Rattle.ga_dap_views.specs.Numbers.{frame_of, chip_address}
+use Rattle.ga_dap_views.specs.Spots.{present_spot}
+use Rattle.ga_dap_views.specs.Variables.{memory_reference, places_asked}
+
+-- the file of the source ("Source")
+unfoldable pub source_object : SourceFile → Data
+source_object file = object (member (codes "name") (string file.name.now) (member (codes "path") (string file.path.now) no_members))
+
+-- a frame at a word of the source, which begins at byte `column` of its line
+unfoldable pub lined_frame : Data → ℕ → Text → Text → ℕ → ℕ → Data
+lined_frame source id name pointer line column =
+    object (member (codes "column") (whole_number column) (member (codes "id") (whole_number id) (member (codes "instructionPointerReference") (string pointer)
+    (member (codes "line") (whole_number line) (member (codes "name") (string name) (member (codes "source") source no_members))))))
+
+-- a frame in memory without source
+unfoldable pub bare_frame : ℕ → Text → Text → Data
+bare_frame id name pointer =
+    object (member (codes "column") (whole_number 0) (member (codes "id") (whole_number id) (member (codes "instructionPointerReference") (string pointer)
+    (member (codes "line") (whole_number 0) (member (codes "name") (string name) no_members)))))
+
+-- a frame outside of memory: the code came over a port, or was in the node at load
+unfoldable pub outside_frame : ℕ → Text → Data
+outside_frame id name =
+    object (member (codes "column") (whole_number 0) (member (codes "id") (whole_number id) (member (codes "line") (whole_number 0) (member (codes "name") (string name)
+    (member (codes "presentationHint") (string (codes "subtle")) no_members)))))
+
+-- the name of a frame
+abbrev pub place_words : Notes → NodeId → Option Spot → Text
+place_words notes node None = codes "outside its memory"
+place_words notes node (Some spot) = cell_words notes node spot.cell
+
+abbrev pub frame_name : Notes → NodeId → Option Spot → Text
+frame_name notes node spot = decimal3_of (yxx_of node.number) ++ codes " " ++ place_words notes node spot
+
+abbrev pub frame_on : SourceFile → ℕ → Text → Text → Option SlotWord → Data
+frame_on file id name pointer None = bare_frame id name pointer
+frame_on file id name pointer (Some word) = lined_frame (source_object file) id name pointer word.line word.column
+
+abbrev pub frame_at : SourceFile → Notes → NodeId → ℕ → Text → Option Spot → Data
+frame_at file notes node id name None = outside_frame id name
+frame_at file notes node id name (Some spot) = frame_on file id name (memory_reference (chip_address node.number spot.cell)) (spot_word notes node spot)
+
+abbrev pub frame : SourceFile → Notes → NodeId → ℕ → Option Spot → Data
+frame file notes node level spot = frame_at file notes node (frame_of node.number level) (frame_name notes node spot) spot
+
+-- the positions of the frames: that of the node itself, then those of the calls
+abbrev pub call_spot : Option OpenCall → Option Spot
+call_spot None = None
+call_spot (Some call) = call.at
+
+abbrev pub level_spot : State → NodeId → ℕ → Option Spot
+level_spot s node zero = present_spot s node
+level_spot s node (suc k) = call_spot (slice_get (open_calls s node) k)
+
+-- The body of the response: `count` frames from one on, or all remaining if the number is 0; and how many there are.
+unfoldable pub stack_object : Data → ℕ → Data
+stack_object frames total = object (member (codes "stackFrames") frames (member (codes "totalFrames") (whole_number total) no_members))
+
+abbrev pub stack_trace : SourceFile → Notes → State → NodeId → ℕ → ℕ → Data
+stack_trace file notes s node start count =
+    let total = length (open_calls s node) + 1 in
+    stack_object (array_of (λ k. frame file notes node k (level_spot s node k)) (places_asked total start count)) total

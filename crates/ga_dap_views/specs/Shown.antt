@@ -1,0 +1,59 @@
+-- What a scope of a node has (Debug Adapter Protocol, "Scope", "Variable"), by names.
+use Rattle.std.specs.Prelude.{ℕ, ◌+◌, ◌==◌, ◌<◌, if◌then◌else◌, List, [], ◌∷◌, ◌++◌, codes, decimal, slice_index_or}
+use Rattle.ga_text.specs.Lines.{Text}
+use Rattle.ga_text.specs.Digits.{hex2_of}
+use Rattle.ga_ports.specs.declared.side.Side.TheVariants.{Right, Down, Left, Up}
+use Rattle.ga_dap_views.specs.Doing.{side_name}
+use Rattle.ga_dap_views.specs.declared.variable.Variable.{Variable}
+use Rattle.ga_dap_views.specs.declared.variable.Variable.TheVariants.{State, Step, P, A, B, I, Slot, Carry, Io, DataWord, ReturnWord, Cell, Neighbour, Stuck}
+use Rattle.ga_dap_views.specs.declared.scope.Scope.{Scope}
+use Rattle.ga_dap_views.specs.declared.scope.Scope.TheVariants as scope
+
+-- the variables of the registers
+abbrev pub register_variables : List Variable
+register_variables = State ∷ Step ∷ P ∷ DataWord 0 ∷ DataWord 1 ∷ ReturnWord 0 ∷ A ∷ B ∷ I ∷ Slot ∷ Carry ∷ Io ∷ []
+
+-- the variables of the links
+abbrev pub link_variables : List Variable
+link_variables = Neighbour Right ∷ Neighbour Down ∷ Neighbour Left ∷ Neighbour Up ∷ Stuck ∷ []
+
+-- how many variables a scope has, and which
+abbrev pub variable_count : Scope → ℕ
+variable_count scope.Registers = 12
+variable_count scope.Data = 10
+variable_count scope.Returns = 9
+variable_count scope.Links = 5
+variable_count scope.Ram = 64
+variable_count scope.Rom = 64
+
+abbrev pub variable_at : Scope → ℕ → Variable
+variable_at scope.Registers k = slice_index_or register_variables k State
+variable_at scope.Data k = DataWord k
+variable_at scope.Returns k = ReturnWord k
+variable_at scope.Links k = slice_index_or link_variables k Stuck
+variable_at scope.Ram k = Cell k
+variable_at scope.Rom k = Cell (128 + k)
+
+-- a variable that a node has: ten words of data, nine of returns, and cells at addresses of one byte
+abbrev pub IsVariable : Variable → Type 0
+IsVariable (DataWord k) = k < 10
+IsVariable (ReturnWord k) = k < 9
+IsVariable (Cell address) = address < 256
+IsVariable other = Unit {0}
+
+-- the name of a variable; a cell has the name by which a client requests it
+abbrev pub variable_name : Variable → Text
+variable_name State = codes "state"
+variable_name Step = codes "step"
+variable_name P = codes "p"
+variable_name A = codes "a"
+variable_name B = codes "b"
+variable_name I = codes "i"
+variable_name Slot = codes "slot"
+variable_name Carry = codes "carry"
+variable_name Io = codes "io"
+variable_name (DataWord k) = if k == 0 then codes "t" else if k == 1 then codes "s" else codes "d" ++ decimal k
+variable_name (ReturnWord k) = if k == 0 then codes "r" else codes "r" ++ decimal k
+variable_name (Cell address) = codes "[" ++ hex2_of address ++ codes "]"
+variable_name (Neighbour side) = side_name side
+variable_name Stuck = codes "stuck"

@@ -1,0 +1,26 @@
+-- The position of a node: the slot that it carries out next, or the cell that it fetches next (F18A Technology Reference DB001,
+-- instruction fetch).
+use Rattle.std.specs.Prelude.{ℕ, ◌==◌, if◌then◌else◌, Option, option_map}
+use Rattle.ga_node.specs.Record.{NodeRecord}
+use Rattle.ga_grid.specs.declared.node_id.NodeId.{NodeId}
+use Rattle.ga_event.specs.Told.{steps_of}
+use Rattle.ga_lab.specs.Machine.{State}
+use Rattle.ga_debug_info.specs.Source.{cell_of_address}
+use Rattle.ga_provenance.specs.Origins.{node_after}
+use Rattle.ga_provenance.specs.Fetched.{fetched_cell}
+use Rattle.ga_dap_views.specs.declared.spots.Spot.{Spot}
+
+abbrev pub spot : ℕ → ℕ → Spot
+spot slot cell = record { cell = cell; slot = slot }
+
+-- In slot 4 a fetch is due; else the node carries out a word that was fetched from this cell, came over a port or was there at
+-- load.
+abbrev pub spot_by : NodeRecord → Option ℕ → Option Spot
+spot_by n fetched = if n.slot == 4 then option_map (spot 0) (cell_of_address n.p) else option_map (spot n.slot) fetched
+
+-- the position of a node after `step` of its steps
+abbrev pub spot_behind : State → NodeId → ℕ → Option Spot
+spot_behind s node step = spot_by (node_after s node.number step) (fetched_cell s node step)
+
+abbrev pub present_spot : State → NodeId → Option Spot
+present_spot s node = spot_behind s node (steps_of node.number s.kept)

@@ -1,0 +1,114 @@
+-- The responses to `scopes` and `variables` (Debug Adapter Protocol, "ScopesRequest", "VariablesRequest"): what a node holds.
+use Rattle.std.specs.Prelude.{ℕ, ◌-◌, ◌==◌, min, Bool, true, false, if◌then◌else◌, List, [], ◌∷◌, ◌++◌, codes, decimal, Option, Some, None, slice_index}
+use Rattle.std.specs.Int.{from_bool}
+use Rattle.std.specs.List.{range_with_len}
+use Rattle.serde_json.specs.Data.{Data, string, boolean, object, no_members, member}
+use Rattle.ga_word.specs.Word.{hex6_of}
+use Rattle.ga_text.specs.Lines.{Text}
+use Rattle.ga_node.specs.Record.{NodeRecord}
+use Rattle.ga_grid.specs.Grid.{neighbour_of}
+use Rattle.ga_grid.specs.Chip.{record_at}
+use Rattle.ga_event.specs.Told.{steps_of}
+use Rattle.ga_lab.specs.Machine.{State, chip_of, word_at}
+use Rattle.ga_dap_views.specs.Doing.{activity, named_activity, valued_word}
+use Rattle.ga_dap_views.specs.Json.{whole_number, array_of, object_of}
+use Rattle.ga_dap_views.specs.Numbers.{chip_address, reference_of}
+use Rattle.ga_dap_views.specs.Shown.{variable_count, variable_at, variable_name}
+use Rattle.ga_dap_views.specs.declared.variable.Variable.{Variable}
+use Rattle.ga_dap_views.specs.declared.variable.Variable.TheVariants as variable
+use Rattle.ga_dap_views.specs.declared.scope.Scope.{Scope}
+use Rattle.ga_dap_views.specs.declared.scope.Scope.TheVariants as scope
+
+-- ---- `scopes`
+
+abbrev pub scope_name : Scope → Text
+scope_name scope.Registers = codes "Registers"
+scope_name scope.Data = codes "Data stack"
+scope_name scope.Returns = codes "Return stack"
+scope_name scope.Links = codes "Links"
+scope_name scope.Ram = codes "RAM"
+scope_name scope.Rom = codes "ROM"
+
+-- a scope; of a memory, that it is long, and of how many cells a client may ask for a part
+unfoldable pub scope_object : Bool → ℕ → Text → ℕ → Data
+scope_object true cells name reference =
+    object (member (codes "expensive") (boolean true) (member (codes "indexedVariables") (whole_number cells)
+    (member (codes "name") (string name) (member (codes "variablesReference") (whole_number reference) no_members))))
+scope_object false cells name reference =
+    object (member (codes "expensive") (boolean false) (member (codes "name") (string name)
+    (member (codes "variablesReference") (whole_number reference) no_members)))
+
+abbrev pub is_memory_scope : Scope → Bool
+is_memory_scope scope.Ram = true
+is_memory_scope scope.Rom = true
+is_memory_scope other = false
+
+abbrev pub scope_of : ℕ → Scope → Data
+scope_of n one = scope_object (is_memory_scope one) (variable_count one) (scope_name one) (reference_of n one)
+
+abbrev pub all_scopes : List Scope
+all_scopes = scope.Registers ∷ scope.Data ∷ scope.Returns ∷ scope.Links ∷ scope.Ram ∷ scope.Rom ∷ []
+
+abbrev pub scopes_of : ℕ → Data
+scopes_of n = object_of (codes "scopes") (array_of (scope_of n) all_scopes)
+
+-- ---- `variables`
+
+abbrev pub slot_words : ℕ → Text
+slot_words slot = if slot == 4 then codes "4, a fetch is due" else decimal slot
+
+-- the neighbour on a side and what it does, where there is one
+abbrev pub neighbour_words : List NodeRecord → Option ℕ → Text
+neighbour_words chip None = codes "none"
+neighbour_words chip (Some m) = named_activity chip m
+
+abbrev pub stuck_words : Bool → Text
+stuck_words true = codes "can never go on"
+stuck_words false = codes "no"
+
+-- The value of a variable of a node. `stuck` is whether the node is in the greatest deadlocked set (Stuck.antt of ga_races).
+abbrev pub variable_value : State → Bool → ℕ → Variable → Text
+variable_value s stuck n variable.State = activity (chip_of s) n
+variable_value s stuck n variable.Step = decimal (steps_of n s.kept)
+variable_value s stuck n variable.P = valued_word (record_at (chip_of s) n).p
+variable_value s stuck n variable.A = valued_word (record_at (chip_of s) n).a
+variable_value s stuck n variable.B = valued_word (record_at (chip_of s) n).b
+variable_value s stuck n variable.I = valued_word (record_at (chip_of s) n).i
+variable_value s stuck n variable.Slot = slot_words (record_at (chip_of s) n).slot
+variable_value s stuck n variable.Carry = decimal (from_bool (record_at (chip_of s) n).carry)
+variable_value s stuck n variable.Io = valued_word (record_at (chip_of s) n).io
+variable_value s stuck n (variable.DataWord k) = valued_word (slice_index (record_at (chip_of s) n).d k)
+variable_value s stuck n (variable.ReturnWord k) = valued_word (slice_index (record_at (chip_of s) n).r k)
+variable_value s stuck n (variable.Cell address) = valued_word (word_at (record_at (chip_of s) n) address)
+variable_value s stuck n (variable.Neighbour side) = neighbour_words (chip_of s) (neighbour_of n side)
+variable_value s stuck n variable.Stuck = stuck_words stuck
+
+-- an address of the chip in hexadecimal digits, as clients hand it back
+abbrev pub memory_reference : ℕ → Text
+memory_reference address = codes "0x" ++ hex6_of address
+
+-- a value that has no parts
+unfoldable pub variable_object : Text → Text → Data
+variable_object name value =
+    object (member (codes "name") (string name) (member (codes "value") (string value) (member (codes "variablesReference") (whole_number 0) no_members)))
+
+-- a value at an address of the chip
+unfoldable pub cell_object : ℕ → Text → Text → Data
+cell_object address name value =
+    object (member (codes "memoryReference") (string (memory_reference address)) (member (codes "name") (string name)
+    (member (codes "value") (string value) (member (codes "variablesReference") (whole_number 0) no_members))))
+
+abbrev pub data_of_variable : ℕ → Variable → Text → Text → Data
+data_of_variable n (variable.Cell address) name value = cell_object (chip_address n address) name value
+data_of_variable n other name value = variable_object name value
+
+abbrev pub data_of : State → Bool → ℕ → Variable → Data
+data_of s stuck n one = data_of_variable n one (variable_name one) (variable_value s stuck n one)
+
+-- the requested places: `count` from one on, or all remaining if the number is 0
+abbrev pub places_asked : ℕ → ℕ → ℕ → List ℕ
+places_asked size start count = range_with_len start (if count == 0 then size - start else min count (size - start))
+
+abbrev pub variables_in : State → Bool → ℕ → Scope → ℕ → ℕ → Data
+variables_in s stuck n of start count =
+    object_of (codes "variables") (array_of (λ k. data_of s stuck n (variable_at of k)) (places_asked (variable_count of) start count))

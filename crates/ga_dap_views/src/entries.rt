@@ -1,0 +1,99 @@
+//! The entries of a node's return stack, followed back.
+
+ghost use Rattle.std.specs.Prelude.{◌≡◌, ◌<◌, ◌≤◌, map, IfSome};
+ghost use Rattle.std.specs.List.{range_with_len};
+ghost use Rattle.ga_event.specs.Told.{steps_of};
+ghost use Rattle.ga_dap_views.specs.Calls.{put_by, is_calling, entries_from};
+ghost use Rattle.ga_dap_views.specs.inner.{entry_before};
+
+use crate::calls::{Shift, shift_by};
+use ga_grid::NodeId;
+use ga_lab::{Lab, Made};
+use ga_node::Kind;
+use ga_slots::Op;
+
+/// The place of an entry before a step, by its place after it.
+fn entry_before(shift: Shift, place: u8) -> Option<u8>
+    requires { place < 9 }
+    ensures value { result ≡ entry_before shift place }
+    ensures in_range { IfSome result (λ from. from < 9) }
+{
+    match shift {
+        Shift::Stays => Some(place),
+        Shift::Calls => place.checked_sub(1),
+        Shift::Pushes => place.checked_sub(1),
+        Shift::Pops => if place == 8 { None } else { Some(place + 1) },
+        Shift::Replaces => if place == 0 { None } else { Some(place) },
+    }
+}
+
+/// The place of each entry before a shift; none if it is new, or a copy in the last place.
+fn entries_before(shift: Shift) -> [Option<u8>; 9]
+    ensures { result ≡ map (entry_before shift) (range_with_len 0 9) }
+{
+    [
+        entry_before(shift, 0),
+        entry_before(shift, 1),
+        entry_before(shift, 2),
+        entry_before(shift, 3),
+        entry_before(shift, 4),
+        entry_before(shift, 5),
+        entry_before(shift, 6),
+        entry_before(shift, 7),
+        entry_before(shift, 8),
+    ]
+}
+
+/// For each place of the return stack, the place that its entry after a node's next step had before it, where the node had made
+/// `step` steps; none if the step put it there.
+#[tactic(auto, using(crate::proofs::Putting::entries_so))]
+pub fn entries_from(lab: &Lab, node: NodeId, step: u32) -> [Option<u8>; 9]
+    requires { step ≤ steps_of node.number lab.now.kept }
+    ensures { result ≡ entries_from lab.now node step }
+{
+    let mut walk = lab.walk(node, step);
+    entries_before(shift_by(lab, &mut walk, node, step))
+}
+
+/// The number of the step that put the entry at a place of the return stack after `step` steps of a node; 0 if it was there at
+/// load. Takes time linear in the number of steps that the node made since.
+pub fn put_by(lab: &Lab, node: NodeId, step: u32, behind: u8) -> u32
+    requires step { step ≤ steps_of node.number lab.now.kept }
+    requires place { behind < 9 }
+    ensures value { result ≡ put_by lab.now node step behind }
+    ensures within { result ≤ step }
+{
+    let mut walk = lab.walk(node, step);
+    let mut left = step;
+    let mut place = behind;
+    'following: while left > 0 {
+        let shift = shift_by(lab, &mut walk, node, left - 1);
+        match entry_before(shift, place) {
+            Some(from) => place = from,
+            None => return left,
+        }
+        left -= 1;
+    }
+    0
+}
+
+/// Whether the step of a node with this number is a call.
+pub fn is_calling(lab: &Lab, node: NodeId, step: u32) -> bool
+    ensures { result ≡ is_calling lab.now node step }
+{
+    if step == 0 {
+        return false;
+    }
+    match lab.told(node, step - 1) {
+        Some(
+            Made::Own {
+                kind: Kind::Run(code),
+                ..
+            },
+        ) => match Op::from_code(code % 32) {
+            Op::Call => true,
+            _ => false,
+        },
+        _ => false,
+    }
+}

@@ -1,0 +1,74 @@
+//! The values of what a node holds, as a person reads them.
+
+ghost use Rattle.std.specs.Prelude.{◌≡◌, ◌≤◌, IfOk, string_bytes};
+ghost use Rattle.ga_node.specs.Record.{record_of};
+ghost use Rattle.ga_grid.specs.Grid.{neighbour_of};
+ghost use Rattle.ga_lab.specs.Machine.{chip_of};
+ghost use Rattle.ga_dap_views.specs.Shown.{IsVariable};
+ghost use Rattle.ga_dap_views.specs.Variables.{slot_words, neighbour_words, stuck_words, variable_value};
+
+use crate::doing::{doing, named_doing};
+use crate::texts::{numbered, word_text};
+use crate::variable::Variable;
+use ga_grid::{NodeId, neighbour};
+use ga_lab::Lab;
+use ga_node::Place;
+use ga_ports::Side;
+use std::alloc::{AllocError, Global};
+
+fn slot_text(alloc: Global, slot: u32) -> Result<String, AllocError>
+    ensures { IfOk result (λ text. string_bytes text ≡ slot_words slot) }
+{
+    if slot == 4 {
+        String::from_str(alloc, "4, a fetch is due")
+    } else {
+        numbered(alloc, "", slot)
+    }
+}
+
+/// The neighbour on a side and what it does, where there is one.
+fn neighbour_text(alloc: Global, lab: &Lab, node: NodeId, side: Side) -> Result<String, AllocError>
+    ensures { IfOk result (λ text. string_bytes text ≡ neighbour_words (chip_of lab.now) (neighbour_of node.number side)) }
+{
+    match neighbour(node, side) {
+        None => String::from_str(alloc, "none"),
+        Some(other) => named_doing(alloc, "", lab, other),
+    }
+}
+
+fn words_of_stuck(stuck: bool) -> &'static str
+    ensures { result.now ≡ stuck_words stuck }
+{
+    if stuck { "can never go on" } else { "no" }
+}
+
+/// The value of a variable of a node.
+#[tactic(auto, unfolding(ga_node::specs::Record::record_of))]
+pub fn value_of(
+    alloc: Global,
+    lab: &Lab,
+    stuck: bool,
+    node: NodeId,
+    variable: Variable,
+) -> Result<String, AllocError>
+    requires { IsVariable variable }
+    ensures { IfOk result (λ text. string_bytes text ≡ variable_value lab.now stuck node.number variable) }
+{
+    let at = lab.node(node);
+    match variable {
+        Variable::State => doing(alloc, at),
+        Variable::Step => numbered(alloc, "", lab.steps(node)),
+        Variable::P => word_text(alloc, at.get(Place::P)),
+        Variable::A => word_text(alloc, at.get(Place::A)),
+        Variable::B => word_text(alloc, at.get(Place::B)),
+        Variable::I => word_text(alloc, at.get(Place::I)),
+        Variable::Slot => slot_text(alloc, at.get(Place::Slot)),
+        Variable::Carry => numbered(alloc, "", at.get(Place::Carry)),
+        Variable::Io => word_text(alloc, at.get(Place::Io)),
+        Variable::DataWord(place) => word_text(alloc, at.d(place)),
+        Variable::ReturnWord(place) => word_text(alloc, at.r(place)),
+        Variable::Cell(address) => word_text(alloc, lab.memory(node, address).get()),
+        Variable::Neighbour(side) => neighbour_text(alloc, lab, node, side),
+        Variable::Stuck => String::from_str(alloc, words_of_stuck(stuck)),
+    }
+}

@@ -1,0 +1,91 @@
+-- The lines of a source, as they are looked for.
+-- The word that comes first from a line on, as it is looked for.
+use Rattle.std.proofs.Common.{◌≡◌, ◌∙◌, ℕ, zero, suc, ◌+◌, ◌-◌, ◌<◌, ◌≤◌, List, [], ◌∷◌, length, get_or, slice_index_or, drop, arith, ap, sym, refl, drop-drop, get_or-drop, Option}
+use Rattle.std.specs.Str.{IsTrimAscii}
+use Rattle.std.proofs.lemmas.List.{drop_all, drop_more}
+use Rattle.std.proofs.lemmas.Str.Ascii.{trim_ascii_is}
+use Rattle.ga_parser.specs.Saying.{parted, source_lines, unmarked}
+use Rattle.ga_text.specs.Lines.{lines_of}
+use Rattle.ga_parser.proofs.Scanning.{first_split}
+use Rattle.ga_debug_info.specs.Source.{without_front, trimmed, bare_line}
+use Rattle.ga_debug_info.specs.declared.wording.SlotWord.{SlotWord}
+use Rattle.ga_debug_info.specs.declared.wording.ToldWord.{ToldWord}
+use Rattle.ga_debug_info.specs.Notes.{nearer_word, nearest_word}
+
+-- ---- the first line
+
+-- where there is a line
+pub first_found : (text first rest : List ℕ) → lines_of text ≡ first ∷ lines_of rest → first ≡ slice_index_or (source_lines text) 0 []
+first_found text first rest e = sym (ap (λ (lines : List (List ℕ)). slice_index_or lines 0 []) (first_split text first rest e))
+
+-- and what stands behind it
+pub rest_found : (text first rest : List ℕ) → lines_of text ≡ first ∷ lines_of rest → source_lines rest ≡ drop 1 (source_lines text)
+rest_found text first rest e = sym (ap (λ (lines : List (List ℕ)). drop 1 lines) (first_split text first rest e))
+
+-- where there is none
+pub no_first : (text : List ℕ) → length text ≡ 0 → text ≡ slice_index_or (source_lines text) 0 []
+unfolding parted
+no_first [] none = refl
+no_first (b ∷ text) none = absurd (omega arith)
+
+pub no_rest : (text : List ℕ) → length text ≡ 0 → source_lines text ≡ drop 1 (source_lines text)
+unfolding parted
+no_rest [] none = refl
+no_rest (b ∷ text) none = absurd (omega arith)
+
+-- ---- lines behind others
+
+-- behind one line and so many less
+pub one_less : (lines : List (List ℕ)) (left : ℕ) → 0 < left → drop (left - 1) (drop 1 lines) ≡ drop left lines
+one_less lines left some =
+    let e : 1 + (left - 1) ≡ left = omega arith in
+    drop-drop (left - 1) 1 lines ∙ ap (λ (n : ℕ). drop n lines) e
+
+-- and behind some and the difference
+pub further : (lines : List (List ℕ)) (before wanted : ℕ) → before ≤ wanted → drop (wanted - before) (drop before lines) ≡ drop wanted lines
+further lines before wanted order =
+    let e : before + (wanted - before) ≡ wanted = omega arith in
+    drop-drop (wanted - before) before lines ∙ ap (λ (n : ℕ). drop n lines) e
+
+-- behind no lines no line is left
+no_more : (left : ℕ) → source_lines [] ≡ drop left (source_lines [])
+unfolding parted
+no_more zero = refl
+no_more (suc left) = refl
+
+pub none_left : (text : List ℕ) (left : ℕ) → length text ≡ 0 → source_lines text ≡ drop left (source_lines text)
+unfolding parted
+none_left [] left none = no_more left
+none_left (b ∷ text) left none = absurd (omega arith)
+
+-- ---- a line by its number
+
+-- the first line behind some
+pub line_found : (source rest first bare : List ℕ) (before line : ℕ) → before ≡ line - 1 → source_lines rest ≡ drop before (source_lines source) → first ≡ get_or (source_lines rest) 0 [] → bare ≡ unmarked line first → bare ≡ bare_line source line
+line_found source rest first bare before line e behind is own =
+    let at : before + 0 ≡ line - 1 = omega arith in
+    let same : first ≡ get_or (source_lines source) (line - 1) [] =
+    is ∙ (ap (λ (lines : List (List ℕ)). get_or lines 0 []) behind
+    ∙ (get_or-drop before (source_lines source) 0 [] ∙ ap (λ (n : ℕ). get_or (source_lines source) n []) at)) in
+    own ∙ ap (unmarked line) same
+
+-- without white space at its ends
+pub trimmed_line : (bare text found : List ℕ) → bare ≡ text → IsTrimAscii bare found → found ≡ trimmed text
+trimmed_line bare text found is trims = trim_ascii_is bare found (without_front bare) refl trims ∙ ap trimmed is
+
+-- nothing stands behind all of a text
+pub all_past : (count : ℕ) (text : List ℕ) → length text ≤ count → [] ≡ drop count text
+all_past count text past = sym (drop_all count text past)
+
+-- ---- the word that comes first from a line on, as it is looked for
+
+-- one word more
+pub one_nearer : (line : ℕ) (best next : Option SlotWord) (all : List ToldWord) (i : ℕ) (d : ToldWord) (found : Option SlotWord) → i < length all → next ≡ nearer_word line best (get_or all i d).word → nearest_word line best (drop i all) ≡ found → nearest_word line next (drop (i + 1) all) ≡ found
+unfolding nearest_word
+one_nearer line best next all i d found within is before =
+    ap (λ (b : Option SlotWord). nearest_word line b (drop (i + 1) all)) is ∙ (sym (ap (nearest_word line best) (drop_more all i d within)) ∙ before)
+
+-- none is left
+pub none_nearer : (line : ℕ) (best : Option SlotWord) (all : List ToldWord) (i : ℕ) (found : Option SlotWord) → length all ≤ i → nearest_word line best (drop i all) ≡ found → best ≡ found
+unfolding nearest_word
+none_nearer line best all i found past before = sym (ap (nearest_word line best) (drop_all i all past)) ∙ before

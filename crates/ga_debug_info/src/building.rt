@@ -1,0 +1,263 @@
+//! The notes of a source.
+
+ghost use Rattle.std.specs.Prelude.{◌≡◌, ◌++◌, map, decimal, IfOk, OnOk};
+ghost use Rattle.ga_debug_info.specs.Notes.{AreOfSource};
+ghost use Rattle.ga_debug_info.specs.Source.{named_by, named_at, names_in, label_text, address_text, note_text as note_text_of, whole_line_text, noted_by, noted_at, is_code, group_noted, notes_in, literal_noted};
+ghost use Rattle.ga_source.specs.Reading.{p_behind};
+ghost use Rattle.ga_debug_info.specs.inner.{IsMarked};
+
+use crate::label::{Marked, cell_of, name_of};
+use crate::line::{Lines, is_long};
+use crate::notes::{Name, Note, Notes};
+use crate::wording::slot_words;
+use ga_grid::NodeId;
+use ga_ports::advance_p;
+use ga_source::{Group, Item, Label, Program};
+use ga_word::Word18;
+use std::alloc::{AllocError, Global};
+
+/// Where a source gives a cell, and whether it is an instruction word.
+#[derive(Clone, Copy)]
+struct CellAt {
+    is_code: bool,
+    address: u32,
+    line: u32,
+}
+
+/// What a source says of each cell that it gives and of each slot, and the names of its labels.
+///
+/// # Errors
+/// Memory is wanting.
+pub fn notes_of(alloc: Global, source: &[u8], programs: &[Program<'_>]) -> Result<Notes, AllocError>
+    ensures { IfOk result (λ notes. AreOfSource source.now programs.now notes) }
+{
+    let mut lines = Lines::new(source);
+    let mut names = Vec::new(alloc);
+    let mut notes = Vec::new(alloc);
+    for program in programs {
+        add_names(alloc, &mut names, program)?;
+        add_cells(alloc, &mut notes, program, &mut lines)?;
+    }
+    let words = slot_words(alloc, source)?;
+    Ok(Notes {
+        notes,
+        names,
+        words,
+    })
+}
+
+/// Adds the labels of a program that have a name.
+fn add_names(alloc: Global, names: &mut Vec<Name>, program: &Program<'_>) -> Result<(), AllocError>
+    ensures { OnOk result (map named_by names.new.items ≡ map named_by names.old.items ++ names_in program.now) }
+{
+    for (label, address) in program.names.iter().zip(&program.labels) {
+        add_name(alloc, names, program.node, label, *address)?;
+    }
+    Ok(())
+}
+
+/// Adds a label, where it has a name and stands at an address.
+fn add_name(
+    alloc: Global,
+    names: &mut Vec<Name>,
+    node: NodeId,
+    label: &Label<'_>,
+    address: Option<u32>,
+) -> Result<(), AllocError>
+    ensures { OnOk result (map named_by names.new.items ≡ map named_by names.old.items ++ named_at node label.now address) }
+{
+    let Some(address) = address else {
+        return Ok(());
+    };
+    if label.name.is_empty() {
+        return Ok(());
+    }
+    let mut text = Vec::new(alloc);
+    text.extend_from_slice(label.name)?;
+    names.push(Name {
+        node,
+        text,
+        address,
+    })?;
+    Ok(())
+}
+
+/// Adds the cells of a program.
+fn add_cells(
+    alloc: Global,
+    notes: &mut Vec<Note>,
+    program: &Program<'_>,
+    lines: &mut Lines<'_>,
+) -> Result<(), AllocError>
+    ensures notes { OnOk result (map noted_by notes.new.items ≡ map noted_by notes.old.items ++ notes_in lines.old program.now) }
+    ensures same { lines.new ≡ lines.old }
+{
+    let marked = Marked::of(program);
+    for group in &program.groups {
+        add_group(alloc, notes, program, &marked, group, lines)?;
+    }
+    Ok(())
+}
+
+/// Adds the instruction word and the literals of a group, or its cell of data.
+fn add_group(
+    alloc: Global,
+    notes: &mut Vec<Note>,
+    program: &Program<'_>,
+    marked: &Marked,
+    group: &Group,
+    lines: &mut Lines<'_>,
+) -> Result<(), AllocError>
+    requires { IsMarked program.now marked.now.labels }
+    ensures notes { OnOk result (map noted_by notes.new.items ≡ map noted_by notes.old.items ++ group_noted lines.old program.now group.now) }
+    ensures same { lines.new ≡ lines.old }
+{
+    let first = group.line();
+    let is_code = is_code(group);
+    let own = CellAt {
+        is_code,
+        address: group.address,
+        line: first,
+    };
+    add_cell(alloc, notes, program, marked, own, lines)?;
+    let mut p = advance_p(group.address);
+    for (item, line) in group.items.iter().zip(&group.lines) {
+        p = add_literal(alloc, notes, program, marked, p, *item, *line, lines)?;
+    }
+    Ok(())
+}
+
+/// Whether a group is an instruction word, and no cell of data.
+pub(crate) fn is_code(group: &Group) -> bool
+    ensures { result ≡ is_code group.now.items.items }
+{
+    match group.items.as_slice() {
+        [Item::Cell(_)] => false,
+        _ => true,
+    }
+}
+
+/// Adds the cell of an item's literal, where it has one, from P on, and tells P behind it.
+fn add_literal(
+    alloc: Global,
+    notes: &mut Vec<Note>,
+    program: &Program<'_>,
+    marked: &Marked,
+    p: u32,
+    item: Item,
+    line: u32,
+    lines: &mut Lines<'_>,
+) -> Result<u32, AllocError>
+    requires { IsMarked program.now marked.now.labels }
+    ensures p { IfOk result (λ behind. behind ≡ p_behind p item) }
+    ensures notes { OnOk result (map noted_by notes.new.items ≡ map noted_by notes.old.items ++ literal_noted lines.old program.now p item line) }
+    ensures same { lines.new ≡ lines.old }
+{
+    let Item::Literal(_) = item else {
+        return Ok(p);
+    };
+    let literal = CellAt {
+        is_code: false,
+        address: p,
+        line,
+    };
+    add_cell(alloc, notes, program, marked, literal, lines)?;
+    Ok(advance_p(p))
+}
+
+/// Adds the cell at an address, where it names one.
+fn add_cell(
+    alloc: Global,
+    notes: &mut Vec<Note>,
+    program: &Program<'_>,
+    marked: &Marked,
+    given: CellAt,
+    lines: &mut Lines<'_>,
+) -> Result<(), AllocError>
+    requires { IsMarked program.now marked.now.labels }
+    ensures notes { OnOk result (map noted_by notes.new.items ≡ map noted_by notes.old.items ++ noted_at lines.old program.now given.is_code given.address given.line) }
+    ensures same { lines.new ≡ lines.old }
+{
+    let Some(cell) = cell_of(given.address) else {
+        return Ok(());
+    };
+    let label = marked.before(cell);
+    let text = note_text(alloc, program, given.address, label, given.line, lines)?;
+    let is_long = is_long(lines.line(given.line));
+    notes.push(Note {
+        node: program.node,
+        cell,
+        address: given.address,
+        line: given.line,
+        is_code: given.is_code,
+        is_long,
+        text,
+    })?;
+    Ok(())
+}
+
+/// ` \ `, an address, the label of its cell, and the line, unless that is long.
+fn note_text(
+    alloc: Global,
+    program: &Program<'_>,
+    address: u32,
+    label: Option<usize>,
+    line: u32,
+    lines: &mut Lines<'_>,
+) -> Result<Vec<u8>, AllocError>
+    ensures text { IfOk result (λ text. text.items ≡ note_text_of lines.old program.now address label line) }
+    ensures same { lines.new ≡ lines.old }
+{
+    let mut text = Vec::new(alloc);
+    text.extend_from_slice(b" \\ ")?;
+    text.extend_from_slice(&three_digits(address))?;
+    push_label(&mut text, program, label)?;
+    text.push(b' ')?;
+    push_line(&mut text, line, lines)?;
+    Ok(text)
+}
+
+/// Adds a line with its number, unless it is long.
+fn push_line(text: &mut Vec<u8>, line: u32, lines: &mut Lines<'_>) -> Result<(), AllocError>
+    ensures text { OnOk result (text.new.items ≡ text.old.items ++ whole_line_text lines.old line) }
+    ensures same { lines.new ≡ lines.old }
+{
+    let told = lines.line(line);
+    if is_long(told) {
+        return Ok(());
+    }
+    push_number(text, line)?;
+    text.extend_from_slice(b": ")?;
+    text.extend_from_slice(told)
+}
+
+/// Adds the name of a label behind a blank.
+fn push_label(
+    text: &mut Vec<u8>,
+    program: &Program<'_>,
+    label: Option<usize>,
+) -> Result<(), AllocError>
+    ensures { OnOk result (text.new.items ≡ text.old.items ++ label_text program.now label) }
+{
+    let Some(label) = label else {
+        return Ok(());
+    };
+    text.push(b' ')?;
+    text.extend_from_slice(name_of(program, label))
+}
+
+/// An address in three hexadecimal digits.
+fn three_digits(address: u32) -> [u8; 3]
+    ensures { result ≡ address_text address }
+{
+    let [_, _, _, high, middle, low] = Word18::truncated(address).hex6();
+    [high, middle, low]
+}
+
+/// Adds a number in decimal digits.
+pub(crate) fn push_number(text: &mut Vec<u8>, number: u32) -> Result<(), AllocError>
+    ensures { OnOk result (text.new.items ≡ text.old.items ++ decimal number) }
+{
+    let mut buffer = itoa::Buffer::new();
+    text.extend_from_slice(buffer.format(number).as_bytes())
+}

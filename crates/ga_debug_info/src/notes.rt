@@ -1,0 +1,249 @@
+//! Notes of cells, and the names of addresses.
+
+ghost use Rattle.std.specs.Prelude.{◌≡◌, position};
+ghost use Rattle.ga_debug_info.specs.Notes.{is_note_of, is_begun, is_node_name, worded_slot as slot_worded_by, is_slot_word, is_nearer as is_nearer_word, nearer_word};
+
+use crate::wording::{SlotWord, ToldWord};
+use ga_grid::NodeId;
+use std::alloc::Global;
+
+/// What the source says of a cell that it gives.
+#[derive(Drop)]
+pub struct Note {
+    pub node: NodeId,
+    /// 0 to 63 of RAM, 128 to 191 of ROM.
+    pub cell: u8,
+    /// P at the cell: 10 bits.
+    pub address: u32,
+    /// The line that gives the cell, of an instruction word the one that begins it.
+    pub line: u32,
+    /// Whether the cell holds an instruction word, and no literal or data.
+    pub is_code: bool,
+    /// Whether the line is long, so that the text ends before the word from which it is told.
+    pub is_long: bool,
+    /// ` \ `, the address, the label before it, and the line that gives the cell, unless it is long.
+    pub text: Vec<u8>,
+}
+
+/// A label of a node.
+#[derive(Drop)]
+pub struct Name {
+    pub node: NodeId,
+    pub text: Vec<u8>,
+    /// P at the label: 10 bits.
+    pub address: u32,
+}
+
+/// What a source says of the cells of its chip. An image says nothing.
+#[derive(Drop)]
+pub struct Notes {
+    pub notes: Vec<Note>,
+    pub names: Vec<Name>,
+    /// The words of the slots, in the order of the source.
+    pub words: Vec<ToldWord>,
+}
+
+impl Notes {
+    ghost use Rattle.std.specs.Prelude.{◌≡◌, [], None, Some, option_map};
+    ghost use Rattle.ga_debug_info.specs.Notes.{first_note_text, first_note_is_long, slot_text, slot_word_of, nearest_word, line_address, address_of};
+
+    /// The notes of an image: none.
+    pub fn none(alloc: Global) -> Self
+        ensures notes { result.notes.items ≡ [] }
+        ensures names { result.names.items ≡ [] }
+        ensures words { result.words.items ≡ [] }
+    {
+        Notes {
+            notes: Vec::new(alloc),
+            names: Vec::new(alloc),
+            words: Vec::new(alloc),
+        }
+    }
+
+    /// Whether nothing is said of any cell.
+    pub fn is_empty(&self) -> bool {
+        self.notes.is_empty()
+    }
+
+    /// What is said of a cell of a node: nothing where there is no cell, or where the source doesn't give it.
+    pub fn text_of(&self, node: NodeId, cell: Option<u8>) -> &[u8]
+        ensures { result.now ≡ first_note_text self.now.notes.items node cell }
+    {
+        let Some(cell) = cell else {
+            return &[];
+        };
+        let Some(place) = note_place(self.notes.as_slice(), node, cell) else {
+            return &[];
+        };
+        match self.notes.get(place) {
+            Some(note) => note.text.as_slice(),
+            None => &[],
+        }
+    }
+
+    /// Whether what is said of a cell ends before a word: the line is long that gives it.
+    pub fn is_long(&self, node: NodeId, cell: Option<u8>) -> bool
+        ensures { result ≡ first_note_is_long self.now.notes.items node cell }
+    {
+        let Some(cell) = cell else {
+            return false;
+        };
+        let Some(place) = note_place(self.notes.as_slice(), node, cell) else {
+            return false;
+        };
+        match self.notes.get(place) {
+            Some(note) => note.is_long,
+            None => false,
+        }
+    }
+
+    /// How the word is told from which a slot of a cell comes: line, column and the text from there on; of slot 4, the fetch, the word
+    /// that begins the cell. Empty where the line that begins the cell isn't long, and where there is no such word.
+    pub fn slot_text(&self, node: NodeId, cell: Option<u8>, slot: usize) -> &[u8]
+        ensures { result.now ≡ slot_text self.now.words.items node cell slot }
+    {
+        let Some(cell) = cell else {
+            return &[];
+        };
+        let Some(place) = word_place(self.words.as_slice(), node, cell, slot) else {
+            return &[];
+        };
+        match self.words.get(place) {
+            Some(told) => told.text.as_slice(),
+            None => &[],
+        }
+    }
+
+    /// The word from which a slot of a cell comes; of slot 4, the fetch, the one that begins the cell.
+    pub fn slot_word(&self, node: NodeId, cell: u8, slot: usize) -> Option<SlotWord>
+        ensures { result ≡ slot_word_of self.now.words.items node cell slot }
+    {
+        let place = word_place(self.words.as_slice(), node, cell, slot)?;
+        match self.words.get(place) {
+            Some(told) => Some(told.word),
+            None => None,
+        }
+    }
+
+    /// The first word of a line, or of the next line that has one, from which a slot of an instruction word comes.
+    pub fn first_word(&self, line: u32) -> Option<SlotWord>
+        ensures { result ≡ nearest_word line None self.now.words.items }
+    {
+        let mut best = None;
+        for told in &self.words {
+            best = nearer(line, best, told.word);
+        }
+        best
+    }
+
+    /// The address of the first instruction word of a node that a line begins.
+    pub fn line_address(&self, node: NodeId, line: u32) -> Option<u32>
+        ensures { result ≡ line_address self.now.notes.items node line }
+    {
+        let place = begun_place(self.notes.as_slice(), node, line)?;
+        match self.notes.get(place) {
+            Some(note) => Some(note.address),
+            None => None,
+        }
+    }
+
+    /// The address of a label of a node.
+    pub fn address_of(&self, node: NodeId, text: &[u8]) -> Option<u32>
+        ensures { result ≡ address_of self.now.names.items node text.now }
+    {
+        let place = name_place(self.names.as_slice(), node, text)?;
+        match self.names.get(place) {
+            Some(name) => Some(name.address),
+            None => None,
+        }
+    }
+}
+
+/// Whether a note is of this cell.
+fn is_of(note: &Note, node: NodeId, cell: u8) -> bool
+    ensures { result ≡ is_note_of node cell note.now }
+{
+    note.node == node && note.cell == cell
+}
+
+/// Where the first note of a cell stands.
+fn note_place(notes: &[Note], node: NodeId, cell: u8) -> Option<usize>
+    ensures { result ≡ position (is_note_of node cell) notes.now }
+{
+    notes.iter().position(|note| is_of(note, node, cell))
+}
+
+/// Whether a note is of an instruction word of the node that this line begins.
+fn is_begun(note: &Note, node: NodeId, line: u32) -> bool
+    ensures { result ≡ is_begun node line note.now }
+{
+    note.is_code && note.node == node && note.line == line
+}
+
+/// Where the first note stands of an instruction word of the node that this line begins.
+fn begun_place(notes: &[Note], node: NodeId, line: u32) -> Option<usize>
+    ensures { result ≡ position (is_begun node line) notes.now }
+{
+    notes.iter().position(|note| is_begun(note, node, line))
+}
+
+/// Whether a name is this one of the node.
+fn is_named(name: &Name, node: NodeId, text: &[u8]) -> bool
+    ensures { result ≡ is_node_name node text.now name.now }
+{
+    name.node == node && name.text.as_slice() == text
+}
+
+/// Where the first name stands that is this one of the node.
+fn name_place(names: &[Name], node: NodeId, text: &[u8]) -> Option<usize>
+    ensures { result ≡ position (is_node_name node text.now) names.now }
+{
+    names.iter().position(|name| is_named(name, node, text))
+}
+
+/// The slot whose word is told: of a fetch, which has slot 4, the first.
+fn worded_slot(slot: usize) -> usize
+    ensures { result ≡ slot_worded_by slot }
+{
+    if slot < 4 { slot } else { 0 }
+}
+
+/// Whether a word is that of a slot of a cell.
+fn is_word_of(told: &ToldWord, node: NodeId, cell: u8, slot: usize) -> bool
+    ensures { result ≡ is_slot_word node cell slot told.now }
+{
+    let slot = worded_slot(slot);
+    let word = told.word;
+    word.node == node && word.cell == cell && word.first <= slot && slot <= word.last
+}
+
+/// Where the first word stands that is that of a slot of a cell.
+fn word_place(words: &[ToldWord], node: NodeId, cell: u8, slot: usize) -> Option<usize>
+    ensures { result ≡ position (is_slot_word node cell slot) words.now }
+{
+    words
+        .iter()
+        .position(|told| is_word_of(told, node, cell, slot))
+}
+
+/// Of two words the one that comes first from a line on; of two on one line, the first of the two.
+fn nearer(line: u32, best: Option<SlotWord>, word: SlotWord) -> Option<SlotWord>
+    ensures { result ≡ nearer_word line best word }
+{
+    if is_nearer(line, best, word) {
+        Some(word)
+    } else {
+        best
+    }
+}
+
+/// Whether a word is of code, from a line on, and comes before another.
+fn is_nearer(line: u32, best: Option<SlotWord>, word: SlotWord) -> bool
+    ensures { result ≡ is_nearer_word line best word }
+{
+    let is_behind = word.is_code && line <= word.line;
+    match best {
+        Some(best) => is_behind && word.line < best.line,
+        None => is_behind,
+    }
+}

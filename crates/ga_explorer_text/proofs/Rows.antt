@@ -1,0 +1,45 @@
+-- Texts of nodes and rows, one more at a time.
+use Rattle.std.proofs.Common.{◌≡◌, ℕ, zero, suc, ◌+◌, List, [], ◌++◌, refl, sym, ap, ◌∙◌, append_assoc}
+use Rattle.std.proofs.lemmas.List.{append-nil}
+use Rattle.ga_lab.specs.Machine.{State}
+use Rattle.ga_explorer_text.specs.Texts.{cell_text, cells_text, row_text, rows_text}
+
+no_cells : (s : State) (n : ℕ) → cells_text s n zero ≡ []
+unfolding cells_text
+no_cells s n = refl
+
+one_cell : (s : State) (n more : ℕ) → cells_text s n (suc more) ≡ cell_text s n ++ cells_text s (n + 1) more
+unfolding cells_text
+one_cell s n more = refl
+
+no_rows : (s : State) → rows_text s zero ≡ []
+unfolding rows_text
+no_rows s = refl
+
+one_row : (s : State) (row : ℕ) → rows_text s (suc row) ≡ row_text s row ++ rows_text s row
+unfolding rows_text
+one_row s row = refl
+
+pub same_cells : (s : State) (n k left more : ℕ) (out : List ℕ) → k ≡ n → left ≡ more → out ++ cells_text s k left ≡ out ++ cells_text s n more
+same_cells s n k left more out e f = ap (λ (z : ℕ). out ++ cells_text s z left) e ∙ ap (λ (z : ℕ). out ++ cells_text s n z) f
+
+pub next_cell : (s : State) (k m left more : ℕ) (out new rest : List ℕ) → m ≡ k + 1 → left ≡ suc more → new ≡ out ++ cell_text s k
+    → out ++ cells_text s k left ≡ rest → new ++ cells_text s m more ≡ rest
+next_cell s k m left more out new rest e f g h =
+    ap (λ (z : List ℕ). z ++ cells_text s m more) g ∙ append_assoc out (cell_text s k) (cells_text s m more)
+    ∙ ap (λ (z : ℕ). out ++ (cell_text s k ++ cells_text s z more)) e ∙ ap (λ (z : List ℕ). out ++ z) (sym (one_cell s k more))
+    ∙ ap (λ (z : ℕ). out ++ cells_text s k z) (sym f) ∙ h
+
+pub all_cells : (s : State) (k left : ℕ) (out rest : List ℕ) → left ≡ zero → out ++ cells_text s k left ≡ rest → out ≡ rest
+all_cells s k left out rest e h =
+    sym (append-nil out) ∙ ap (λ (z : List ℕ). out ++ z) (sym (no_cells s k)) ∙ ap (λ (z : ℕ). out ++ cells_text s k z) (sym e) ∙ h
+
+pub next_row : (s : State) (row below : ℕ) (out new rest : List ℕ) → row ≡ suc below → new ≡ out ++ row_text s below
+    → out ++ rows_text s row ≡ rest → new ++ rows_text s below ≡ rest
+next_row s row below out new rest e g h =
+    ap (λ (z : List ℕ). z ++ rows_text s below) g ∙ append_assoc out (row_text s below) (rows_text s below)
+    ∙ ap (λ (z : List ℕ). out ++ z) (sym (one_row s below)) ∙ ap (λ (z : ℕ). out ++ rows_text s z) (sym e) ∙ h
+
+pub all_rows : (s : State) (row : ℕ) (out rest : List ℕ) → row ≡ zero → out ++ rows_text s row ≡ rest → out ≡ rest
+all_rows s row out rest e h =
+    sym (append-nil out) ∙ ap (λ (z : List ℕ). out ++ z) (sym (no_rows s)) ∙ ap (λ (z : ℕ). out ++ rows_text s z) (sym e) ∙ h

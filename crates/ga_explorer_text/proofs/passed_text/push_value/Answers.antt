@@ -1,0 +1,9 @@
+use Rattle.std.specs.Prelude.{codes}
+use Rattle.std.proofs.Common.{◌≡◌, ℕ, ◌++◌, ap, ◌∙◌, arith}
+use Rattle.ga_word.specs.Word.{hex6_of}
+use Rattle.ga_explorer_text.proofs.passed_text.push_value.Goals as goal
+
+pub returns-clause-text : goal.returns-clause-text
+returns-clause-text c =
+    let same : c.truncated.result ≡ c.args.value = omega (arith, c.truncated.ensures, c.requires.small) in
+    c.push_spaced.ensures.text ∙ ap (λ (n : ℕ). c.args.out.now.items ++ (codes " " ++ hex6_of n)) same

@@ -1,0 +1,17 @@
+use Rattle.std.proofs.Common.{◌≡◌, ◌-◌, ℕ, List}
+use Rattle.ga_text.specs.Output.{IsSaid}
+use Rattle.ga_lab.specs.Machine.{standing}
+use Rattle.ga_explorer_text.specs.Because.{decisions_text}
+use Rattle.ga_explorer_text.proofs.Saying.{IsSaidUpTo}
+use Rattle.ga_explorer_text.proofs.tail_text.Outlook.say_decisions.Given as goal
+
+abbrev pub invariant-telling : goal.invariant-telling
+invariant-telling g l = record {
+  decisions : l.decisions ≡ standing l.self.lab.now l.self.node l.decisions.step;
+  same : l.writer.stream.ghost_name ≡ l.fn.writer.stream.ghost_name;
+  said : (before said : List ℕ) → IsSaid (g.W.Write.contents l.fn.writer.stream.now) before said l.fn.writer.pending.items
+      → IsSaidUpTo (g.W.Write.contents l.writer.stream.now) before said (decisions_text l.self.notes.now l.self.lab.now l.self.node l.most (l.self.near.step - 1)) (decisions_text l.self.notes.now l.self.lab.now l.self.node l.left l.decisions.step) l.writer.pending.items;
+}
+
+abbrev pub decreases-telling : goal.decreases-telling
+decreases-telling g l = l.left

@@ -1,0 +1,133 @@
+-- The texts of exploring's answers, each line ended by a line feed (docs/REFERENCE.md, "Exploring"; this project's own).
+use Rattle.std.specs.Prelude.{ℕ, zero, suc, ◌+◌, ◌*◌, ◌==◌, nat_lt, if◌then◌else◌, List, [], ◌++◌, length, flat_map, codes, decimal, Option, Some, None, Result, Ok, Err}
+use Rattle.ga_text.specs.Lines.{Text}
+use Rattle.ga_word.specs.Word.{hex6_of}
+use Rattle.ga_ports.specs.Address.{only}
+use Rattle.ga_node.specs.declared.wait.Wait.{Wait}
+use Rattle.ga_node.specs.declared.wait.Wait.TheVariants as wait
+use Rattle.ga_grid.specs.Chip.{record_at}
+use Rattle.ga_grid.specs.declared.node_id.NodeId.{NodeId}
+use Rattle.ga_event.specs.Told.{steps_of}
+use Rattle.ga_lab.specs.Machine.{State, chip_of}
+use Rattle.ga_lab.specs.declared.fault.LabFault.{LabFault}
+use Rattle.ga_lab.specs.declared.fault.LabFault.TheVariants.{Waiting, Stopped, Full, Memory, Empty, NoStep, Spent}
+use Rattle.ga_races.specs.HappensBefore.{are_linked}
+use Rattle.ga_scheduler.specs.Words.{words_of, word_count}
+use Rattle.ga_scheduler.specs.declared.effects.RollbackEffect.{RollbackEffect}
+use Rattle.ga_scheduler.specs.declared.words.Sent.{Sent}
+use Rattle.ga_scheduler.specs.declared.running.End.{End}
+use Rattle.ga_scheduler.specs.declared.running.End.TheVariants.{Reached, Made, Quiet, Refused}
+use Rattle.ga_display.specs.Texts.{made_text, removed_text, advice_text, advised_text}
+use Rattle.ga_text.specs.Digits.{name_of_node, step_text}
+
+-- ---- `run`
+
+-- why a step was refused
+abbrev pub fault_word : LabFault → Text
+fault_word Waiting = codes "waiting "
+fault_word Stopped = codes "stopped "
+fault_word Full = codes "full "
+fault_word Memory = codes "memory "
+fault_word Empty = codes "empty "
+fault_word NoStep = codes "nostep "
+fault_word Spent = codes "spent "
+
+-- which of several conditions held, counted from 1; nothing of one alone
+abbrev pub which_text : ℕ → ℕ → Text
+which_text conditions which = if nat_lt 1 conditions then codes " by " ++ decimal (which + 1) else []
+
+-- how many events were made until one of the conditions held, why the run ended, and what to do if there is no room for more
+abbrev pub run_text : ℕ → ℕ → End → Text
+run_text conditions events (Reached made which) = codes "reached " ++ decimal events ++ which_text conditions which ++ codes " " ++ made_text made
+run_text conditions events Made = codes "made " ++ decimal events ++ codes "\n"
+run_text conditions events Quiet = codes "quiet " ++ decimal events ++ codes "\n"
+run_text conditions events (Refused why) = fault_word why ++ decimal events ++ advice_text why
+
+-- ---- `chip`
+
+-- the letter of a set's side, where it has one alone
+abbrev pub side_letter : ℕ → Text
+side_letter sides =
+    if sides == 8 then codes "r"
+    else if sides == 4 then codes "d"
+    else if sides == 2 then codes "l"
+    else if sides == 1 then codes "u"
+    else codes "+"
+
+-- what a node does: it waits for code, reads or writes, by the side; runs; or is stopped
+abbrev pub doing_text : Wait → ℕ → Text
+doing_text (wait.Fetch sides) stop = codes " @" ++ side_letter sides
+doing_text (wait.Read sides) stop = codes " ?" ++ side_letter sides
+doing_text (wait.Write side) stop = codes " !" ++ side_letter (only side)
+doing_text wait.Nothing stop = if stop == 0 then codes "  *" else codes "  x"
+
+-- what a node does; of one that made no step, that it is as at load
+abbrev pub cell_text : State → ℕ → Text
+cell_text s n =
+    if nat_lt (steps_of n s.kept) 1 then codes "  ."
+    else doing_text (record_at (chip_of s) n).wait (record_at (chip_of s) n).stop
+
+-- `n` nodes of a row, from this one on
+unfoldable pub cells_text : State → ℕ → ℕ → Text
+cells_text s n zero = []
+cells_text s n (suc more) = cell_text s n ++ cells_text s (n + 1) more
+
+-- a row: its number and its eighteen nodes
+abbrev pub row_text : State → ℕ → Text
+row_text s row = decimal row ++ cells_text s (18 * row) 18 ++ codes "\n"
+
+-- the rows below this one, the upmost first
+unfoldable pub rows_text : State → ℕ → Text
+rows_text s zero = []
+rows_text s (suc row) = row_text s row ++ rows_text s row
+
+abbrev pub chip_text : State → Text
+chip_text s = rows_text s 8
+
+-- ---- `effects`
+
+-- what would go of a node: its first step that would, and how many would
+abbrev pub effect_text : RollbackEffect → Text
+effect_text effect = step_text effect.node effect.first ++ codes " " ++ decimal effect.steps ++ codes "\n"
+
+-- how many events would go, and of how many nodes
+abbrev pub effects_head : ℕ → ℕ → Text
+effects_head events nodes = codes "effects " ++ decimal events ++ codes " " ++ decimal nodes ++ codes "\n"
+
+abbrev pub effects_text : ℕ → List RollbackEffect → Text
+effects_text events effects = effects_head events (length effects) ++ flat_map effect_text effects
+
+-- the text about a rollback, by what `rewind` would answer
+abbrev pub effects_answer : List RollbackEffect → Result ℕ LabFault → Text
+effects_answer effects (Ok events) = effects_text events effects
+effects_answer effects (Err why) = advised_text why
+
+-- ---- `back until`
+
+-- how many events went, and how many are kept then; or that none went
+abbrev pub back_text : Option ℕ → ℕ → Text
+back_text (Some gone) kept = removed_text gone kept
+back_text None kept = codes "none\n"
+
+-- ---- `words`
+
+-- a word: its number, the steps of both ends and itself
+abbrev pub sent_text : NodeId → NodeId → Sent → Text
+sent_text from to sent =
+    decimal sent.number ++ codes " " ++ step_text from sent.writer_step ++ codes " " ++ step_text to sent.reader_step ++ codes " " ++ hex6_of sent.word
+    ++ codes "\n"
+
+-- the link, and how many words of it are kept
+abbrev pub words_head : NodeId → NodeId → ℕ → Text
+words_head from to count = codes "words " ++ name_of_node from ++ codes " " ++ name_of_node to ++ codes " " ++ decimal count ++ codes "\n"
+
+-- the nodes are no neighbours
+abbrev pub no_link : Text
+no_link = codes "no 34 nolink\n"
+
+-- the link between two neighbours, and the words of it that are kept
+abbrev pub linked_text : State → NodeId → NodeId → Text
+linked_text s from to = words_head from to (word_count s from.number to.number) ++ flat_map (sent_text from to) (words_of s from.number to.number)
+
+abbrev pub link_words_text : State → NodeId → NodeId → Text
+link_words_text s from to = if are_linked from.number to.number then linked_text s from to else no_link

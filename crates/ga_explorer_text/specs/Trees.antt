@@ -1,0 +1,115 @@
+-- The texts of `whence`: the steps whose values went into what a step made, as a tree (docs/REFERENCE.md, "Exploring"; this project's
+-- own).
+use Rattle.std.specs.Prelude.{◌≡◌, ◌≤◌, ℕ, zero, suc, ◌+◌, ◌-◌, ◌%◌, ◌==◌, ◌⊎◌, Bool, true, false, if◌then◌else◌, List, [], ◌∷◌, ◌++◌, length, flat_map, codes, decimal, Option, Some, None}
+use Rattle.std.specs.List.{slice_get}
+use Rattle.ga_text.specs.Lines.{Text}
+use Rattle.ga_text.specs.Digits.{hex2_of, name_of_node, step_text}
+use Rattle.ga_grid.specs.declared.node_id.NodeId.{NodeId}
+use Rattle.ga_event.specs.declared.made.Made.{Made}
+use Rattle.ga_lab.specs.Machine.{State, stands, history_of}
+use Rattle.ga_lab.specs.declared.fault.LabFault.TheVariants.{NoStep, Memory}
+use Rattle.ga_event.specs.declared.flow.part.Part.{Part}
+use Rattle.ga_event.specs.declared.flow.part.Part.TheVariants as part
+use Rattle.ga_provenance.specs.declared.value.Value.{Value}
+use Rattle.ga_provenance.specs.declared.listing.Row.{Row}
+use Rattle.ga_provenance.specs.Origins.{origin_of}
+use Rattle.ga_provenance.specs.Rows.{row_at, AreRows}
+use Rattle.ga_provenance.specs.Asked.{asked_of}
+use Rattle.ga_display.specs.Texts.{refusal_text, advised_text}
+use Rattle.ga_debug_info.specs.declared.notes.Notes.{Notes}
+use Rattle.ga_explorer_text.specs.Deeds.{deed_text}
+use Rattle.ga_explorer_text.specs.Tails.{step_tail, value_tail}
+
+-- how many lines a tree has at most
+abbrev pub most_rows : ℕ
+most_rows = 100
+
+-- the name of a part: of a cell its address; T, S and R have letters of their own
+abbrev pub data_name : ℕ → Text
+data_name k = if k == 0 then codes "t" else if k == 1 then codes "s" else codes "d" ++ decimal k
+
+abbrev pub return_name : ℕ → Text
+return_name k = if k == 0 then codes "r" else codes "r" ++ decimal k
+
+abbrev pub part_name : Part → Text
+part_name (part.Data k) = data_name k
+part_name (part.Return k) = return_name k
+part_name (part.Ram k) = hex2_of k
+part_name (part.Rom k) = hex2_of (128 + k % 64)
+part_name part.A = codes "a"
+part_name part.B = codes "b"
+part_name part.P = codes "p"
+part_name part.I = codes "i"
+part_name part.Io = codes "io"
+part_name part.Carry = codes "carry"
+part_name part.Slot = codes "slot"
+part_name part.Wait = codes "wait"
+part_name part.Stop = codes "stop"
+part_name part.Outside = codes "outside"
+
+-- The name of a part follows what a step did, but for T, the instruction word and a cell, which are implied.
+abbrev pub mark_text : Part → Text
+mark_text (part.Data k) = if k == 0 then [] else codes " " ++ data_name k
+mark_text (part.Ram k) = []
+mark_text (part.Rom k) = []
+mark_text part.I = []
+mark_text at = codes " " ++ part_name at
+
+-- what a step with this report did
+abbrev pub told_step_text : Option Made → ℕ → Text
+told_step_text None n = []
+told_step_text (Some made) n = deed_text made n
+
+-- the step of a node, with what it did
+abbrev pub did_text : State → NodeId → ℕ → Text
+did_text s node step = step_text node step ++ codes " " ++ told_step_text (slice_get (history_of s node.number) (step - 1)) node.number
+
+-- a value: the step that made it, or that it was loaded
+abbrev pub value_text : State → Value → Text
+value_text s value =
+    if value.step == 0 then name_of_node value.node ++ codes " load " ++ part_name value.part
+    else did_text s value.node value.step ++ mark_text value.part
+
+-- two blanks for each level
+unfoldable pub blanks : ℕ → Text
+blanks zero = []
+blanks (suc level) = codes "  " ++ blanks level
+
+-- a line, `depth` levels deeper than the row
+abbrev pub tree_row_text : Option Notes → State → ℕ → Row → Text
+tree_row_text notes s deeper row = blanks (row.depth + deeper) ++ (value_text s row.value ++ value_tail notes s row.value)
+
+abbrev pub head_text : Option Notes → State → NodeId → ℕ → Text
+head_text notes s node step = did_text s node step ++ step_tail notes s node step
+
+-- The step of the query is the first row if it made the value. Otherwise it comes before the rows, which are one level deeper.
+abbrev pub rows_by : Option Notes → State → NodeId → ℕ → Bool → List Row → Text
+rows_by notes s node step made rows =
+    if made then flat_map (tree_row_text notes s 0) rows else head_text notes s node step ++ flat_map (tree_row_text notes s 1) rows
+
+abbrev pub tree_rows_text : Option Notes → State → NodeId → ℕ → Value → List Row → Text
+tree_rows_text notes s node step value rows = rows_by notes s node step ((origin_of s value).step == step) rows
+
+-- the line after the rows of a tree, if these are not all
+abbrev pub more_text : Bool → Text
+more_text true = []
+more_text false = codes "more\n"
+
+-- The rows of the value are written, all or as many as allowed; or an allocation failed.
+pub record TellsTree (notes : Option Notes) (s : State) (node : NodeId) (step : ℕ) (value : Value) (answer : Text) : Type 0 where
+  pub rows : List Row
+  pub is_whole : Bool
+  pub told : AreRows s [] (row_at 0 value ∷ []) rows is_whole
+  pub most : length rows ≤ most_rows
+  pub cut : is_whole ≡ false → length rows ≡ most_rows
+  pub text : answer ≡ tree_rows_text notes s node step value rows ++ more_text is_whole
+
+-- the text about a step for which this value is queried; the step alone if it made none
+abbrev pub TellsAsked : Option Notes → State → NodeId → ℕ → Option Value → Text → Type 0
+TellsAsked notes s node step None answer = answer ≡ head_text notes s node step
+TellsAsked notes s node step (Some value) answer = (answer ≡ advised_text Memory) ⊎ TellsTree notes s node step value answer
+
+abbrev pub TellsWhence : Option Notes → State → NodeId → ℕ → Text → Type 0
+TellsWhence notes s node step answer =
+    ((stands s node.number step ≡ false) × (answer ≡ refusal_text NoStep))
+    ⊎ ((stands s node.number step ≡ true) × TellsAsked notes s node step (asked_of s node step) answer)

@@ -1,0 +1,108 @@
+//! The steps at which a value decided where a node continued, written line by line.
+
+ghost use Rattle.std.specs.Prelude.{◌≡◌, ◌+◌, ◌-◌, ◌≤◌, ◌<◌, ◌^◌, ◌++◌};
+ghost use Rattle.arrayvec.specs.ArrayVec.{array_vec_len};
+ghost use Rattle.ga_display.specs.Texts.{register_text};
+ghost use Rattle.ga_text.specs.Output.{Says};
+ghost use Rattle.ga_explorer_text.specs.Because.{decided_text, because_text};
+ghost use Rattle.ga_explorer_text.specs.Trees.{part_name};
+
+use crate::deed_text::push_deed;
+use crate::part_text::{PART_ROOM, push_part};
+use crate::tail_text::Outlook;
+use arrayvec::ArrayVec;
+use ga_debug_info::Notes;
+use ga_display::refusal_text;
+use ga_event::Part;
+use ga_grid::NodeId;
+use ga_lab::{Lab, LabFault, Made};
+use ga_provenance::{Decision, Decisions, Row};
+use ga_text::{Spoken, TextBuffer, WORD_ROOM, Writer, push_spaced, push_step, push_text};
+use ga_word::Word18;
+use std::io::Write;
+
+/// The most bytes of a register that was tested, with its word.
+const TESTED_ROOM: usize = 1 + PART_ROOM + 1 + WORD_ROOM;
+
+/// `because NNN K [N]`: writes the last steps of a node before one at which a value decided where it continued, the newest
+/// first, each with the step that made the value. Allocates nothing.
+///
+/// # Errors
+/// A write failed.
+pub fn say_because<W: Write>(
+    lab: &Lab,
+    notes: &Option<Notes>,
+    node: NodeId,
+    step: u32,
+    most: u32,
+    writer: &mut Writer<'_, W>,
+) -> Spoken
+    ensures { Says result (λ text. text ≡ because_text notes.now lab.now node step most) W.contents writer.old writer.new }
+{
+    if lab.stands((node, step)) {
+        Outlook::new(lab, notes, node, step).say_decisions(most, writer)
+    } else {
+        writer.say(refusal_text(LabFault::NoStep))
+    }
+}
+
+/// A step, what it did and what it tested.
+fn decided_line(node: NodeId, decision: Decision) -> TextBuffer
+    ensures { result.items ≡ decided_text node decision }
+{
+    let mut out = ArrayVec::new();
+    push_step(&mut out, node, decision.step);
+    push_text(&mut out, b" ");
+    push_deed(&mut out, decision.made, node);
+    if let Made::Own { .. } = decision.made {
+        push_tested(&mut out, decision.tested.part, decision.word);
+    }
+    out
+}
+
+/// Adds a register that was tested, and its word.
+fn push_tested(out: &mut TextBuffer, part: Part, word: Word18)
+    requires { array_vec_len out.old + TESTED_ROOM ≤ 256 }
+    ensures { out.new.items ≡ out.old.items ++ register_text (part_name part) word }
+{
+    push_text(out, b" ");
+    push_part(out, part);
+    push_spaced(out, word);
+}
+
+impl<'l> Outlook<'l> {
+    ghost use Rattle.std.specs.Prelude.{◌≡◌, ◌-◌};
+    ghost use Rattle.ga_text.specs.Output.{Says, SaysExactly};
+    ghost use Rattle.ga_explorer_text.specs.Because.{decision_text, decisions_text};
+
+    /// Says those before the step to which the node is walked back.
+    fn say_decisions<W: Write>(&self, most: u32, writer: &mut Writer<'_, W>) -> Spoken
+        ensures { Says result (λ text. text ≡ decisions_text self.now.notes.now self.now.lab.now self.now.node most (self.now.near.step - 1))
+            W.contents writer.old writer.new }
+    {
+        let mut decisions = Decisions::before(self.lab, &self.near, self.node);
+        let mut left = most;
+        'telling: while left > 0 {
+            let Some(decision) = decisions.next() else {
+                return Ok(());
+            };
+            self.say_decision(decision, writer)?;
+            left -= 1;
+        }
+        Ok(())
+    }
+
+    /// Says a step with what it tested, and below it the step that made the value.
+    fn say_decision<W: Write>(&self, decision: Decision, writer: &mut Writer<'_, W>) -> Spoken
+        ensures { SaysExactly result (decision_text self.now.notes.now self.now.lab.now self.now.node decision) W.contents writer.old writer.new }
+    {
+        let step = decision.step;
+        let row = Row {
+            depth: 0,
+            value: decision.source,
+        };
+        writer.say_blocks(decided_line(self.node, decision).as_slice())?;
+        self.say_step_tail(self.node, step, writer)?;
+        self.say_row(1, row, writer)
+    }
+}

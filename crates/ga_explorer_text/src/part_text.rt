@@ -1,0 +1,81 @@
+//! The names of the parts of a node.
+
+ghost use Rattle.std.specs.Prelude.{◌≡◌, ◌+◌, ◌≤◌, ◌++◌};
+ghost use Rattle.arrayvec.specs.ArrayVec.{array_vec_len};
+ghost use Rattle.ga_explorer_text.specs.Trees.{data_name, return_name, part_name, mark_text};
+
+use ga_event::Part;
+use ga_text::{NUMBER_ROOM, TextBuffer, push_byte, push_number, push_text};
+
+/// The most bytes of a part's name.
+pub(crate) const PART_ROOM: usize = b"d".len() + NUMBER_ROOM;
+
+/// Adds the name of a part: of a cell its address.
+pub(crate) fn push_part(out: &mut TextBuffer, part: Part)
+    requires { array_vec_len out.old + PART_ROOM ≤ 256 }
+    ensures text { out.new.items ≡ out.old.items ++ part_name part }
+    ensures len { array_vec_len out.new ≤ array_vec_len out.old + PART_ROOM }
+{
+    match part {
+        Part::Data(k) => push_data(out, k),
+        Part::Return(k) => push_return(out, k),
+        Part::Ram(k) => push_byte(out, k),
+        Part::Rom(k) => push_byte(out, 128 + k % 64),
+        Part::A => push_text(out, b"a"),
+        Part::B => push_text(out, b"b"),
+        Part::P => push_text(out, b"p"),
+        Part::I => push_text(out, b"i"),
+        Part::Io => push_text(out, b"io"),
+        Part::Carry => push_text(out, b"carry"),
+        Part::Slot => push_text(out, b"slot"),
+        Part::Wait => push_text(out, b"wait"),
+        Part::Stop => push_text(out, b"stop"),
+        Part::Outside => push_text(out, b"outside"),
+    }
+}
+
+/// Adds the name of a word of the data stack.
+fn push_data(out: &mut TextBuffer, k: u8)
+    requires { array_vec_len out.old + PART_ROOM ≤ 256 }
+    ensures text { out.new.items ≡ out.old.items ++ data_name k }
+    ensures len { array_vec_len out.new ≤ array_vec_len out.old + PART_ROOM }
+{
+    if k == 0 {
+        push_text(out, b"t");
+    } else if k == 1 {
+        push_text(out, b"s");
+    } else {
+        push_text(out, b"d");
+        push_number(out, u64::from(k));
+    }
+}
+
+/// Adds the name of a word of the return stack.
+fn push_return(out: &mut TextBuffer, k: u8)
+    requires { array_vec_len out.old + PART_ROOM ≤ 256 }
+    ensures text { out.new.items ≡ out.old.items ++ return_name k }
+    ensures len { array_vec_len out.new ≤ array_vec_len out.old + PART_ROOM }
+{
+    push_text(out, b"r");
+    if k > 0 {
+        push_number(out, u64::from(k));
+    }
+}
+
+/// Adds the name of the part in which a step left what it made, but for T, the instruction word and a cell.
+pub(crate) fn push_mark(out: &mut TextBuffer, part: Part)
+    requires { array_vec_len out.old + 1 + PART_ROOM ≤ 256 }
+    ensures text { out.new.items ≡ out.old.items ++ mark_text part }
+    ensures len { array_vec_len out.new ≤ array_vec_len out.old + 1 + PART_ROOM }
+{
+    match part {
+        Part::Data(0) => (),
+        Part::Ram(_) => (),
+        Part::Rom(_) => (),
+        Part::I => (),
+        _ => {
+            push_text(out, b" ");
+            push_part(out, part);
+        }
+    }
+}

@@ -1,0 +1,70 @@
+//! A step of a node with the registers after it, as one line.
+
+ghost use Rattle.std.specs.Prelude.{◌≡◌, ◌<◌, ◌≤◌, ◌+◌, ◌^◌, ◌++◌, Some, codes};
+ghost use Rattle.arrayvec.specs.ArrayVec.{array_vec_len};
+ghost use Rattle.ga_word.specs.Word.{hex6_of};
+ghost use Rattle.ga_node.specs.Record.{record_of};
+ghost use Rattle.ga_display.specs.Texts.{register_text};
+ghost use Rattle.ga_explorer_text.specs.Around.{behind_text, passed_text};
+
+use crate::deed_text::push_deed;
+use arrayvec::ArrayVec;
+use ga_grid::NodeId;
+use ga_lab::Made;
+use ga_node::{Node, Place};
+use ga_text::{TextBuffer, WORD_ROOM, push_spaced, push_step, push_text};
+use ga_word::Word18;
+
+/// The bytes of a register: a space, its name, a space and a word.
+const REGISTER_ROOM: usize = b" t ".len() + WORD_ROOM;
+
+/// The bytes of the registers after a step.
+const BEHIND_ROOM: usize = 6 * REGISTER_ROOM;
+
+/// A step: its number, what it did, and the registers after it.
+pub(crate) fn step_line(node: NodeId, step: u32, made: Made, behind: &Node) -> TextBuffer
+    ensures { result.items ≡ passed_text node step (Some made) (record_of behind.now) }
+{
+    let mut out = ArrayVec::new();
+    push_step(&mut out, node, step);
+    push_text(&mut out, b" ");
+    push_deed(&mut out, made, node);
+    push_behind(&mut out, behind);
+    out
+}
+
+/// Adds T, S, R, A, B and P.
+#[tactic(auto, unfolding(ga_node::specs::Record::record_of))]
+fn push_behind(out: &mut TextBuffer, node: &Node)
+    requires { array_vec_len out.old + BEHIND_ROOM ≤ 256 }
+    ensures text { out.new.items ≡ out.old.items ++ behind_text (record_of node.now) }
+    ensures len { array_vec_len out.new ≡ array_vec_len out.old + BEHIND_ROOM }
+{
+    push_register(out, b"t", node.d(0));
+    push_register(out, b"s", node.d(1));
+    push_register(out, b"r", node.r(0));
+    push_register(out, b"a", node.get(Place::A));
+    push_register(out, b"b", node.get(Place::B));
+    push_register(out, b"p", node.get(Place::P));
+}
+
+/// Adds a register: its name, and its value as a word.
+fn push_register(out: &mut TextBuffer, name: &[u8; 1], value: u32)
+    requires small { value < 2 ^ 18 }
+    requires room { array_vec_len out.old + REGISTER_ROOM ≤ 256 }
+    ensures text { out.new.items ≡ out.old.items ++ register_text name.now value }
+    ensures len { array_vec_len out.new ≡ array_vec_len out.old + REGISTER_ROOM }
+{
+    push_text(out, &[b' ', name[0]]);
+    push_value(out, value);
+}
+
+/// Adds a space, and a value of at most 18 bits as a word.
+fn push_value(out: &mut TextBuffer, value: u32)
+    requires small { value < 2 ^ 18 }
+    requires room { array_vec_len out.old + 1 + WORD_ROOM ≤ 256 }
+    ensures text { out.new.items ≡ out.old.items ++ (codes " " ++ hex6_of value) }
+    ensures len { array_vec_len out.new ≡ array_vec_len out.old + 1 + WORD_ROOM }
+{
+    push_spaced(out, Word18::truncated(value));
+}

@@ -1,0 +1,77 @@
+//! The text of a run.
+
+ghost use Rattle.std.specs.Prelude.{◌≡◌, ◌+◌, ◌*◌, ◌≤◌, ◌++◌, length, decimal};
+ghost use Rattle.arrayvec.specs.ArrayVec.{array_vec_len};
+ghost use Rattle.ga_explorer_text.specs.Texts.{run_text, which_text, fault_word};
+
+use arrayvec::ArrayVec;
+use ga_display::{advice_text, push_made};
+use ga_lab::LabFault;
+use ga_scheduler::{End, Ran};
+use ga_text::{LINE_ROOM, NUMBER_ROOM, push_number, push_text};
+
+/// The most bytes of a run's line.
+const RUN_ROOM: usize = 2 * LINE_ROOM;
+
+/// The text of a run's line.
+pub type RunText = ArrayVec<u8, RUN_ROOM>;
+
+/// How many events a run made, and why no more: where several conditions are asked for, which of them held first; where there is no room,
+/// what to do.
+pub fn ran_text(ran: &Ran, conditions: usize) -> RunText
+    ensures { result.items ≡ run_text conditions ran.now.events ran.now.end }
+{
+    let mut out = ArrayVec::new();
+    match ran.end {
+        End::Reached { made, which } => {
+            push_text(&mut out, b"reached ");
+            push_number(&mut out, ran.events);
+            push_which(&mut out, conditions, which);
+            push_text(&mut out, b" ");
+            push_made(&mut out, made);
+        }
+        End::Made => push_count(&mut out, b"made ", ran.events, b"\n"),
+        End::Quiet => push_count(&mut out, b"quiet ", ran.events, b"\n"),
+        End::Refused(why) => push_count(&mut out, word_of(why), ran.events, advice_text(why)),
+    }
+    out
+}
+
+/// Adds which of several conditions held, counted from 1, and nothing of one alone.
+fn push_which(out: &mut RunText, conditions: usize, which: u8)
+    requires { array_vec_len out.old + 2 * NUMBER_ROOM ≤ LINE_ROOM }
+    ensures text { out.new.items ≡ out.old.items ++ which_text conditions which }
+    ensures len { array_vec_len out.new ≤ array_vec_len out.old + 2 * NUMBER_ROOM }
+{
+    if conditions > 1 {
+        push_text(out, b" by ");
+        push_number(out, u64::from(which) + 1);
+    }
+}
+
+/// Adds a word, a number and the rest of the line.
+fn push_count(out: &mut RunText, word: &[u8], events: u64, rest: &[u8])
+    requires word { array_vec_len out.old + length word.now ≤ LINE_ROOM }
+    requires rest { length rest.now ≤ 80 }
+    ensures { out.new.items ≡ out.old.items ++ word.now ++ decimal events ++ rest.now }
+{
+    push_text(out, word);
+    push_number(out, events);
+    push_text(out, rest);
+}
+
+/// Why a step was refused.
+fn word_of(why: LabFault) -> &'static [u8]
+    ensures text { result.now ≡ fault_word why }
+    ensures len { length result.now ≤ 8 }
+{
+    match why {
+        LabFault::Waiting => b"waiting ",
+        LabFault::Stopped => b"stopped ",
+        LabFault::Full => b"full ",
+        LabFault::Memory => b"memory ",
+        LabFault::Empty => b"empty ",
+        LabFault::NoStep => b"nostep ",
+        LabFault::Spent => b"spent ",
+    }
+}

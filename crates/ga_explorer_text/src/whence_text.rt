@@ -1,0 +1,182 @@
+//! The provenance of a value, written line by line.
+
+ghost use Rattle.std.specs.Prelude.{◌≡◌, ◌≤◌, ◌<◌, ◌+◌, ◌++◌};
+ghost use Rattle.arrayvec.specs.ArrayVec.{array_vec_len};
+ghost use Rattle.ga_text.specs.Output.{Says, SaysExactly};
+ghost use Rattle.ga_explorer_text.specs.Trees.{blanks, value_text, did_text, more_text, TellsWhence};
+ghost use Rattle.ga_explorer_text.specs.inner.{is_first};
+
+use crate::deed_text::{DEED_ROOM, push_deed};
+use crate::part_text::{push_mark, push_part};
+use crate::tail_text::Outlook;
+use arrayvec::ArrayVec;
+use ga_debug_info::Notes;
+use ga_display::{advised_text, refusal_text};
+use ga_grid::NodeId;
+use ga_lab::{Lab, LabFault};
+use ga_provenance::{Row, Value, asked_behind, whence_near};
+use ga_text::{STEP_ROOM, Spoken, TextBuffer, Writer, push_node, push_step, push_text};
+use std::alloc::Global;
+use std::io::Write;
+
+/// How many lines a tree has at most.
+const MOST_ROWS: u32 = 100;
+
+/// The most bytes of a step with what it did.
+const DID_ROOM: usize = STEP_ROOM + 1 + DEED_ROOM;
+
+/// `whence NNN K`: writes the steps whose values went into what a step made, as a tree. The node is walked back to the step
+/// once, and the rest is found from there.
+///
+/// # Errors
+/// A write failed.
+pub fn say_whence<W: Write>(
+    alloc: Global,
+    lab: &Lab,
+    notes: &Option<Notes>,
+    node: NodeId,
+    step: u32,
+    writer: &mut Writer<'_, W>,
+) -> Spoken
+    ensures { Says result (TellsWhence notes.now lab.now node step) W.contents writer.old writer.new }
+{
+    if !lab.stands((node, step)) {
+        return writer.say(refusal_text(LabFault::NoStep));
+    }
+    let here = Outlook::new(lab, notes, node, step);
+    match asked_behind(lab, &here.near, node) {
+        Some(value) => here.say_asked(alloc, value, writer),
+        None => here.say_head(writer),
+    }
+}
+
+/// The text after the rows, if these are not all.
+fn more(is_whole: bool) -> &'static [u8]
+    ensures { result.now ≡ more_text is_whole }
+{
+    if is_whole { b"" } else { b"more\n" }
+}
+
+/// Whether the first of some rows is of this step.
+fn is_first(step: u32, rows: &[Row]) -> bool
+    ensures { result ≡ is_first step rows.now }
+{
+    match rows {
+        [first, ..] => first.value.step == step,
+        [] => false,
+    }
+}
+
+/// Says two blanks for each level.
+fn say_blanks<W: Write>(levels: u64, writer: &mut Writer<'_, W>) -> Spoken
+    ensures { SaysExactly result (blanks levels) W.contents writer.old writer.new }
+{
+    let mut left = levels;
+    'levels: while left > 0 {
+        writer.say(b"  ")?;
+        left -= 1;
+    }
+    Ok(())
+}
+
+/// A step of a node, with what it did.
+fn head_line(lab: &Lab, node: NodeId, step: u32) -> TextBuffer
+    ensures { result.items ≡ did_text lab.now node step }
+{
+    let mut out = ArrayVec::new();
+    push_did(&mut out, lab, node, step);
+    out
+}
+
+/// The step that made a value, or that it was loaded.
+fn value_line(lab: &Lab, value: Value) -> TextBuffer
+    ensures { result.items ≡ value_text lab.now value }
+{
+    let mut out = ArrayVec::new();
+    if value.step == 0 {
+        push_node(&mut out, value.node);
+        push_text(&mut out, b" load ");
+        push_part(&mut out, value.part);
+    } else {
+        push_did(&mut out, lab, value.node, value.step);
+        push_mark(&mut out, value.part);
+    }
+    out
+}
+
+/// Adds a step of a node, with what it did.
+fn push_did(out: &mut TextBuffer, lab: &Lab, node: NodeId, step: u32)
+    requires { array_vec_len out.old + DID_ROOM ≤ 256 }
+    ensures text { out.new.items ≡ out.old.items ++ did_text lab.now node step }
+    ensures len { array_vec_len out.new ≤ array_vec_len out.old + DID_ROOM }
+{
+    push_step(out, node, step);
+    push_text(out, b" ");
+    if let Some(made) = lab.told(node, step.saturating_sub(1)) {
+        push_deed(out, made, node);
+    }
+}
+
+impl<'l> Outlook<'l> {
+    ghost use Rattle.std.specs.Prelude.{◌≡◌, Some, flat_map};
+    ghost use Rattle.ga_event.specs.Flow.{IsPart};
+    ghost use Rattle.ga_text.specs.Output.{Says, SaysExactly};
+    ghost use Rattle.ga_explorer_text.specs.Trees.{tree_row_text, rows_by, head_text, TellsAsked};
+    ghost use Rattle.ga_explorer_text.specs.inner.{is_first};
+
+    /// Writes the tree of a value for the step to which its node is walked back.
+    fn say_asked<W: Write>(&self, alloc: Global, value: Value, writer: &mut Writer<'_, W>) -> Spoken
+        requires { IsPart value.part }
+        ensures { Says result (λ text. TellsAsked self.now.notes.now self.now.lab.now self.now.node self.now.near.step (Some value) text)
+            W.contents writer.old writer.new }
+    {
+        match whence_near(alloc, self.lab, &self.near, self.node, value, MOST_ROWS) {
+            Ok(listing) => {
+                self.say_rows(listing.rows.as_slice(), writer)?;
+                writer.say_blocks(more(listing.is_whole))
+            }
+            Err(_) => writer.say(advised_text(LabFault::Memory)),
+        }
+    }
+
+    /// Writes the rows, after the step of the query if this isn't the first of them.
+    fn say_rows<W: Write>(&self, rows: &[Row], writer: &mut Writer<'_, W>) -> Spoken
+        ensures { Says result (λ text. text ≡ rows_by self.now.notes.now self.now.lab.now self.now.node self.now.near.step (is_first self.now.near.step rows.now) rows.now)
+            W.contents writer.old writer.new }
+    {
+        if is_first(self.near.step(), rows) {
+            return self.say_lines(0, rows, writer);
+        }
+        self.say_head(writer)?;
+        self.say_lines(1, rows, writer)
+    }
+
+    /// Says the step asked for, to which its node is walked back.
+    fn say_head<W: Write>(&self, writer: &mut Writer<'_, W>) -> Spoken
+        ensures { Says result (λ text. text ≡ head_text self.now.notes.now self.now.lab.now self.now.node self.now.near.step)
+            W.contents writer.old writer.new }
+    {
+        writer.say_blocks(head_line(self.lab, self.node, self.near.step()).as_slice())?;
+        self.say_own_tail(writer)
+    }
+
+    /// Says the lines of some rows, each so much deeper.
+    fn say_lines<W: Write>(&self, deeper: u8, rows: &[Row], writer: &mut Writer<'_, W>) -> Spoken
+        ensures { Says result (λ text. text ≡ flat_map (tree_row_text self.now.notes.now self.now.lab.now deeper) rows.now)
+            W.contents writer.old writer.new }
+    {
+        'rows: for row in rows {
+            self.say_row(deeper, *row, writer)?;
+        }
+        Ok(())
+    }
+
+    /// Says the line of a row.
+    pub fn say_row<W: Write>(&self, deeper: u8, row: Row, writer: &mut Writer<'_, W>) -> Spoken
+        ensures { SaysExactly result (tree_row_text self.now.notes.now self.now.lab.now deeper row) W.contents writer.old writer.new }
+    {
+        say_blanks(u64::from(row.depth) + u64::from(deeper), writer)?;
+        writer.say_blocks(value_line(self.lab, row.value).as_slice())?;
+        self.say_value_tail(row.value, writer)
+    }
+}

@@ -1,0 +1,308 @@
+//! Who waits for whom, written line by line.
+
+ghost use Rattle.std.specs.Prelude.{◌≡◌, ◌++◌, ◌+◌, ◌≤◌, ◌&&◌, not, if◌then◌else◌, length};
+ghost use Rattle.arrayvec.specs.ArrayVec.{array_vec_len};
+ghost use Rattle.ga_grid.specs.Grid.{number_where_any};
+ghost use Rattle.ga_grid.specs.Chip.{records_of};
+ghost use Rattle.ga_causal.specs.Dependence.{is_marked};
+ghost use Rattle.ga_text.specs.Output.{Says, SaysExactly};
+ghost use Rattle.ga_explorer_text.specs.Waiting.{doing_word, does_text, beside_text, awaited_text, awaiting_text, waiting_text, busy_text, all_waiting, name_if, busy_names, node_count, idle_tail, stuck_line, stuck_text, idle_line, idle_text};
+ghost use Rattle.ga_explorer_text.specs.Telling.{TellsWho};
+
+use super::ring_text::say_rings;
+use arrayvec::ArrayVec;
+use ga_grid::{Chip, NodeId, neighbour};
+use ga_lab::Lab;
+use ga_node::{Node, Wait};
+use ga_ports::Side;
+use ga_races::{awaits, find_stuck};
+use ga_scheduler::find_idle;
+use ga_text::{NUMBER_ROOM, Spoken, TextBuffer, Writer, push_node, push_number, push_text};
+use std::io::Write;
+
+/// The most bytes of what a node does.
+const DOING_ROOM: usize = b"fetches".len();
+
+/// The bytes of a node's name after a space.
+const NAME_ROOM: usize = b" 717".len();
+
+/// The most bytes of a neighbour: a space, the side, its name, a space and what it does.
+const BESIDE_ROOM: usize = b" r".len() + NAME_ROOM + 1 + DOING_ROOM;
+
+/// The bytes of all names.
+const NAMES_ROOM: usize = 144 * NAME_ROOM;
+
+/// The names of some nodes.
+type Names = ArrayVec<u8, NAMES_ROOM>;
+
+/// The most bytes of how many idle nodes there are.
+const IDLE_ROOM: usize = b" and ".len() + NUMBER_ROOM + b" idle".len();
+
+/// The most bytes of the line of nodes that can never go on.
+const STUCK_ROOM: usize = b"stuck".len() + NAMES_ROOM + IDLE_ROOM + b"\n".len();
+
+/// The text of that line.
+type StuckLine = ArrayVec<u8, STUCK_ROOM>;
+
+/// `who`: writes for each waiting node what it waits for, of whom, and what that node does; which nodes are deadlocked, the
+/// wait cycles among them; and how many nodes are idle, which aren't listed. Allocates nothing.
+///
+/// # Errors
+/// A write failed.
+pub fn say_who<W: Write>(lab: &Lab, writer: &mut Writer<'_, W>) -> Spoken
+    ensures { Says result (TellsWho lab.now) W.contents writer.old writer.new }
+{
+    let chip = lab.chip();
+    let stuck = find_stuck(chip);
+    let idle = find_idle(lab);
+    say_waiting(chip, &idle, writer)?;
+    writer.say_blocks(stuck_line(&stuck, &idle).as_slice())?;
+    say_rings(chip, &stuck, writer)?;
+    writer.say_blocks(idle_line(&idle).as_slice())
+}
+
+/// Says the lines of the nodes that wait and are not idle.
+fn say_waiting<W: Write>(chip: &Chip, idle: &[bool; 144], writer: &mut Writer<'_, W>) -> Spoken
+    ensures { Says result (λ text. text ≡ all_waiting (records_of chip.now) (is_marked idle.now))
+        W.contents writer.old writer.new }
+{
+    'nodes: for number in 0..144u8 {
+        say_node(chip, idle, NodeId::new(number), writer)?;
+    }
+    Ok(())
+}
+
+/// Says the line of a node, where it waits and is not idle.
+fn say_node<W: Write>(
+    chip: &Chip,
+    idle: &[bool; 144],
+    node: NodeId,
+    writer: &mut Writer<'_, W>,
+) -> Spoken
+    ensures { SaysExactly result (busy_text (records_of chip.now) (is_marked idle.now) node.number) W.contents writer.old writer.new }
+{
+    writer.say_blocks(busy_line(chip, idle, node).as_slice())
+}
+
+/// The line of a node that waits, where it is not idle.
+fn busy_line(chip: &Chip, idle: &[bool; 144], node: NodeId) -> TextBuffer
+    ensures { result.items ≡ busy_text (records_of chip.now) (is_marked idle.now) node.number }
+{
+    if idle[node.index()] {
+        ArrayVec::new()
+    } else {
+        waiting_line(chip, node)
+    }
+}
+
+/// The line of a node that waits: what it does, and of each neighbour that it awaits the side, the name and what that one does.
+fn waiting_line(chip: &Chip, node: NodeId) -> TextBuffer
+    ensures { result.items ≡ waiting_text (records_of chip.now) node.number }
+{
+    match chip.node(node).wait() {
+        Wait::Nothing => ArrayVec::new(),
+        Wait::Fetch(_) => awaiting_line(chip, node),
+        Wait::Read(_) => awaiting_line(chip, node),
+        Wait::Write(_) => awaiting_line(chip, node),
+    }
+}
+
+fn awaiting_line(chip: &Chip, node: NodeId) -> TextBuffer
+    ensures { result.items ≡ awaiting_text (records_of chip.now) node.number }
+{
+    let mut out = ArrayVec::new();
+    push_node(&mut out, node);
+    push_text(&mut out, b" ");
+    push_does(&mut out, chip, node);
+    push_awaited(&mut out, chip, node, Side::Right, b'r');
+    push_awaited(&mut out, chip, node, Side::Down, b'd');
+    push_awaited(&mut out, chip, node, Side::Left, b'l');
+    push_awaited(&mut out, chip, node, Side::Up, b'u');
+    push_text(&mut out, b"\n");
+    out
+}
+
+/// Adds what a node does.
+fn push_does(out: &mut TextBuffer, chip: &Chip, node: NodeId)
+    requires { array_vec_len out.old + DOING_ROOM ≤ 256 }
+    ensures text { out.new.items ≡ out.old.items ++ does_text (records_of chip.now) node.number }
+    ensures len { array_vec_len out.new ≤ array_vec_len out.old + DOING_ROOM }
+{
+    let at = chip.node(node);
+    push_doing(out, at.wait(), at.stop());
+}
+
+fn push_doing(out: &mut TextBuffer, wait: Wait, stop: u8)
+    requires { array_vec_len out.old + DOING_ROOM ≤ 256 }
+    ensures text { out.new.items ≡ out.old.items ++ doing_word wait stop }
+    ensures len { array_vec_len out.new ≤ array_vec_len out.old + DOING_ROOM }
+{
+    match wait {
+        Wait::Fetch(_) => push_text(out, b"fetches"),
+        Wait::Read(_) => push_text(out, b"reads"),
+        Wait::Write(_) => push_text(out, b"writes"),
+        Wait::Nothing => push_text(
+            out,
+            if stop == 0 {
+                b"runs".as_slice()
+            } else {
+                b"stopped".as_slice()
+            },
+        ),
+    }
+}
+
+/// Adds the neighbour on a side, where the node awaits it.
+fn push_awaited(out: &mut TextBuffer, chip: &Chip, node: NodeId, side: Side, letter: u8)
+    requires { array_vec_len out.old + BESIDE_ROOM ≤ 256 }
+    ensures text { out.new.items ≡ out.old.items ++ awaited_text (records_of chip.now) node.number side letter }
+    ensures len { array_vec_len out.new ≤ array_vec_len out.old + BESIDE_ROOM }
+{
+    if awaits(&chip.node(node).wait(), side) {
+        push_beside(out, chip, neighbour(node, side), letter);
+    }
+}
+
+/// Adds a neighbour, where there is one.
+fn push_beside(out: &mut TextBuffer, chip: &Chip, beside: Option<NodeId>, letter: u8)
+    requires { array_vec_len out.old + BESIDE_ROOM ≤ 256 }
+    ensures text { out.new.items ≡ out.old.items ++ beside_text (records_of chip.now) (number_where_any beside) letter }
+    ensures len { array_vec_len out.new ≤ array_vec_len out.old + BESIDE_ROOM }
+{
+    if let Some(other) = beside {
+        push_text(out, &[b' ', letter, b' ']);
+        push_node(out, other);
+        push_text(out, b" ");
+        push_does(out, chip, other);
+    }
+}
+
+/// The line of the nodes that can never go on, where there are any that are not idle.
+fn stuck_line(marks: &[bool; 144], idle: &[bool; 144]) -> StuckLine
+    ensures { result.items ≡ stuck_text (is_marked marks.now) (is_marked idle.now) }
+{
+    line_of_names(busy_names(marks, idle).as_slice(), idle_among(marks, idle))
+}
+
+/// The line of these names and the number of idle nodes.
+fn line_of_names(names: &[u8], idle: u8) -> StuckLine
+    requires { length names.now ≤ NAMES_ROOM }
+    ensures { result.items ≡ stuck_line names.now idle }
+{
+    let mut out = ArrayVec::new();
+    if !names.is_empty() {
+        push_text(&mut out, b"stuck");
+        push_text(&mut out, names);
+        push_idle(&mut out, idle);
+        push_text(&mut out, b"\n");
+    }
+    out
+}
+
+/// Adds how many idle nodes are among those of a line, where some are.
+fn push_idle(out: &mut StuckLine, idle: u8)
+    requires { array_vec_len out.old + IDLE_ROOM ≤ STUCK_ROOM }
+    ensures text { out.new.items ≡ out.old.items ++ idle_tail idle }
+    ensures len { array_vec_len out.new ≤ array_vec_len out.old + IDLE_ROOM }
+{
+    if idle > 0 {
+        push_text(out, b" and ");
+        push_number(out, u64::from(idle));
+        push_text(out, b" idle");
+    }
+}
+
+/// The names of the marked nodes that are not idle, each after a space.
+fn busy_names(marks: &[bool; 144], idle: &[bool; 144]) -> Names
+    ensures { result.items ≡ busy_names (is_marked marks.now) (is_marked idle.now) }
+{
+    let mut out = ArrayVec::new();
+    'nodes: for number in 0..144u8 {
+        let node = NodeId::new(number);
+        push_name_if(&mut out, node, is_busy(marks, idle, node));
+    }
+    out
+}
+
+/// Whether a node is marked and not idle.
+fn is_busy(marks: &[bool; 144], idle: &[bool; 144], node: NodeId) -> bool
+    ensures { result ≡ (is_marked marks.now node.number && not (is_marked idle.now node.number)) }
+{
+    marks[node.index()] && !idle[node.index()]
+}
+
+/// Adds a node's name after a space, if it is to be named.
+fn push_name_if(out: &mut Names, node: NodeId, named: bool)
+    requires { array_vec_len out.old + NAME_ROOM ≤ NAMES_ROOM }
+    ensures text { out.new.items ≡ out.old.items ++ name_if named node.number }
+    ensures len { array_vec_len out.new ≤ array_vec_len out.old + NAME_ROOM }
+{
+    if named {
+        push_text(out, b" ");
+        push_node(out, node);
+    }
+}
+
+/// How many of the marked nodes are idle.
+fn idle_among(marks: &[bool; 144], idle: &[bool; 144]) -> u8
+    ensures { result ≡ node_count (λ n. is_marked marks.now n && is_marked idle.now n) 144 }
+{
+    let mut count = 0;
+    'nodes: for number in 0..144u8 {
+        count += one_if(is_both(marks, idle, NodeId::new(number)));
+    }
+    count
+}
+
+/// Whether a node is marked and idle.
+fn is_both(marks: &[bool; 144], idle: &[bool; 144], node: NodeId) -> bool
+    ensures { result ≡ (is_marked marks.now node.number && is_marked idle.now node.number) }
+{
+    marks[node.index()] && idle[node.index()]
+}
+
+/// How many nodes are idle.
+fn idle_count(idle: &[bool; 144]) -> u8
+    ensures { result ≡ node_count (is_marked idle.now) 144 }
+{
+    let mut count = 0;
+    'nodes: for number in 0..144u8 {
+        count += one_if(is_idle(idle, NodeId::new(number)));
+    }
+    count
+}
+
+/// Whether a node is idle.
+fn is_idle(idle: &[bool; 144], node: NodeId) -> bool
+    ensures { result ≡ is_marked idle.now node.number }
+{
+    idle[node.index()]
+}
+
+/// 1 where this holds, else 0.
+fn one_if(holds: bool) -> u8
+    ensures one { result ≡ (if holds then 1 else 0) }
+    ensures few { result ≤ 1 }
+{
+    if holds { 1 } else { 0 }
+}
+
+/// The last line: how many nodes are idle, where some are.
+fn idle_line(idle: &[bool; 144]) -> TextBuffer
+    ensures { result.items ≡ idle_text (is_marked idle.now) }
+{
+    line_of_count(idle_count(idle))
+}
+
+/// The line with the number of idle nodes.
+fn line_of_count(idle: u8) -> TextBuffer
+    ensures { result.items ≡ idle_line idle }
+{
+    let mut out = ArrayVec::new();
+    if idle > 0 {
+        push_text(&mut out, b"idle ");
+        push_number(&mut out, u64::from(idle));
+        push_text(&mut out, b"\n");
+    }
+    out
+}

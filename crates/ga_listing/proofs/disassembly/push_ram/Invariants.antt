@@ -1,5 +1,0 @@
-use Rattle.ga_listing.proofs.Cells.{IsSoFar}
-use Rattle.ga_listing.proofs.disassembly.push_ram.Given as goal
-
-abbrev pub invariant-loop-cell : goal.invariant-loop-cell
-invariant-loop-cell l = IsSoFar 0 0 l.fn.node.ram l.fn.text.items l.text.items l.cell l.next

@@ -1,5 +1,0 @@
-use Rattle.ga_listing.specs.inner.{AddsRemark}
-use Rattle.ga_listing.proofs.disassembly.push_remark.Given as goal
-
-abbrev pub invariant-loop-byte : goal.invariant-loop-byte
-invariant-loop-byte l = AddsRemark l.byte-index l.fn.text.items l.text.items

@@ -1,0 +1,16 @@
+use Rattle.std.proofs.Common.{◌≡◌, suc, ◌-◌, refl, sym, ◌∙◌, arith}
+use Rattle.ga_provenance.specs.Origins.{origin_of}
+use Rattle.ga_provenance.proofs.Made.{back_on}
+use Rattle.ga_provenance.proofs.Keeping.{misses_stays}
+use Rattle.ga_provenance.proofs.trail.passed.Goals as goal
+
+pub returns-clause-same : goal.returns-clause-same
+returns-clause-same c =
+    let s = c.args.lab.now in
+    let value = c.args.followed.value in
+    let before = c.registers_before-registers in
+    let is : suc (value.step - 1) ≡ value.step = omega (arith, c.if-step-eq0.false) in
+    back_on s value.node value.step (value.step - 1) value.part value.part (origin_of s value) is
+    (sym (misses_stays s value.node.number (value.step - 1) value.part c.told-told.result before.result c.told-told.ensures before.ensures.a before.ensures.b
+    (sym c.misses.ensures ∙ c.if-not-misses.false)))
+    refl

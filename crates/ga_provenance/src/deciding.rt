@@ -1,0 +1,326 @@
+//! The steps at which a value decided where a node continued.
+
+ghost use Rattle.std.specs.Prelude.{◌≡◌, ◌≤◌, ◌+◌, ◌^◌, ◌<◌, true, Some, IfSome, option_map};
+ghost use Rattle.ga_node.specs.Record.{record_of};
+ghost use Rattle.ga_event.specs.Told.{steps_of};
+ghost use Rattle.ga_lab.specs.Machine.{standing};
+ghost use Rattle.ga_event.specs.Flow.{IsPart, part_of};
+ghost use Rattle.ga_provenance.specs.Origins.{origin_of};
+ghost use Rattle.ga_provenance.specs.Deciding.{tested_by, code_at, brought_at, came_over, op_tested, kind_tested, decided_by, decided_at};
+ghost use Rattle.ga_provenance.specs.inner.{IsTested, IsOwn, IsTrailTo};
+
+use crate::listing::sender_in;
+use crate::origin::{flow_by_trail, kept_step, origin_behind, trail_near};
+use crate::trail::Trail;
+use crate::value::Value;
+use ga_event::{Flow, Made, Part};
+use ga_grid::NodeId;
+use ga_lab::{Lab, Walk};
+use ga_node::{Kind, Node, Place};
+use ga_slots::Op;
+use ga_word::Word18;
+use std::marker::Model;
+
+/// A step at which a value decided where its node continued.
+#[derive(Clone, Copy, PartialEq, Eq, Debug)]
+pub struct Decision {
+    /// The number of the step.
+    pub step: u32,
+    /// The step as made.
+    pub made: Made,
+    /// The value: R or T before the step, or the instruction word that names where to; of an instruction word that the step took, T of
+    /// the writer.
+    pub tested: Value,
+    /// The word of the value that decided the step.
+    pub word: Word18,
+    /// The step that made the value, or that it was loaded.
+    pub source: Value,
+}
+
+// The part before it that an opcode tests, or that it makes P of.
+#[inline(always)]
+fn tested_by(op: Op) -> Option<Part>
+    ensures value { result ≡ tested_by op }
+    ensures part { IfSome result IsTested }
+{
+    match op {
+        Op::Return | Op::Execute | Op::Unext | Op::Next => Some(Part::R),
+        Op::If | Op::MinusIf => Some(Part::T),
+        _ => None,
+    }
+}
+
+// The word in a part that is tested.
+#[tactic(auto, unfolding(ga_node::specs::Record::record_of))]
+fn word_in(node: &Node, part: Part) -> u32
+    requires { IsTested part }
+    ensures value { result ≡ part_of 0 (record_of node.now) part }
+    ensures fits { result < 2 ^ 18 }
+{
+    match part {
+        Part::Data(_) => node.d(0),
+        Part::Return(_) => node.r(0),
+        _ => node.get(Place::I),
+    }
+}
+
+// The T from which an instruction word came over a port by the step at a place.
+fn code_by_trail(lab: &Lab, trail: &mut Trail<'_>, node: NodeId, place: u32) -> Option<Value>
+    requires trail { IsTrailTo lab.now node trail.old place }
+    ensures value { result ≡ code_at lab.now node.number place }
+    ensures part { IfSome result (λ value. IsPart value.part) }
+    ensures trail { trail.new ≡ standing lab.now node trail.new.step }
+    ensures order { place ≤ trail.new.step }
+{
+    match flow_by_trail(lab, trail, node, place, Part::I) {
+        Flow::Same(Part::Outside) => sender_in(lab.told(node, place)),
+        Flow::Same(_) => None,
+        Flow::From(_) => None,
+    }
+}
+
+// Whether the step at a place brought an instruction word over a port: false if it brought another; none if it left the word
+// that was there.
+#[inline(always)]
+fn brought<'l>(lab: &'l Lab, trail: &Trail<'l>, node: NodeId, place: u32) -> Option<bool>
+    requires trail { trail.now ≡ standing lab.now node trail.now.step }
+    requires within { place ≤ steps_of node.number lab.now.kept }
+    ensures { result ≡ brought_at lab.now node.number place }
+{
+    match lab.told(node, place) {
+        Some(made) => match made {
+            Made::Own { kind, .. } => match kind {
+                Kind::Fetch => Some(false),
+                Kind::Run(_) => None,
+                Kind::Wait => None,
+                Kind::Stop(_) => None,
+            },
+            Made::Pass { .. } => taken(lab, trail, node, place),
+        },
+        None => None,
+    }
+}
+
+// True where the step at a place, a pass, brought its node an instruction word; none where it brought none.
+fn taken<'l>(lab: &'l Lab, trail: &Trail<'l>, node: NodeId, place: u32) -> Option<bool>
+    requires trail { trail.now ≡ standing lab.now node trail.now.step }
+    requires within { place ≤ steps_of node.number lab.now.kept }
+    ensures { result ≡ option_map (λ value. true) (code_at lab.now node.number place) }
+{
+    let mut before = trail_near(lab, trail.walk(), node, node, place);
+    match code_by_trail(lab, &mut before, node, place) {
+        Some(_) => Some(true),
+        None => None,
+    }
+}
+
+// Whether the instruction word in I right before the step at a place came over a port.
+fn came_over<'l>(lab: &'l Lab, trail: &Trail<'l>, node: NodeId, place: u32) -> bool
+    requires trail { trail.now ≡ standing lab.now node trail.now.step }
+    requires within { place ≤ steps_of node.number lab.now.kept }
+    ensures { result ≡ came_over lab.now node.number place }
+{
+    let mut step = place;
+    'going: while step > 0 {
+        step -= 1;
+        if let Some(came) = brought(lab, trail, node, step) {
+            return came;
+        }
+    }
+    false
+}
+
+// The part by which the opcode was decided that the step at a place ran.
+#[inline(always)]
+fn op_tested<'l>(lab: &'l Lab, trail: &Trail<'l>, node: NodeId, place: u32, op: Op) -> Option<Part>
+    requires trail { trail.now ≡ standing lab.now node trail.now.step }
+    requires within { place ≤ steps_of node.number lab.now.kept }
+    ensures value { result ≡ op_tested lab.now node place op }
+    ensures part { IfSome result IsTested }
+{
+    match op {
+        Op::Jump | Op::Call => {
+            if came_over(lab, trail, node, place) {
+                Some(Part::I)
+            } else {
+                None
+            }
+        }
+        _ => tested_by(op),
+    }
+}
+
+// The part by which an own event was decided, which the step at a place was.
+#[inline(always)]
+fn kind_tested<'l>(
+    lab: &'l Lab,
+    trail: &Trail<'l>,
+    node: NodeId,
+    place: u32,
+    kind: Kind,
+) -> Option<Part>
+    requires trail { trail.now ≡ standing lab.now node trail.now.step }
+    requires within { place ≤ steps_of node.number lab.now.kept }
+    ensures value { result ≡ kind_tested lab.now node place kind }
+    ensures part { IfSome result IsTested }
+{
+    match kind {
+        Kind::Run(code) => op_tested(lab, trail, node, place, Op::from_code(code % 32)),
+        Kind::Fetch => None,
+        Kind::Wait => None,
+        Kind::Stop(_) => None,
+    }
+}
+
+// The step that made a value, found by a trail of a node, which is not walked on.
+fn source_of<'l>(lab: &'l Lab, trail: &Trail<'l>, node: NodeId, value: Value) -> Value
+    requires part { IsPart value.part }
+    requires trail { trail.now ≡ standing lab.now node trail.now.step }
+    ensures { result ≡ origin_of lab.now value }
+{
+    let step = kept_step(lab, value);
+    let mut from = trail_near(lab, trail.walk(), node, value.node, step);
+    origin_behind(lab, &mut from, value.node, step, value.part)
+}
+
+// The decision of the step at a place, an own event which the word in this part decided. Walks its node back to right before
+// it.
+#[inline(never)]
+fn own_decision<'l>(
+    lab: &'l Lab,
+    trail: &mut Trail<'l>,
+    node: NodeId,
+    place: u32,
+    made: Made,
+    kind: Kind,
+    part: Part,
+) -> Decision
+    requires trail { IsTrailTo lab.now node trail.old place }
+    requires within { place + 1 ≤ steps_of node.number lab.now.kept }
+    requires fits { place + 1 < 2 ^ 32 }
+    requires told { IsOwn kind made }
+    requires part { IsTested part }
+    requires tested { kind_tested lab.now node place kind ≡ Some part }
+    ensures value { Some result ≡ decided_by lab.now node place made }
+    ensures trail { trail.new ≡ standing lab.now node trail.new.step }
+    ensures order { place ≤ trail.new.step }
+{
+    trail.back_to(place);
+    let word = Word18::truncated(word_in(trail.walk().node(), part));
+    let step = place;
+    let tested = Value { node, step, part };
+    Decision {
+        step: place + 1,
+        made,
+        tested,
+        word,
+        source: source_of(lab, trail, node, tested),
+    }
+}
+
+// The step at a place, where a value decided it.
+fn decided_at<'l>(lab: &'l Lab, trail: &mut Trail<'l>, node: NodeId, place: u32) -> Option<Decision>
+    requires trail { IsTrailTo lab.now node trail.old place }
+    requires within { place + 1 ≤ steps_of node.number lab.now.kept }
+    requires fits { place + 1 < 2 ^ 32 }
+    ensures value { result ≡ decided_at lab.now node place }
+    ensures trail { trail.new ≡ standing lab.now node trail.new.step }
+    ensures order { place ≤ trail.new.step }
+{
+    match lab.told(node, place) {
+        Some(made) => match made {
+            Made::Own { kind, .. } => {
+                let part = kind_tested(lab, trail, node, place, kind)?;
+                Some(own_decision(lab, trail, node, place, made, kind, part))
+            }
+            // An instruction word that came over a port.
+            Made::Pass { word, .. } => {
+                let tested = code_by_trail(lab, trail, node, place)?;
+                Some(Decision {
+                    step: place + 1,
+                    made,
+                    tested,
+                    word,
+                    source: source_of(lab, trail, node, tested),
+                })
+            }
+        },
+        None => None,
+    }
+}
+
+/// The steps of a node at which a value decided where it continued, the newest first: those that test T or R, as `if` and
+/// `next`; those that take P from R, `;` and `ex`; those that took an instruction word over a port; and a `jump` or `call` in
+/// such a word. A contract sees the machine, the node, and how many steps are still to be searched.
+#[derive(Drop)]
+pub struct Decisions<'l> {
+    lab: &'l Lab,
+    node: NodeId,
+    trail: Trail<'l>,
+    step: u32,
+}
+
+impl<'l> Model for Decisions<'l> {
+    ghost use Rattle.ga_lab.specs.Machine.{Standing, standing};
+    ghost use Rattle.ga_provenance.specs.inner.{IsDeciding};
+
+    ghost Value = { Standing };
+
+    ghost view = { λ d. standing d.lab.now d.node d.step };
+
+    ghost invariant = { λ d. IsDeciding d.lab.now d.node d.trail d.step };
+}
+
+impl<'l> Decisions<'l> {
+    ghost use Rattle.std.specs.Prelude.{◌≡◌, ◌<◌, ◌≤◌, ◌+◌, ◌-◌, IfSome};
+    ghost use Rattle.ga_lab.specs.Machine.{standing};
+    ghost use Rattle.ga_provenance.specs.Deciding.{decided_at, newest_decided};
+
+    /// All before the step to which a node is walked back.
+    pub fn before(lab: &'l Lab, near: &Walk<'l>, node: NodeId) -> Self
+        requires { near.now ≡ standing lab.now node near.now.step }
+        ensures { result ≡ standing lab.now node (near.now.step - 1) }
+    {
+        Decisions {
+            lab,
+            node,
+            trail: Trail::new(lab, node, near.copy()),
+            step: near.step().saturating_sub(1),
+        }
+    }
+
+    /// Searches back for the newest step that a value decided, and returns it; none if there is none. Takes no memory, and time
+    /// linear in the number of steps that it passes, and in the number of those between the step and the one that made the
+    /// value. The node is walked back to the step if that was an own event, and no further.
+    pub fn next(&mut self) -> Option<Decision>
+        ensures value { result ≡ newest_decided self.old.machine self.old.node self.old.step }
+        ensures step { IfSome result (λ decision. self.new.step + 1 ≡ decision.step) }
+        ensures same { self.new ≡ standing self.old.machine self.old.node self.new.step }
+    {
+        'going: while self.left() > 0 {
+            if let Some(decision) = self.back() {
+                return Some(decision);
+            }
+        }
+        None
+    }
+
+    // How many steps are still to be looked at.
+    fn left(&self) -> u32
+        ensures { result ≡ self.now.step }
+    {
+        self.step
+    }
+
+    // Searches one step further back, and returns it if a value decided it.
+    fn back(&mut self) -> Option<Decision>
+        requires { 0 < self.old.step }
+        ensures value { result ≡ decided_at self.old.machine self.old.node self.new.step }
+        ensures step { self.new.step + 1 ≡ self.old.step }
+        ensures same { self.new ≡ standing self.old.machine self.old.node self.new.step }
+    {
+        let place = self.step - 1;
+        self.step = place;
+        decided_at(self.lab, &mut self.trail, self.node, place)
+    }
+}

@@ -1,0 +1,161 @@
+//! The source of a value that a step leaves, if the entries of the steps determine it.
+
+ghost use Rattle.std.specs.Prelude.{◌≡◌, ◌<◌, ◌≤◌, IfSome};
+ghost use Rattle.ga_ports.specs.Address.{IsTarget};
+ghost use Rattle.ga_node.specs.Table.{due_of};
+ghost use Rattle.ga_node.specs.State.{wait_of};
+ghost use Rattle.ga_node.specs.declared.due.Due.TheVariants as due;
+ghost use Rattle.ga_lab.specs.Machine.{standing};
+ghost use Rattle.ga_event.specs.Flow.{IsPart, choice, target_of, own_flow, take_flow, flow_of, AreSources};
+ghost use Rattle.ga_provenance.specs.Origins.{node_after, flow_at};
+ghost use Rattle.ga_provenance.specs.inner.{IsDueBy, IsTrailTo};
+
+use crate::trail::Trail;
+use ga_event::{Choice, Flow, Made, Part, flow_where, send_flow, take_flow};
+use ga_grid::NodeId;
+use ga_lab::Lab;
+use ga_node::{Due, Kind, Place, Wait};
+use ga_ports::{PortSet, classify};
+use ga_slots::Op;
+
+/// The number of steps that are searched for the old value of P: an instruction word has four slots, and the fetch after them
+/// writes P.
+const AHEAD: u32 = 8;
+
+// P right before the step at a place, where one of the next few steps wrote P.
+pub(crate) fn p_at(lab: &Lab, node: NodeId, place: u32) -> Option<u32>
+    ensures { IfSome result (λ p. (node_after lab.now node.number place).p ≡ p) }
+{
+    let steps = lab.steps(node);
+    let mut at = place;
+    'looking: while at < steps && at - place < AHEAD {
+        if let Some(p) = lab.overwritten(node, at, Place::P) {
+            return Some(p);
+        }
+        at += 1;
+    }
+    None
+}
+
+// What decides an opcode at a place: P is read from the entries of the next few steps, A and B from the trail.
+fn choice_of(lab: &Lab, trail: &mut Trail<'_>, node: NodeId, place: u32, op: Op) -> Option<Choice>
+    requires trail { IsTrailTo lab.now node trail.old place }
+    ensures value { IfSome result (λ known. known ≡ choice (due.Run op) (node_after lab.now node.number place)) }
+    ensures target { IfSome result (λ known. IsTarget (target_of known)) }
+    ensures same { trail.new ≡ trail.old }
+{
+    match op {
+        Op::Unext | Op::Next | Op::If | Op::MinusIf => None,
+        Op::FetchP | Op::StoreP => Some(Choice::At(classify(p_at(lab, node, place)?))),
+        Op::Plus => Some(Choice::Test(p_at(lab, node, place)? / 512 % 2 == 1)),
+        Op::FetchPlus | Op::Fetch | Op::StorePlus | Op::Store => {
+            let registers = trail.registers(lab, node, place);
+            Some(Choice::At(classify(registers.a)))
+        }
+        Op::FetchB | Op::StoreB => {
+            let registers = trail.registers(lab, node, place);
+            Some(Choice::At(classify(registers.b)))
+        }
+        _ => Some(Choice::Plain),
+    }
+}
+
+// What decides the step at a place, before which this came next in its node.
+fn choice_at(lab: &Lab, trail: &mut Trail<'_>, node: NodeId, place: u32, due: Due) -> Option<Choice>
+    requires trail { IsTrailTo lab.now node trail.old place }
+    ensures value { IfSome result (λ known. known ≡ choice due (node_after lab.now node.number place)) }
+    ensures target { IfSome result (λ known. IsTarget (target_of known)) }
+    ensures same { trail.new ≡ trail.old }
+{
+    match due {
+        Due::Fetch => Some(Choice::At(classify(p_at(lab, node, place)?))),
+        Due::Run(op) => choice_of(lab, trail, node, place, op),
+    }
+}
+
+// What an own event leaves in a part, which the step at a place was.
+#[tactic(auto, using(crate::proofs::Ran::own_where))]
+fn own_flow_at(
+    lab: &Lab,
+    trail: &mut Trail<'_>,
+    node: NodeId,
+    place: u32,
+    due: Due,
+    part: Part,
+) -> Option<Flow>
+    requires part { IsPart part }
+    requires trail { IsTrailTo lab.now node trail.old place }
+    requires due { due_of (node_after lab.now node.number place) ≡ due }
+    ensures value { IfSome result (λ flow. flow_of flow ≡ own_flow (node_after lab.now node.number place) part) }
+    ensures sources { IfSome result (λ flow. AreSources (flow_of flow)) }
+    ensures same { trail.new ≡ trail.old }
+{
+    match choice_at(lab, trail, node, place, due) {
+        Some(choice) => Some(flow_where(due, choice, part)),
+        None => None,
+    }
+}
+
+// What came next in a node whose event was of this kind.
+fn due_by(kind: Kind) -> Option<Due>
+    ensures { IfSome result (λ due. IsDueBy kind due) }
+{
+    match kind {
+        Kind::Fetch => Some(Due::Fetch),
+        Kind::Run(code) => {
+            if code < 32 {
+                Some(Due::Run(Op::from_code(code)))
+            } else {
+                None
+            }
+        }
+        _ => None,
+    }
+}
+
+// The wait of a reader, by its number.
+fn reading(code: u32) -> Option<Wait>
+    ensures { IfSome result (λ wait. wait ≡ wait_of code) }
+{
+    match code {
+        17..32 => Some(Wait::Fetch(PortSet::of((code - 16) as u8))),
+        33..48 => Some(Wait::Read(PortSet::of((code - 32) as u8))),
+        _ => None,
+    }
+}
+
+// What the reader's half of the pass at a place leaves in a part.
+fn taken_flow(lab: &Lab, node: NodeId, place: u32, part: Part) -> Option<Flow>
+    requires { IsPart part }
+    ensures value { IfSome result (λ flow. flow_of flow ≡ take_flow (node_after lab.now node.number place).wait part) }
+    ensures sources { IfSome result (λ flow. AreSources (flow_of flow)) }
+{
+    let wait = reading(lab.overwritten(node, place, Place::Wait)?)?;
+    Some(take_flow(wait, part))
+}
+
+/// The source of the value that the step at a place leaves in a part, if the entries determine it.
+pub(crate) fn known_flow(
+    lab: &Lab,
+    trail: &mut Trail<'_>,
+    node: NodeId,
+    place: u32,
+    part: Part,
+) -> Option<Flow>
+    requires part { IsPart part }
+    requires trail { IsTrailTo lab.now node trail.old place }
+    ensures value { IfSome result (λ flow. flow_of flow ≡ flow_at lab.now node.number place part) }
+    ensures sources { IfSome result (λ flow. AreSources (flow_of flow)) }
+    ensures same { trail.new ≡ trail.old }
+{
+    match lab.told(node, place)? {
+        Made::Own { kind, .. } => own_flow_at(lab, trail, node, place, due_by(kind)?, part),
+        Made::Pass { reader, .. } => {
+            if node.number == reader.number {
+                taken_flow(lab, node, place, part)
+            } else {
+                Some(send_flow(part))
+            }
+        }
+    }
+}

@@ -1,0 +1,320 @@
+//! The part from which a step moved a value, if the step as made determines it, whatever the node's values were.
+
+ghost use Rattle.std.specs.Prelude.{◌≡◌, ◌<◌, IfSome};
+ghost use Rattle.ga_event.specs.Flow.{IsPart};
+ghost use Rattle.ga_provenance.specs.inner.{on_data, on_return, pushed, popped_to_data, moved_to_data, popped_to_return, moved_to_return, moved_to_a, unless_stored, by_op, by_fetch, by_pause, stored_at, misses_by, misses, moved_by};
+
+use crate::kept::Registers;
+use ga_event::{Made, Part};
+use ga_node::Kind;
+use ga_ports::{Target, classify};
+use ga_slots::Op;
+
+/// What an opcode does to the words of a stack.
+#[derive(Clone, Copy, PartialEq, Eq, Debug)]
+pub(crate) enum Shift {
+    /// Each keeps its place.
+    Stays,
+    /// The top gets another word, the others keep their places.
+    Replaces,
+    /// A word is pushed.
+    Pushes,
+    /// The top is popped, and the last gets a copy of another.
+    Pops,
+    /// The top two become one word.
+    Combines,
+    /// A test decides.
+    Unsure,
+}
+
+// What an opcode does to the data stack.
+#[inline(always)]
+fn on_data(op: Op) -> Shift
+    ensures { result ≡ on_data op }
+{
+    match op {
+        Op::Return | Op::Execute | Op::Jump | Op::Call => Shift::Stays,
+        Op::Unext | Op::Next | Op::If | Op::MinusIf => Shift::Stays,
+        Op::FetchP | Op::FetchPlus | Op::FetchB | Op::Fetch => Shift::Pushes,
+        Op::StoreP | Op::StorePlus | Op::StoreB | Op::Store => Shift::Pops,
+        Op::MultiplyStep | Op::TwoStar | Op::TwoSlash | Op::Invert => Shift::Replaces,
+        Op::Plus | Op::And | Op::Or => Shift::Combines,
+        Op::Dup | Op::Pop | Op::Over | Op::A => Shift::Pushes,
+        Op::Nop => Shift::Stays,
+        Op::Drop | Op::Push | Op::BStore | Op::AStore => Shift::Pops,
+    }
+}
+
+// What an opcode does to the return stack.
+#[inline(always)]
+fn on_return(op: Op) -> Shift
+    ensures { result ≡ on_return op }
+{
+    match op {
+        Op::Return | Op::Pop => Shift::Pops,
+        Op::Execute => Shift::Replaces,
+        Op::Call | Op::Push => Shift::Pushes,
+        Op::Unext | Op::Next => Shift::Unsure,
+        _ => Shift::Stays,
+    }
+}
+
+// The part whose word an opcode pushes on either stack. What it reads is that of none.
+#[inline(always)]
+fn pushed(op: Op) -> Option<Part>
+    ensures value { result ≡ pushed op }
+    ensures part { IfSome result (λ from. IsPart from) }
+{
+    match op {
+        Op::Dup | Op::Push => Some(Part::T),
+        Op::Over => Some(Part::S),
+        Op::Pop => Some(Part::R),
+        Op::A => Some(Part::A),
+        Op::Call => Some(Part::P),
+        _ => None,
+    }
+}
+
+// The place of a word of the data stack before a pop.
+#[inline(always)]
+fn popped_to_data(place: u8) -> Part
+    requires { place < 10 }
+    ensures value { result ≡ popped_to_data place }
+    ensures part { IsPart result }
+{
+    if place == 9 {
+        Part::Data(2)
+    } else {
+        Part::Data(place + 1)
+    }
+}
+
+// The part whose word an opcode leaves at a place of the data stack.
+#[inline(always)]
+fn moved_to_data(op: Op, place: u8) -> Option<Part>
+    requires { place < 10 }
+    ensures value { result ≡ moved_to_data op place }
+    ensures part { IfSome result (λ from. IsPart from) }
+{
+    match on_data(op) {
+        Shift::Stays => Some(Part::Data(place)),
+        Shift::Replaces => {
+            if place == 0 {
+                None
+            } else {
+                Some(Part::Data(place))
+            }
+        }
+        Shift::Pushes => {
+            if place == 0 {
+                pushed(op)
+            } else {
+                Some(Part::Data(place - 1))
+            }
+        }
+        Shift::Pops => Some(popped_to_data(place)),
+        Shift::Combines => {
+            if place == 0 {
+                None
+            } else {
+                Some(popped_to_data(place))
+            }
+        }
+        Shift::Unsure => None,
+    }
+}
+
+// The place of a word of the return stack before a pop.
+#[inline(always)]
+fn popped_to_return(place: u8) -> Part
+    requires { place < 9 }
+    ensures value { result ≡ popped_to_return place }
+    ensures part { IsPart result }
+{
+    if place == 8 {
+        Part::Return(1)
+    } else {
+        Part::Return(place + 1)
+    }
+}
+
+// The part whose word an opcode leaves at a place of the return stack.
+#[inline(always)]
+fn moved_to_return(op: Op, place: u8) -> Option<Part>
+    requires { place < 9 }
+    ensures value { result ≡ moved_to_return op place }
+    ensures part { IfSome result (λ from. IsPart from) }
+{
+    match on_return(op) {
+        Shift::Stays => Some(Part::Return(place)),
+        Shift::Replaces => {
+            if place == 0 {
+                None
+            } else {
+                Some(Part::Return(place))
+            }
+        }
+        Shift::Pushes => {
+            if place == 0 {
+                pushed(op)
+            } else {
+                Some(Part::Return(place - 1))
+            }
+        }
+        Shift::Pops => Some(popped_to_return(place)),
+        Shift::Combines => None,
+        Shift::Unsure => None,
+    }
+}
+
+// The part whose word an opcode leaves in A.
+#[inline(always)]
+fn moved_to_a(op: Op) -> Option<Part>
+    ensures value { result ≡ moved_to_a op }
+    ensures part { IfSome result (λ from. IsPart from) }
+{
+    match op {
+        Op::FetchPlus | Op::StorePlus | Op::MultiplyStep => None,
+        Op::AStore => Some(Part::T),
+        _ => Some(Part::A),
+    }
+}
+
+// What a store may write stays under every other opcode.
+#[inline(always)]
+fn unless_stored(op: Op, part: Part) -> Option<Part>
+    requires { IsPart part }
+    ensures value { result ≡ unless_stored op part }
+    ensures part { IfSome result (λ from. IsPart from) }
+{
+    match op {
+        Op::StoreP | Op::StorePlus | Op::StoreB | Op::Store => None,
+        _ => Some(part),
+    }
+}
+
+// The part whose value an opcode leaves in a part. None for P and the slot, which nearly every step makes anew, nor for the
+// wait, the stop and the word from outside.
+#[inline(always)]
+fn by_op(op: Op, part: Part) -> Option<Part>
+    requires { IsPart part }
+    ensures value { result ≡ by_op op part }
+    ensures part { IfSome result (λ from. IsPart from) }
+{
+    match part {
+        Part::Data(place) => moved_to_data(op, place),
+        Part::Return(place) => moved_to_return(op, place),
+        Part::Ram(_) | Part::Io => unless_stored(op, part),
+        Part::Rom(_) | Part::I => Some(part),
+        Part::A => moved_to_a(op),
+        Part::B => { if op == Op::BStore { None } else { Some(part) } }
+        Part::Carry => { if op == Op::Plus { None } else { Some(part) } }
+        Part::P | Part::Slot | Part::Wait | Part::Stop | Part::Outside => None,
+    }
+}
+
+// The part whose value a fetch leaves in a part. None for P, I and the slot, which a fetch makes anew, nor for the wait, the
+// stop and the word from outside.
+#[inline(always)]
+fn by_fetch(part: Part) -> Option<Part>
+    requires { IsPart part }
+    ensures value { result ≡ by_fetch part }
+    ensures part { IfSome result (λ from. IsPart from) }
+{
+    match part {
+        Part::P | Part::I | Part::Slot | Part::Wait | Part::Stop | Part::Outside => None,
+        _ => Some(part),
+    }
+}
+
+// The part whose value a wait or a stop, which replaces the whole event, leaves in a part.
+#[inline(always)]
+fn by_pause(part: Part) -> Option<Part>
+    requires { IsPart part }
+    ensures value { result ≡ by_pause part }
+    ensures part { IfSome result (λ from. IsPart from) }
+{
+    match part {
+        Part::Wait | Part::Stop | Part::Outside => None,
+        _ => Some(part),
+    }
+}
+
+// What the address of a store by A or B names, of the opcode with this code.
+#[inline(always)]
+fn stored_at(code: u8, before: Registers) -> Option<Target>
+    ensures { result ≡ stored_at code before }
+{
+    match code {
+        13 | 15 => Some(classify(before.a)),
+        14 => Some(classify(before.b)),
+        _ => None,
+    }
+}
+
+// Whether an opcode with this code is a store by A or B that leaves a cell as it was, where these hold this before it.
+#[inline(never)]
+fn misses_by(code: u8, before: Registers, part: Part) -> bool
+    ensures { result ≡ misses_by code before part }
+{
+    match part {
+        Part::Ram(cell) => match stored_at(code, before) {
+            Some(Target::Ram(other)) => other != cell,
+            Some(_) => true,
+            None => false,
+        },
+        _ => false,
+    }
+}
+
+/// Whether a step, as made, ran a store by A or B that leaves a cell as it was, where A and B were these before it.
+#[inline(always)]
+pub(crate) fn misses(told: &Option<Made>, before: Registers, part: Part) -> bool
+    ensures { result ≡ misses told.now before part }
+{
+    match told {
+        Some(
+            Made::Own {
+                kind: Kind::Run(code),
+                ..
+            },
+        ) => misses_by(*code, before, part),
+        _ => false,
+    }
+}
+
+/// The part from which a step moved a value to this one, if the step as made determines it whatever the node's values were.
+#[inline(always)]
+pub(crate) fn moved_by(told: &Option<Made>, part: Part) -> Option<Part>
+    requires { IsPart part }
+    ensures value { result ≡ moved_by told.now part }
+    ensures part { IfSome result (λ from. IsPart from) }
+{
+    match told {
+        Some(Made::Own { kind, .. }) => match kind {
+            Kind::Run(code) => {
+                if *code < 32 {
+                    by_op(Op::from_code(*code), part)
+                } else {
+                    None
+                }
+            }
+            Kind::Fetch => by_fetch(part),
+            Kind::Wait | Kind::Stop(_) => by_pause(part),
+        },
+        _ => None,
+    }
+}
+
+/// The place of the data stack from which a step moved a word to this one, if the step as made determines it.
+#[inline(always)]
+pub(crate) fn data_place(told: &Option<Made>, place: u8) -> Option<u8>
+    requires { place < 10 }
+    ensures value { IfSome result (λ from. moved_by told.now (Part.Data place) ≡ Some (Part.Data from)) }
+    ensures within { IfSome result (λ from. from < 10) }
+{
+    match moved_by(told, Part::Data(place)) {
+        Some(Part::Data(from)) => Some(from),
+        _ => None,
+    }
+}

@@ -1,0 +1,338 @@
+//! The step that made a value, and the cell of the instruction word to which a step belongs.
+
+ghost use Rattle.std.specs.Prelude.{◌≡◌, ◌<◌, ◌≤◌, ◌-◌, None, IfSome};
+ghost use Rattle.ga_node.specs.Record.{record_of};
+ghost use Rattle.ga_event.specs.Told.{steps_of};
+ghost use Rattle.ga_lab.specs.Machine.{history_of, standing};
+ghost use Rattle.ga_event.specs.Flow.{IsPart, flow_of, AreSources};
+ghost use Rattle.ga_provenance.specs.Origins.{is_memory_part, crosses, moved_from, is_of_three, told_part, told_flow, flow_at, origin_from, origin_of, node_after};
+ghost use Rattle.ga_provenance.specs.inner.{moved_by, IsTrailTo};
+ghost use Rattle.ga_ports.specs.Address.{classified};
+ghost use Rattle.ga_provenance.specs.Fetched.{cell_of_target, fetched_cell};
+
+use crate::known::{known_flow, p_at};
+use crate::moving::moved_by;
+use crate::trail::Trail;
+use crate::value::Value;
+use ga_event::{Flow, Made, Part, own_flow, send_flow, take_flow};
+use ga_grid::NodeId;
+use ga_lab::{Lab, Walk};
+use ga_node::{Node, Place};
+use ga_ports::{Target, classify};
+
+// Whether the part is a cell of memory.
+pub(crate) fn is_cell(part: Part) -> bool
+    ensures { result ≡ is_memory_part part }
+{
+    match part {
+        Part::Ram(_) => true,
+        Part::Rom(_) => true,
+        _ => false,
+    }
+}
+
+// Whether a value that moved from a part to another was read from memory or stored there.
+fn crosses(from: Part, to: Part) -> bool
+    ensures { result ≡ crosses from to }
+{
+    if is_cell(from) {
+        !is_cell(to)
+    } else {
+        is_cell(to)
+    }
+}
+
+// The part from which a value was moved to another part of the node alone, where it was.
+pub(crate) fn moved_from(flow: &Flow, to: Part) -> Option<Part>
+    requires { AreSources (flow_of flow.now) }
+    ensures value { result ≡ moved_from (flow_of flow.now) to }
+    ensures part { IfSome result (λ from. IsPart from) }
+{
+    match flow {
+        Flow::Same(Part::Outside) => None,
+        Flow::Same(from) => {
+            if crosses(*from, to) {
+                None
+            } else {
+                Some(*from)
+            }
+        }
+        Flow::From(_) => None,
+    }
+}
+
+// Whether a value is computed from three parts.
+fn is_of_three(flow: &Flow) -> bool
+    ensures { result ≡ is_of_three (flow_of flow.now) }
+{
+    match flow {
+        Flow::Same(_) => false,
+        Flow::From(parts) => parts.len() == 3,
+    }
+}
+
+// The part as which a value that a step made is listed.
+fn told_part(flow: &Flow, part: Part) -> Part
+    requires { IsPart part }
+    ensures value { result ≡ told_part (flow_of flow.now) part }
+    ensures part { IsPart result }
+{
+    match part {
+        Part::A => { if is_of_three(flow) { Part::T } else { part } }
+        Part::Carry => { if is_of_three(flow) { Part::T } else { part } }
+        _ => part,
+    }
+}
+
+// The source of the value that an event of a node, as made, leaves in a part.
+fn told_flow(made: &Made, before: &Node, node: NodeId, part: Part) -> Flow
+    requires { IsPart part }
+    ensures value { flow_of result ≡ told_flow made.now (record_of before.now) node.number part }
+    ensures sources { AreSources (flow_of result) }
+{
+    match made {
+        Made::Own { .. } => own_flow(before, part),
+        Made::Pass { reader, .. } => {
+            if node.number == reader.number {
+                take_flow(before.wait(), part)
+            } else {
+                send_flow(part)
+            }
+        }
+    }
+}
+
+// Where the value of a part comes from that a node's next step leaves, from where it is walked back to; past its steps all stays.
+pub(crate) fn flow_behind(lab: &Lab, walk: &Walk<'_>, node: NodeId, part: Part) -> Flow
+    requires part { IsPart part }
+    requires walk { walk.now ≡ standing lab.now node walk.now.step }
+    ensures value { flow_of result ≡ flow_at lab.now node.number walk.now.step part }
+    ensures sources { AreSources (flow_of result) }
+{
+    match lab.told(node, walk.step()) {
+        Some(made) => told_flow(&made, walk.node(), node, part),
+        None => Flow::Same(part),
+    }
+}
+
+// The value's step, or the last of the node if it made fewer: after that nothing is made.
+#[tactic(auto, using(crate::proofs::Made::origin_last))]
+pub(crate) fn kept_step(lab: &Lab, value: Value) -> u32
+    requires { IsPart value.part }
+    ensures same { origin_from lab.now value.node result value.part ≡ origin_of lab.now value }
+    ensures within { result ≤ steps_of value.node.number lab.now.kept }
+{
+    let steps = lab.steps(value.node);
+    if value.step < steps {
+        value.step
+    } else {
+        steps
+    }
+}
+
+/// The newest step up to the value's own that made it, with the value's part then, or step 0 if the value was loaded. A step
+/// that only moved the value from part to part of the node, as `dup` or `push`, made nothing. Takes time linear in the number
+/// of steps that the node made since.
+pub fn origin_of(lab: &Lab, value: Value) -> Value
+    requires { IsPart value.part }
+    ensures value { result ≡ origin_of lab.now value }
+    ensures part { IsPart result.part }
+    ensures within { result.step ≤ steps_of value.node.number lab.now.kept }
+{
+    let step = kept_step(lab, value);
+    let mut trail = Trail::new(lab, value.node, lab.walk(value.node, step));
+    origin_behind(lab, &mut trail, value.node, step, value.part)
+}
+
+// A value that a step made, and a trail of its node that has not come past that step.
+#[derive(Drop)]
+pub(crate) struct Origin<'l> {
+    pub value: Value,
+    pub trail: Trail<'l>,
+}
+
+// A trail of a node that has not come past a step: from another walk, where that is of the same node and not earlier, else from the
+// newest step.
+pub(crate) fn trail_near<'l>(
+    lab: &'l Lab,
+    near: &Walk<'l>,
+    at: NodeId,
+    node: NodeId,
+    step: u32,
+) -> Trail<'l>
+    requires within { step ≤ steps_of node.number lab.now.kept }
+    requires near { near.now ≡ standing lab.now at near.now.step }
+    ensures stands { result ≡ standing lab.now node result.step }
+    ensures order { step ≤ result.step }
+{
+    if at == node && step <= near.step() {
+        Trail::new(lab, node, near.copy())
+    } else {
+        Trail::new(lab, node, lab.walk(node, lab.steps(node)))
+    }
+}
+
+// A trail of a node that has not come past a step: that of the origin found last where it serves, else one as by [`trail_near`].
+fn trail_on<'l>(
+    lab: &'l Lab,
+    near: &Walk<'l>,
+    at: NodeId,
+    last: Origin<'l>,
+    node: NodeId,
+    step: u32,
+) -> Trail<'l>
+    requires within { step ≤ steps_of node.number lab.now.kept }
+    requires near { near.now ≡ standing lab.now at near.now.step }
+    requires last { last.trail ≡ standing lab.now last.value.node last.trail.step }
+    ensures stands { result ≡ standing lab.now node result.step }
+    ensures order { step ≤ result.step }
+{
+    let Origin { value, trail } = last;
+    if value.node == node && step <= trail.step() {
+        trail
+    } else {
+        trail_near(lab, near, at, node, step)
+    }
+}
+
+// What made a value, found by the trail of the origin that was found last, or by a walk of some node, which is not walked on.
+pub(crate) fn origin_near<'l>(
+    lab: &'l Lab,
+    near: &Walk<'l>,
+    at: NodeId,
+    last: Origin<'l>,
+    value: Value,
+) -> Origin<'l>
+    requires part { IsPart value.part }
+    requires near { near.now ≡ standing lab.now at near.now.step }
+    requires last { last.trail ≡ standing lab.now last.value.node last.trail.step }
+    ensures value { result.value ≡ origin_of lab.now value }
+    ensures part { IsPart result.value.part }
+    ensures stands { result.trail ≡ standing lab.now result.value.node result.trail.step }
+    ensures order { result.value.step - 1 ≤ result.trail.step }
+{
+    let step = kept_step(lab, value);
+    let mut trail = trail_on(lab, near, at, last, value.node, step);
+    let origin = origin_behind(lab, &mut trail, value.node, step, value.part);
+    Origin {
+        value: origin,
+        trail,
+    }
+}
+
+// The source of the value that the step at a place leaves in a part of its node. The node is walked back to right before the
+// step only if the entries don't determine it.
+pub(crate) fn flow_by_trail(
+    lab: &Lab,
+    trail: &mut Trail<'_>,
+    node: NodeId,
+    place: u32,
+    part: Part,
+) -> Flow
+    requires part { IsPart part }
+    requires trail { IsTrailTo lab.now node trail.old place }
+    ensures value { flow_of result ≡ flow_at lab.now node.number place part }
+    ensures sources { AreSources (flow_of result) }
+    ensures trail { trail.new ≡ standing lab.now node trail.new.step }
+    ensures order { place ≤ trail.new.step }
+{
+    if let Some(flow) = known_flow(lab, trail, node, place, part) {
+        return flow;
+    }
+    trail.back_to(place);
+    flow_behind(lab, trail.walk(), node, part)
+}
+
+/// The origin of the value in a part of a node after a step, by a trail of the node that has not been walked back past that
+/// step, nor then past the one that made the value. The node is walked back only where the entries don't determine from where a
+/// step has the value.
+pub(crate) fn origin_behind(
+    lab: &Lab,
+    trail: &mut Trail<'_>,
+    node: NodeId,
+    step: u32,
+    part: Part,
+) -> Value
+    requires part { IsPart part }
+    requires trail { IsTrailTo lab.now node trail.old step }
+    ensures value { result ≡ origin_from lab.now node step part }
+    ensures part { IsPart result.part }
+    ensures within { result.step ≤ step }
+    ensures node { result.node ≡ node }
+    ensures trail { trail.new ≡ standing lab.now node trail.new.step }
+    ensures order { result.step - 1 ≤ trail.new.step }
+{
+    let mut value = trail.told_back(lab, Value { node, step, part });
+    'steps: while value.step > 0 {
+        let Value { step, part, .. } = value;
+        let flow = flow_by_trail(lab, trail, node, step - 1, part);
+        match moved_from(&flow, part) {
+            Some(from) => {
+                let step = step - 1;
+                let part = from;
+                value = trail.told_back(lab, Value { node, step, part });
+            }
+            None => {
+                let part = told_part(&flow, part);
+                return Value { node, step, part };
+            }
+        }
+    }
+    value
+}
+
+/// The cell that an address names.
+fn cell_of(address: u32) -> Option<u8>
+    ensures { result ≡ cell_of_target (classified address) }
+{
+    match classify(address) {
+        Target::Ram(cell) => Some(cell),
+        Target::Rom(cell) => Some(128 + cell),
+        _ => None,
+    }
+}
+
+/// P of a node.
+#[tactic(auto, unfolding(ga_node::specs::Record::record_of))]
+fn p_of(node: &Node) -> u32
+    ensures { result ≡ (record_of node.now).p }
+{
+    node.get(Place::P)
+}
+
+/// P right before the step at a place. The node is walked back only if the entries don't determine it.
+fn p_by_trail(lab: &Lab, trail: &mut Trail<'_>, node: NodeId, place: u32) -> u32
+    requires trail { IsTrailTo lab.now node trail.old place }
+    requires within { place ≤ steps_of node.number lab.now.kept }
+    ensures { (node_after lab.now node.number place).p ≡ result }
+{
+    if let Some(p) = p_at(lab, node, place) {
+        return p;
+    }
+    trail.back_to(place);
+    p_of(trail.walk().node())
+}
+
+/// The cell from which the instruction word in I after a step was fetched: 0 to 63 of RAM, 128 to 191 of ROM. None if it was
+/// loaded, or came from elsewhere than a memory. Takes time linear in the number of steps that the node made since the fetch.
+/// Only where the entries of the steps don't determine it, the node is walked back there: from where the walk `near` is, if
+/// that is of the same node and not earlier, else from its newest step.
+pub fn fetched_near<'l>(
+    lab: &'l Lab,
+    near: &Walk<'l>,
+    at: NodeId,
+    node: NodeId,
+    step: u32,
+) -> Option<u8>
+    requires { near.now ≡ standing lab.now at near.now.step }
+    ensures { result ≡ fetched_cell lab.now node step }
+{
+    let part = Part::I;
+    let step = kept_step(lab, Value { node, step, part });
+    let mut trail = trail_near(lab, near, at, node, step);
+    let made = origin_behind(lab, &mut trail, node, step, part);
+    if made.step == 0 {
+        return None;
+    }
+    cell_of(p_by_trail(lab, &mut trail, node, made.step - 1))
+}

@@ -1,0 +1,29 @@
+//! Values, each by its node, step and part.
+
+use ga_event::Part;
+use ga_grid::NodeId;
+
+/// The value of a part of a node right after a step of it, or at load for step 0.
+#[derive(Clone, Copy, PartialEq, Eq, Debug)]
+pub struct Value {
+    /// The node.
+    pub node: NodeId,
+    /// How many steps it had made.
+    pub step: u32,
+    /// The part.
+    pub part: Part,
+}
+
+impl Value {
+    ghost use Rattle.std.specs.Prelude.{◌≡◌};
+    ghost use Rattle.ga_provenance.specs.Rows.{is_one};
+
+    /// Whether the two are of one part after one step.
+    pub fn is_same(self, other: Value) -> bool
+        ensures { result ≡ is_one self other }
+    {
+        self.node.number == other.node.number
+            && self.step == other.step
+            && self.part.is_same(other.part)
+    }
+}

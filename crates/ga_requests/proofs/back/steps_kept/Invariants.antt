@@ -1,9 +1,0 @@
-use Rattle.std.proofs.Common.{◌≡◌, ℕ, ◌<◌, length, slice_index_or}
-use Rattle.ga_event.specs.Told.{steps_of}
-use Rattle.ga_requests.proofs.back.steps_kept.Given as goal
-
-abbrev pub invariant-loop-number : goal.invariant-loop-number
-invariant-loop-number l = record {
-  size : length l.steps ≡ 144;
-  counted : (n : ℕ) → n < l.number → slice_index_or l.steps n 0 ≡ steps_of n l.lab.kept;
-}

@@ -1,8 +1,0 @@
-use Rattle.std.proofs.Common.{◌∙◌}
-use Rattle.serde_json.specs.View.{view}
-use Rattle.ga_requests.specs.Breakpoints.{is_filter}
-use Rattle.ga_requests.proofs.Answered.{all_map}
-use Rattle.ga_requests.proofs.breakpoints.are_filters.Goals as goal
-
-pub returns : goal.returns
-returns c = c.each_is_filter.ensures ∙ all_map is_filter view c.args.items.now

@@ -1,7 +1,0 @@
-use Rattle.std.proofs.Common.{◌≡◌, map, replicate}
-use Rattle.serde_json.specs.View.{view}
-use Rattle.ga_requests.specs.Breakpoints.{elsewhere}
-use Rattle.ga_requests.proofs.breakpoints.place_nowhere.Given as goal
-
-abbrev pub invariant-asked : goal.invariant-asked
-invariant-asked l = map view l.list.items ≡ replicate l._place elsewhere

@@ -1,6 +1,0 @@
-use Rattle.std.proofs.Common.{◌≡◌, ◌++◌, drop, map}
-use Rattle.ga_requests.specs.declared.configuration.SetBy.{SetBy}
-use Rattle.ga_requests.proofs.configuration.ids_of.Given as goal
-
-abbrev pub invariant-placed : goal.invariant-placed
-invariant-placed l = l.list.items ++ map (λ (one : SetBy). one.id) (drop l.one-index l.placed) ≡ map (λ (one : SetBy). one.id) l.placed

@@ -1,9 +1,0 @@
--- A list of values, and the items that it is.
-use Rattle.std.proofs.Common.{◌≡◌, List, [], ◌∷◌, refl, ap}
-use Rattle.serde_json.specs.Data.{Data}
-use Rattle.serde_json.specs.View.{items_of}
-use Rattle.ga_responses.specs.Arguments.{values_of}
-
-pub listed : (xs : List Data) → values_of (items_of xs) ≡ xs
-listed [] = refl
-listed (x ∷ xs) = ap (λ (z : List Data). x ∷ z) (listed xs)

@@ -1,7 +1,0 @@
-use Rattle.std.proofs.Common.{◌≢◌, ◌<◌, ℕ}
-use Rattle.ga_adapter.specs.declared.scope.Scope.TheVariants.{Registers}
-use Rattle.ga_adapter.specs.Shown.{variable_at, variable_name}
-use Rattle.ga_responses.proofs.evaluating.register_named.Given as goal
-
-abbrev pub invariant-registers : goal.invariant-registers
-invariant-registers l = (k : ℕ) → k < l.place → variable_name (variable_at Registers k) ≢ l.name

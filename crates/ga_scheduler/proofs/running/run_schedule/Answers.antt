@@ -1,0 +1,65 @@
+use Rattle.std.proofs.Common.{◌∙◌, refl, sym, ap, arith, subst}
+use Rattle.std.specs.Prelude.{is_some}
+use Rattle.ga_scheduler.specs.inner.{HoldsReady}
+use Rattle.ga_scheduler.specs.Running.{Running, running, after_events, AreMade, HasEnded}
+use Rattle.ga_scheduler.proofs.Events.{gone_on, never_more, made_one, over_state, over_made, over_end, over_most}
+use Rattle.ga_scheduler.proofs.running.run_schedule.Goals as goal
+
+pub loop-events-preserved : goal.loop-events-preserved
+loop-events-preserved c =
+    let i = c.loop-events.invariant in
+    let start : Running = running c.args.lab.now c.args.schedule in
+    let here : Running = running c.loop-events.lab c.loop-events.schedule in
+    let next : Running = running c.advance.new.lab c.advance.new.schedule in
+    let now = c.in-Ok.ensures in
+    record {
+      at = gone_on start here next c.loop-events.events i.at now.moved;
+      made = made_one start here c.loop-events.events i.at now.made i.made;
+      never = never_more c.args.until.now start here c.loop-events.events i.at now.unmet i.never;
+      ready = now.ready;
+      alone = now.alone;
+      size = now.size;
+      words = now.counted;
+      replays = now.replays;
+      most = omega arith;
+    }
+
+pub loop-events-init : goal.loop-events-init
+loop-events-init c = record {
+  at = refl;
+  made = λ k l. absurd (omega arith);
+  never = λ k l. absurd (omega arith);
+  ready = subst (λ z. HoldsReady z c.ready_nodes-ready.result) c.chip.ensures.value c.ready_nodes-ready.ensures;
+  alone = tt;
+  size = c.count_all-words.ensures.size;
+  words = c.count_all-words.ensures.counted;
+  replays = ap is_some c.chip.ensures.replays;
+  most = omega arith;
+}
+
+pub returns-in-Err-clause-state : goal.returns-in-Err-clause-state
+returns-in-Err-clause-state c =
+    over_state c.args.until.now (running c.args.lab.now c.args.schedule) (running c.loop-events.lab c.loop-events.schedule) (running c.advance.new.lab c.advance.new.schedule) c.loop-events.events c.advance.new.end
+    c.loop-events.invariant.at c.in-Err.ensures.over
+    ∙ ap (after_events (running c.args.lab.now c.args.schedule)) (sym c.events_at-events.ensures)
+
+pub returns-in-Err-clause-made : goal.returns-in-Err-clause-made
+returns-in-Err-clause-made c =
+    subst (AreMade (running c.args.lab.now c.args.schedule)) (sym c.events_at-events.ensures)
+    (over_made c.args.until.now (running c.args.lab.now c.args.schedule) (running c.loop-events.lab c.loop-events.schedule) (running c.advance.new.lab c.advance.new.schedule) c.loop-events.events c.advance.new.end
+    c.loop-events.invariant.at c.in-Err.ensures.over c.loop-events.invariant.made)
+
+pub returns-in-Err-clause-most : goal.returns-in-Err-clause-most
+returns-in-Err-clause-most c = omega (arith, c.events_at-events.ensures, over_most c.loop-events.events c.args.most c.advance.new.end c.loop-events-test.true)
+
+pub returns-in-Err-clause-end : goal.returns-in-Err-clause-end
+returns-in-Err-clause-end c =
+    subst (λ z. HasEnded (running c.args.lab.now c.args.schedule) c.args.most c.args.until.now z c.advance.new.end) (sym c.events_at-events.ensures)
+    (over_end c.args.until.now (running c.args.lab.now c.args.schedule) (running c.loop-events.lab c.loop-events.schedule) (running c.advance.new.lab c.advance.new.schedule) c.args.most c.loop-events.events c.advance.new.end
+    c.loop-events.invariant.at c.loop-events-test.true c.in-Err.ensures.over c.loop-events.invariant.never)
+
+pub returns-clause-state : goal.returns-clause-state
+returns-clause-state c = c.loop-events.invariant.at
+
+pub returns-clause-end : goal.returns-clause-end
+returns-clause-end c = (omega (arith, c.loop-events.invariant.most, c.loop-events-test.false), c.loop-events.invariant.never)

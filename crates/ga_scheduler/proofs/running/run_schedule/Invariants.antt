@@ -1,0 +1,23 @@
+use Rattle.std.proofs.Common.{◌≡◌, ◌-◌, ◌≤◌, length}
+use Rattle.std.specs.Prelude.{IsSome, IfSome}
+use Rattle.ga_event.specs.Apply.{replay}
+use Rattle.ga_lab.specs.Machine.{chip_of}
+use Rattle.ga_scheduler.specs.inner.{HoldsReady, IsAlone, AreCounted}
+use Rattle.ga_scheduler.specs.Running.{running, after_events, AreMade, NeverHolds}
+use Rattle.ga_scheduler.proofs.running.run_schedule.Given as goal
+
+abbrev pub invariant-loop-events : goal.invariant-loop-events
+invariant-loop-events l = record {
+  at : running l.lab l.schedule ≡ after_events (running l.initial.lab l.initial.schedule) l.events;
+  made : AreMade (running l.initial.lab l.initial.schedule) l.events;
+  never : NeverHolds l.until (running l.initial.lab l.initial.schedule) l.events;
+  ready : HoldsReady (chip_of l.lab) l.ready;
+  alone : IfSome l.alone (IsAlone l.ready);
+  size : length l.words ≡ 8;
+  words : AreCounted l.until l.lab l.words;
+  replays : IsSome (replay l.lab.load l.lab.kept);
+  most : l.events ≤ l.most;
+}
+
+abbrev pub decreases-loop-events : goal.decreases-loop-events
+decreases-loop-events l = l.most - l.events

@@ -1,0 +1,23 @@
+use Rattle.std.proofs.Common.{◌≡◌, ◌-◌, ◌≤◌}
+use Rattle.std.specs.Prelude.{IsSome, IfSome}
+use Rattle.ga_event.specs.Apply.{replay}
+use Rattle.ga_lab.specs.Machine.{chip_of}
+use Rattle.ga_scheduler.specs.inner.{HoldsReady, IsAlone}
+use Rattle.ga_scheduler.specs.Running.{running}
+use Rattle.ga_scheduler.specs.Watched.{after_first, AreMadeFirst, watching, watch_after, NeverEnds}
+use Rattle.ga_scheduler.proofs.watched.run_watched.Given as goal
+
+abbrev pub invariant-loop-events : goal.invariant-loop-events
+invariant-loop-events g l = record {
+  at : running l.lab l.schedule ≡ after_first l.first (running l.initial.lab l.initial.schedule) l.events;
+  made : AreMadeFirst l.first (running l.initial.lab l.initial.schedule) l.events;
+  watch : l.watch ≡ watch_after (watching l.first g.W.Watch.ends g.W.Watch.seen) l.initial.watch (running l.initial.lab l.initial.schedule) l.events;
+  never : NeverEnds (watching l.first g.W.Watch.ends g.W.Watch.seen) l.initial.watch (running l.initial.lab l.initial.schedule) l.events;
+  ready : HoldsReady (chip_of l.lab) l.ready;
+  alone : IfSome l.alone (IsAlone l.ready);
+  replays : IsSome (replay l.lab.load l.lab.kept);
+  most : l.events ≤ l.most;
+}
+
+abbrev pub decreases-loop-events : goal.decreases-loop-events
+decreases-loop-events g l = l.most - l.events

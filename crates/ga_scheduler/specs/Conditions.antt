@@ -1,0 +1,134 @@
+-- Conditions on what an event was and on the machine right after it (F18A Technology Reference DB001, opcodes and memory map). Two are
+-- edges: they hold where an event makes something so, and not as long as it is.
+use Rattle.std.specs.Prelude.{ℕ, suc, ◌%◌, ◌==◌, nat_lt, Bool, true, false, ◌&&◌, ◌||◌, if◌then◌else◌, is_none, List, [], ◌∷◌, Option, Some, None, option_map}
+use Rattle.ga_ports.specs.Address.{classified}
+use Rattle.ga_ports.specs.declared.address.Target.{Target}
+use Rattle.ga_ports.specs.declared.address.Target.TheVariants as target
+use Rattle.ga_grid.specs.Chip.{record_at}
+use Rattle.ga_node.specs.Record.{NodeRecord}
+use Rattle.ga_node.specs.Table.{refusal}
+use Rattle.ga_node.specs.declared.kind.Kind.{Kind}
+use Rattle.ga_node.specs.declared.kind.Kind.TheVariants as kind
+use Rattle.ga_event.specs.declared.made.Made.{Made}
+use Rattle.ga_event.specs.declared.made.Made.TheVariants as made
+use Rattle.ga_lab.specs.Machine.{State, chip_of, undone, word_at}
+use Rattle.ga_scheduler.specs.Words.{is_over, word_count}
+use Rattle.ga_scheduler.specs.declared.condition.Condition.{Condition}
+use Rattle.ga_scheduler.specs.declared.condition.Condition.TheVariants.{Never, Passes, PassesNumber, Steps, Stops, StopsAt, WaitsAt, Holds, ComesTo, Reaches, Writes}
+
+-- the event passed this word from the writer to the reader
+abbrev pub is_pass : ℕ → ℕ → ℕ → Made → Bool
+is_pass writer reader word (made.Own n k what) = false
+is_pass writer reader word (made.Pass w k r j carried) = (w.number == writer) && (r.number == reader) && (carried == word)
+
+-- the event was this step of the node
+abbrev pub is_step : ℕ → ℕ → Made → Bool
+is_step node step (made.Own n k what) = (n.number == node) && (k == step)
+is_step node step (made.Pass w k r j carried) = ((w.number == node) && (k == step)) || ((r.number == node) && (j == step))
+
+abbrev pub is_stop : Kind → Bool
+is_stop kind.Fetch = false
+is_stop (kind.Run code) = false
+is_stop kind.Wait = false
+is_stop (kind.Stop code) = true
+
+abbrev pub is_wait : Kind → Bool
+is_wait kind.Fetch = false
+is_wait (kind.Run code) = false
+is_wait kind.Wait = true
+is_wait (kind.Stop code) = false
+
+-- a node's own event of a kind
+abbrev pub is_own : (Kind → Bool) → Made → Bool
+is_own test (made.Own n k what) = test what
+is_own test (made.Pass w k r j carried) = false
+
+abbrev pub is_own_at : ℕ → (Kind → Bool) → Made → Bool
+is_own_at node test (made.Own n k what) = (n.number == node) && test what
+is_own_at node test (made.Pass w k r j carried) = false
+
+-- the event was a step of the node
+abbrev pub is_step_of : ℕ → Made → Bool
+is_step_of node (made.Own n k what) = n.number == node
+is_step_of node (made.Pass w k r j carried) = (w.number == node) || (r.number == node)
+
+-- what the node does next is to fetch the word at this address
+abbrev pub fetches_at : ℕ → NodeRecord → Bool
+fetches_at address n = (n.slot == 4) && (n.p == address) && is_none (refusal n)
+
+-- the address at which an opcode with this code stores: `!p` at P, `!+` and `!` at A, `!b` at B
+abbrev pub stored_at : ℕ → NodeRecord → Option ℕ
+stored_at code n =
+    if code == 0x0c then Some n.p
+    else if (code == 0x0d) || (code == 0x0f) then Some n.a
+    else if code == 0x0e then Some n.b
+    else None
+
+-- the target is this cell of RAM
+abbrev pub is_target_cell : ℕ → Target → Bool
+is_target_cell cell (target.Ram k) = k == cell
+is_target_cell cell (target.Rom k) = false
+is_target_cell cell target.Io = false
+is_target_cell cell (target.Ports sides) = false
+is_target_cell cell target.Bad = false
+
+abbrev pub names_cell : ℕ → Option ℕ → Bool
+names_cell cell None = false
+names_cell cell (Some address) = is_target_cell cell (classified address)
+
+-- an event of this kind of a node that was so before it stored in the cell
+abbrev pub stores_in : ℕ → NodeRecord → Kind → Bool
+stores_in cell before kind.Fetch = false
+stores_in cell before (kind.Run code) = names_cell cell (stored_at code before)
+stores_in cell before kind.Wait = false
+stores_in cell before (kind.Stop code) = false
+
+-- a node as it was before the newest event
+abbrev pub node_before : State → ℕ → NodeRecord
+node_before s node = record_at (chip_of (undone s)) node
+
+-- the word is the requested one, if one is
+abbrev pub is_word_asked : Option ℕ → ℕ → Bool
+is_word_asked None word = true
+is_word_asked (Some asked) word = word == asked
+
+-- The condition holds right after this was made, where the machine is this. Memory from address 80 hexadecimal on is ROM, where no
+-- event stores.
+abbrev pub holds : Condition → Made → State → Bool
+holds Never told s = false
+holds (Passes writer reader word) told s = is_pass writer.number reader.number word told
+holds (PassesNumber writer reader number) told s = is_over writer.number reader.number told && (word_count s writer.number reader.number == number)
+holds (Steps node step) told s = is_step node.number step told
+holds Stops told s = is_own is_stop told
+holds (StopsAt node) told s = is_own_at node.number is_stop told
+holds (WaitsAt node) told s = is_own_at node.number is_wait told
+holds (Holds node address word) told s = word_at (record_at (chip_of s) node.number) address == word
+holds (ComesTo node address) told s = (record_at (chip_of s) node.number).p == address
+holds (Reaches node address) told s = is_step_of node.number told && fetches_at address (record_at (chip_of s) node.number)
+holds (Writes node address word) told s =
+    nat_lt address 128 && is_own_at node.number (stores_in (address % 64) (node_before s node.number)) told
+    && is_word_asked word (word_at (record_at (chip_of s) node.number) address)
+
+-- the place of the first of some conditions that holds right after this was made, where the machine is this
+unfoldable pub first_held : List Condition → Made → State → Option ℕ
+first_held [] told s = None
+first_held (until ∷ others) told s = if holds until told s then Some 0 else option_map suc (first_held others told s)
+
+-- the condition holds never
+abbrev pub is_never : Condition → Bool
+is_never Never = true
+is_never (Passes writer reader word) = false
+is_never (PassesNumber writer reader number) = false
+is_never (Steps node step) = false
+is_never Stops = false
+is_never (StopsAt node) = false
+is_never (WaitsAt node) = false
+is_never (Holds node address word) = false
+is_never (ComesTo node address) = false
+is_never (Reaches node address) = false
+is_never (Writes node address word) = false
+
+-- the conditions before the first one that holds never
+unfoldable pub conditions_asked : List Condition → List Condition
+conditions_asked [] = []
+conditions_asked (until ∷ others) = if is_never until then [] else until ∷ conditions_asked others

@@ -1,0 +1,90 @@
+-- Events made in the order of a schedule: a list of steps of the machine and nothing else. Each is a step of the first node,
+-- from the one whose turn it is on and round the chip, that has an event. A run ends just after the first event at which one of
+-- some conditions holds.
+use Rattle.std.specs.Prelude.{◌≡◌, ℕ, zero, suc, ◌+◌, ◌<◌, false, List, Option, Some, None, Result, Err, IsSome, IsOk, ◌⊎◌}
+use Rattle.std.specs.Result.{result_ok}
+use Rattle.ga_node.specs.Record.{NodeRecord}
+use Rattle.ga_grid.specs.declared.node_id.NodeId.{NodeId}
+use Rattle.ga_event.specs.declared.made.Made.{Made}
+use Rattle.ga_lab.specs.declared.fault.LabFault.{LabFault}
+use Rattle.ga_lab.specs.declared.fault.LabFault.TheVariants.{Memory}
+use Rattle.ga_lab.specs.Machine.{State, chip_of, step_answer, stepped}
+use Rattle.ga_scheduler.specs.declared.schedule.Schedule.{Schedule}
+use Rattle.ga_scheduler.specs.declared.condition.Condition.{Condition}
+use Rattle.ga_scheduler.specs.declared.running.End.{End}
+use Rattle.ga_scheduler.specs.declared.running.End.TheVariants as the_end
+use Rattle.ga_scheduler.specs.Schedules.{passed_on}
+use Rattle.ga_scheduler.specs.Conditions.{first_held}
+use Rattle.ga_races.specs.Orders.{can_go, first_in}
+
+-- a machine with the schedule by which its events are made
+pub record Running : Type 0 where
+  pub state : State
+  pub schedule : Schedule
+
+abbrev pub running : State → Schedule → Running
+running s schedule = record { state = s; schedule = schedule }
+
+-- the node that makes the next event, where there is one
+abbrev pub chosen : Running → Option NodeId
+chosen r = first_in (can_go (chip_of r.state)) r.schedule.turn.number 144
+
+-- the report of the next event of a machine, which this node makes, if there is one
+abbrev pub told_by_step : State → Option NodeId → Option Made
+told_by_step s None = None
+told_by_step s (Some node) = result_ok (step_answer s node)
+
+abbrev pub told : Running → Option Made
+told r = told_by_step r.state (chosen r)
+
+-- a machine with its schedule after the next event, which this node makes; as it was where there is none
+abbrev pub moved_by : Running → Option NodeId → Running
+moved_by r None = r
+moved_by r (Some node) = record { state = stepped r.state node; schedule = passed_on r.schedule node }
+
+abbrev pub run_moved : Running → Running
+run_moved r = moved_by r (chosen r)
+
+-- a machine with its schedule after `n` events
+abbrev pub after_events : Running → ℕ → Running
+after_events r zero = r
+after_events r (suc events) = run_moved (after_events r events)
+
+-- each of the next `n` events can be made
+abbrev pub AreMade : Running → ℕ → Type 0
+AreMade r events = (k : ℕ) → k < events → IsSome (told (after_events r k))
+
+-- the place of the first of the conditions that holds right after the next event
+abbrev pub held_told : List Condition → Option Made → State → Option ℕ
+held_told until None s = None
+held_told until (Some made) s = first_held until made s
+
+abbrev pub held_next : List Condition → Running → Option ℕ
+held_next until r = held_told until (told r) (run_moved r).state
+
+-- none of some conditions holds just after one of the first `n` events
+abbrev pub NeverHolds : List Condition → Running → ℕ → Type 0
+NeverHolds until r events = (k : ℕ) → k < events → held_next until (after_events r k) ≡ None
+
+-- no node has an event
+abbrev pub IsQuiet : List NodeRecord → Type 0
+IsQuiet chip = (n : ℕ) → n < 144 → can_go chip n ≡ false
+
+-- a step is refused for this reason, or memory is refused to a step that could be made
+abbrev pub IsRefusedFor : LabFault → Result Made LabFault → Type 0
+IsRefusedFor why answer = (answer ≡ Err why) ⊎ ((why ≡ Memory) × IsOk answer)
+
+-- why no event follows in a run
+abbrev pub IsHalted : Running → End → Type 0
+IsHalted r the_end.Quiet = IsQuiet (chip_of r.state)
+IsHalted r (the_end.Refused why) = (node : NodeId) × (chosen r ≡ Some node) × IsRefusedFor why (step_answer r.state node)
+IsHalted r (the_end.Reached made which) = ⊥
+IsHalted r the_end.Made = ⊥
+
+-- how a run ended after `n` events, of at most the requested number
+abbrev pub HasEnded : Running → ℕ → List Condition → ℕ → End → Type 0
+HasEnded r most until events (the_end.Reached made which) =
+    (k : ℕ) × (events ≡ k + 1) × NeverHolds until r k × (told (after_events r k) ≡ Some made) × (held_next until (after_events r k) ≡ Some which)
+HasEnded r most until events the_end.Made = (events ≡ most) × NeverHolds until r events
+HasEnded r most until events the_end.Quiet = (events < most) × NeverHolds until r events × IsHalted (after_events r events) the_end.Quiet
+HasEnded r most until events (the_end.Refused why) = (events < most) × NeverHolds until r events × IsHalted (after_events r events) (the_end.Refused why)

@@ -1,0 +1,160 @@
+//! The nodes that have an event, kept so that a node is looked at again only where a wait or a stop around it changed.
+
+ghost use Rattle.std.specs.Prelude.{◌≡◌, ◌<◌, ◌≤◌, ℕ, true, false, Some, IfSome, IfNone};
+ghost use Rattle.ga_grid.specs.Chip.{records_of};
+ghost use Rattle.ga_grid.specs.Grid.{neighbour_of};
+ghost use Rattle.ga_scheduler.specs.inner.{has, IsRight, HoldsReady, StaysRight, IsRightAround, IsRefreshed, IsAlone};
+ghost use Rattle.ga_races.specs.Orders.{first_in};
+
+use crate::numbers::Numbers;
+use ga_event::next_event;
+use ga_grid::{Chip, NODES, NodeId, neighbour};
+use ga_lab::Made;
+use ga_ports::Side;
+
+// Looks whether a node has an event.
+#[tactic(auto, using(ga_races::proofs::Ready::can_go_is, crate::proofs::Stepping::looked_kept))]
+fn look(ready: &mut Numbers, chip: &Chip, node: NodeId)
+    ensures here { IsRight (records_of chip.now) ready.new node.number }
+    ensures kept { StaysRight (records_of chip.now) ready.old ready.new }
+{
+    let is_in = next_event(chip, node).is_ok();
+    ready.put(node.number, is_in);
+}
+
+// Looks at the neighbour on a side, where there is one.
+fn look_beside(ready: &mut Numbers, chip: &Chip, node: NodeId, side: Side)
+    ensures beside { (m : ℕ) → neighbour_of node.number side ≡ Some m → IsRight (records_of chip.now) ready.new m }
+    ensures kept { StaysRight (records_of chip.now) ready.old ready.new }
+{
+    if let Some(other) = neighbour(node, side) {
+        look(ready, chip, other);
+    }
+}
+
+// Looks at a node and its neighbours.
+#[inline(never)]
+fn look_around(ready: &mut Numbers, chip: &Chip, node: NodeId)
+    ensures around { IsRightAround (records_of chip.now) ready.new node.number }
+    ensures kept { StaysRight (records_of chip.now) ready.old ready.new }
+{
+    look(ready, chip, node);
+    look_beside(ready, chip, node, Side::Right);
+    look_beside(ready, chip, node, Side::Down);
+    look_beside(ready, chip, node, Side::Left);
+    look_beside(ready, chip, node, Side::Up);
+}
+
+// The nodes that have an event.
+pub(crate) fn ready_nodes(chip: &Chip) -> Numbers
+    ensures { HoldsReady (records_of chip.now) result }
+{
+    let mut ready = Numbers::none();
+    for number in 0..NODES as u8 {
+        look(&mut ready, chip, NodeId::new(number));
+    }
+    ready
+}
+
+// Looks at what an event that was made may have changed. Then it isn't known any more that one node is alone.
+#[inline(always)]
+#[tactic(auto, using(crate::proofs::Stepping::around_stays))]
+pub(crate) fn refresh(ready: &mut Numbers, alone: &mut Option<NodeId>, chip: &Chip, made: &Made)
+    ensures around { IsRefreshed (records_of chip.now) made.now ready.new }
+    ensures kept { StaysRight (records_of chip.now) ready.old ready.new }
+    ensures alone { IfSome alone.old (IsAlone ready.old) → IfSome alone.new (IsAlone ready.new) }
+{
+    match made {
+        Made::Own { node, .. } => {
+            if chip.node(*node).not_ready().is_none() {
+                return;
+            }
+            *alone = None;
+            look_around(ready, chip, *node);
+        }
+        Made::Pass { writer, reader, .. } => {
+            *alone = None;
+            look_around(ready, chip, *writer);
+            look_around(ready, chip, *reader);
+        }
+    }
+}
+
+// The lowest node in the set from this one on.
+#[tactic(auto, using(ga_races::proofs::Ready::within))]
+fn lowest_from(ready: &Numbers, first: NodeId) -> Option<NodeId>
+    requires { (n : ℕ) → 144 ≤ n → n < 192 → has ready.now n ≡ false }
+    ensures least { IfSome result (λ node. first.number ≤ node.number) }
+    ensures is_in { IfSome result (λ node. has ready.now node.number ≡ true) }
+    ensures before { IfSome result (λ node. (m : ℕ) → first.number ≤ m → m < node.number → has ready.now m ≡ false) }
+    ensures none { IfNone result ((m : ℕ) → first.number ≤ m → m < 144 → has ready.now m ≡ false) }
+{
+    match ready.lowest_from(first.number) {
+        Some(number) => Some(NodeId::new(number)),
+        None => None,
+    }
+}
+
+// The first node in the set from this one on, round the chip.
+pub(crate) fn first_from(ready: &Numbers, turn: NodeId) -> Option<NodeId>
+    requires { (n : ℕ) → 144 ≤ n → n < 192 → has ready.now n ≡ false }
+    ensures { result ≡ first_in (has ready.now) turn.number 144 }
+{
+    match lowest_from(ready, turn) {
+        Some(node) => Some(node),
+        None => lowest_from(ready, NodeId::new(0)),
+    }
+}
+
+// The first node in the set, round the chip, where none from the turn on is in it. One that is found right before the turn is alone.
+#[inline(never)]
+fn first_before(ready: &Numbers, alone: &mut Option<NodeId>, turn: NodeId) -> Option<NodeId>
+    requires past { (n : ℕ) → 144 ≤ n → n < 192 → has ready.now n ≡ false }
+    requires alone { IfSome alone.old (IsAlone ready.now) }
+    requires ahead { (n : ℕ) → turn.number ≤ n → n < 144 → has ready.now n ≡ false }
+    ensures first { result ≡ first_in (has ready.now) turn.number 144 }
+    ensures alone { IfSome alone.new (IsAlone ready.now) }
+{
+    match lowest_from(ready, NodeId::new(0)) {
+        Some(node) => {
+            if node.number + 1 == turn.number {
+                *alone = Some(node);
+                return Some(node);
+            }
+            Some(node)
+        }
+        None => None,
+    }
+}
+
+// The first node in the set from the turn on, round the chip, where the node with the turn is not in it.
+fn first_behind(ready: &Numbers, alone: &mut Option<NodeId>, turn: NodeId) -> Option<NodeId>
+    requires past { (n : ℕ) → 144 ≤ n → n < 192 → has ready.now n ≡ false }
+    requires alone { IfSome alone.old (IsAlone ready.now) }
+    ensures first { result ≡ first_in (has ready.now) turn.number 144 }
+    ensures alone { IfSome alone.new (IsAlone ready.now) }
+{
+    match lowest_from(ready, turn) {
+        Some(node) => Some(node),
+        None => first_before(ready, alone, turn),
+    }
+}
+
+// The first node in the set from the turn on, round the chip, where it may be known that one node is alone in the set.
+pub(crate) fn next_from(ready: &Numbers, alone: &mut Option<NodeId>, turn: NodeId) -> Option<NodeId>
+    requires past { (n : ℕ) → 144 ≤ n → n < 192 → has ready.now n ≡ false }
+    requires alone { IfSome alone.old (IsAlone ready.now) }
+    ensures first { result ≡ first_in (has ready.now) turn.number 144 }
+    ensures alone { IfSome alone.new (IsAlone ready.now) }
+{
+    match *alone {
+        Some(node) => Some(node),
+        None => {
+            if ready.has(turn.number) {
+                Some(turn)
+            } else {
+                first_behind(ready, alone, turn)
+            }
+        }
+    }
+}

@@ -1,0 +1,224 @@
+//! Events in the order of a schedule.
+
+ghost use Rattle.std.specs.Prelude.{◌≡◌, ◌≤◌, ◌+◌, ℕ, length, Ok, Err, IfOk, IfErr, IfSome, IsSome, IsOk, OnOk, OnErr, Some, None, ◌⊎◌, ◌<◌, ◌^◌};
+ghost use Rattle.ga_event.specs.Apply.{replay};
+ghost use Rattle.ga_lab.specs.Machine.{chip_of, step_answer, stepped};
+ghost use Rattle.ga_scheduler.specs.Words.{one_over, word_count};
+ghost use Rattle.ga_scheduler.specs.inner.{HoldsReady, IsAlone, AreCounted, newest_told, IsNeeded, IsOver, events_at};
+ghost use Rattle.ga_scheduler.specs.Schedules.{passed_on};
+ghost use Rattle.ga_scheduler.specs.Running.{running, told, run_moved, held_next, after_events, AreMade, IsRefusedFor, HasEnded};
+
+use crate::condition::Condition;
+use crate::numbers::Numbers;
+use crate::ready::{next_from, ready_nodes, refresh};
+use crate::schedule::Schedule;
+use crate::watching::{LinkCounts, Needs, count_all, first_held, needs_of};
+use ga_grid::NodeId;
+use ga_lab::{Lab, LabFault, Made};
+
+/// Why no more events were made.
+#[derive(Clone, Copy, PartialEq, Eq, Debug)]
+pub enum End {
+    /// A condition holds right after this event, and none held after one before. Of those that hold it is the first, at this place
+    /// of their list.
+    Reached { made: Made, which: u8 },
+    /// As many events were made as were asked for.
+    Made,
+    /// No node of the chip has an event.
+    Quiet,
+    /// [`Lab::step`] refused the next event: `Full`, `Spent` or `Memory`.
+    Refused(LabFault),
+}
+
+/// The number of events, why the run ended, and the next schedule.
+#[derive(Clone, Copy, PartialEq, Eq, Debug)]
+pub struct Ran {
+    /// How many events were made.
+    pub events: u64,
+    /// Why no more events were made.
+    pub end: End,
+    /// The schedule after the last event, with which a further run continues.
+    pub schedule: Schedule,
+}
+
+// A node's next event: by a step inlined here, or by a call of it.
+#[inline(always)]
+fn step_once(lab: &mut Lab, node: NodeId, is_here: bool) -> Result<Made, LabFault>
+    ensures answer { (result ≡ step_answer lab.old node) ⊎ ((result ≡ Err LabFault.Memory) × IsOk (step_answer lab.old node)) }
+    ensures ok { OnOk result (lab.new ≡ stepped lab.old node) }
+    ensures err { OnErr result (lab.new ≡ lab.old) }
+{
+    if is_here {
+        lab.step_inlined(node)
+    } else {
+        lab.step(node)
+    }
+}
+
+// Makes this node's next event, by a step inlined here or by a call of it, and considers what that may have changed.
+#[inline(always)]
+pub(crate) fn make(
+    lab: &mut Lab,
+    ready: &mut Numbers,
+    alone: &mut Option<NodeId>,
+    schedule: &mut Schedule,
+    node: NodeId,
+    is_here: bool,
+) -> Result<Made, LabFault>
+    requires ready { HoldsReady (chip_of lab.old) ready.old }
+    requires alone { IfSome alone.old (IsAlone ready.old) }
+    requires replays { IsSome (replay lab.old.load lab.old.kept) }
+    ensures ok { IfOk result (λ made. step_answer lab.old node ≡ Ok made) }
+    ensures state { OnOk result (lab.new ≡ stepped lab.old node) }
+    ensures schedule { OnOk result (schedule.new ≡ passed_on schedule.old node) }
+    ensures ready { OnOk result (HoldsReady (chip_of lab.new) ready.new) }
+    ensures alone { OnOk result (IfSome alone.new (IsAlone ready.new)) }
+    ensures words { IfOk result (λ made. (writer reader : ℕ) →
+        word_count lab.new writer reader ≡ word_count lab.old writer reader + one_over writer reader made) }
+    ensures newest { IfOk result (λ made. newest_told lab.new ≡ Some made) }
+    ensures replays { OnOk result (IsSome (replay lab.new.load lab.new.kept)) }
+    ensures refused { IfErr result (λ why. IsRefusedFor why (step_answer lab.old node)) }
+    ensures same { OnErr result (lab.new ≡ lab.old) }
+    ensures stays { OnErr result (schedule.new ≡ schedule.old) }
+{
+    match step_once(lab, node, is_here) {
+        Ok(made) => {
+            *schedule = schedule.pass_on(node);
+            refresh(ready, alone, lab.chip(), &made);
+            Ok(made)
+        }
+        Err(why) => Err(why),
+    }
+}
+
+// A run is over.
+#[derive(Clone, Copy)]
+struct Over;
+
+// Makes the next event of the schedule, if nothing halts it. If the run ends with it, or before it, returns its end: so the
+// report is kept only then. A node that runs continues here, any other in a function of its own.
+#[inline(always)]
+fn advance(
+    lab: &mut Lab,
+    ready: &mut Numbers,
+    alone: &mut Option<NodeId>,
+    schedule: &mut Schedule,
+    until: &[Condition],
+    needs: &Needs,
+    words: &mut LinkCounts,
+    end: &mut End,
+) -> Result<(), Over>
+    requires ready { HoldsReady (chip_of lab.old) ready.old }
+    requires alone { IfSome alone.old (IsAlone ready.old) }
+    requires replays { IsSome (replay lab.old.load lab.old.kept) }
+    requires needed { IsNeeded needs.now until.now }
+    requires most { length until.now ≤ 8 }
+    requires size { length words.old ≡ 8 }
+    requires counted { AreCounted until.now lab.old words.old }
+    ensures made { OnOk result (IsSome (told (running lab.old schedule.old))) }
+    ensures unmet { OnOk result (held_next until.now (running lab.old schedule.old) ≡ None) }
+    ensures moved { OnOk result (running lab.new schedule.new ≡ run_moved (running lab.old schedule.old)) }
+    ensures ready { OnOk result (HoldsReady (chip_of lab.new) ready.new) }
+    ensures alone { OnOk result (IfSome alone.new (IsAlone ready.new)) }
+    ensures replays { OnOk result (IsSome (replay lab.new.load lab.new.kept)) }
+    ensures size { OnOk result (length words.new ≡ 8) }
+    ensures counted { OnOk result (AreCounted until.now lab.new words.new) }
+    ensures over { OnErr result (IsOver until.now (running lab.old schedule.old) (running lab.new schedule.new) end.new) }
+{
+    match next_from(ready, alone, schedule.turn) {
+        Some(node) => {
+            if lab.node(node).not_ready().is_none() {
+                match make(lab, ready, alone, schedule, node, true) {
+                    Ok(made) => {
+                        if let Some(which) = first_held(until, needs, words, &made, lab) {
+                            *end = End::Reached { made, which };
+                            return Err(Over);
+                        }
+                        Ok(())
+                    }
+                    Err(why) => {
+                        *end = End::Refused(why);
+                        Err(Over)
+                    }
+                }
+            } else {
+                match make(lab, ready, alone, schedule, node, false) {
+                    Ok(made) => {
+                        if let Some(which) = first_held(until, needs, words, &made, lab) {
+                            *end = End::Reached { made, which };
+                            return Err(Over);
+                        }
+                        Ok(())
+                    }
+                    Err(why) => {
+                        *end = End::Refused(why);
+                        Err(Over)
+                    }
+                }
+            }
+        }
+        None => {
+            *end = End::Quiet;
+            Err(Over)
+        }
+    }
+}
+
+// How many events there were at the end of a run: one more than were made before, where it ended right after an event.
+fn events_at(before: u64, end: End) -> u64
+    requires { before + 1 < 2 ^ 64 }
+    ensures { result ≡ events_at before end }
+{
+    match end {
+        End::Reached { .. } => before + 1,
+        End::Made => before,
+        End::Quiet => before,
+        End::Refused(_) => before,
+    }
+}
+
+/// Makes events in the order of a schedule: at most `most`, up to the first after which one of the conditions holds, and
+/// returns the next schedule. The time is linear in the number of events, and independent of how many nodes wait; a condition
+/// that counts words reads the steps of one end once before.
+pub fn run_schedule(lab: &mut Lab, mut schedule: Schedule, most: u64, until: &[Condition]) -> Ran
+    requires { length until.now ≤ 8 }
+    ensures state { running lab.new result.schedule ≡ after_events (running lab.old schedule) result.events }
+    ensures made { AreMade (running lab.old schedule) result.events }
+    ensures most { result.events ≤ most }
+    ensures end { HasEnded (running lab.old schedule) most until.now result.events result.end }
+{
+    let mut ready = ready_nodes(lab.chip());
+    let mut alone = None;
+    let needs = needs_of(until);
+    let mut words = count_all(until, lab);
+    let mut events = 0;
+    let mut end = End::Made;
+    while events < most {
+        match advance(
+            lab,
+            &mut ready,
+            &mut alone,
+            &mut schedule,
+            until,
+            &needs,
+            &mut words,
+            &mut end,
+        ) {
+            Ok(()) => events += 1,
+            Err(Over) => {
+                let events = events_at(events, end);
+                return Ran {
+                    events,
+                    end,
+                    schedule,
+                };
+            }
+        }
+    }
+    let end = End::Made;
+    Ran {
+        events,
+        end,
+        schedule,
+    }
+}

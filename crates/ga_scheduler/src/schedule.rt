@@ -1,0 +1,127 @@
+//! In what order the nodes make their events.
+
+ghost use Rattle.std.specs.Prelude.{◌≡◌, ◌+◌};
+ghost use Rattle.rand_xoshiro.specs.SplitMix64.{mix_u64};
+ghost use Rattle.ga_grid.specs.Grid.{node_id};
+
+use ga_grid::{NODES, NodeId};
+use rand_core::SeedableRng;
+use rand_core::utils::NextWord;
+use rand_xoshiro::SplitMix64;
+
+/// The next turn after a node that made an event.
+#[derive(Clone, Copy, PartialEq, Eq, Debug)]
+pub enum Order {
+    /// In rounds: to the next number, after the last one to the first. So in each round each node that has an event makes one,
+    /// in the order of the numbers.
+    Rounds,
+    /// Only when the node has no event left: each makes as many events as it can.
+    Greedy,
+    /// To a node that is drawn.
+    Random,
+}
+
+/// An order with its state: whose turn it is, and the state of the random generator. The event of a turn is made by the first
+/// node, from the one whose turn it is on and round the chip, that has one.
+#[derive(Clone, Copy, PartialEq, Eq, Debug)]
+pub struct Schedule {
+    /// How the next turn is chosen.
+    pub order: Order,
+    /// The node whose turn it is.
+    pub turn: NodeId,
+    /// The state of the generator, SplitMix64 (Steele, Lea and Flood, "Fast splittable pseudorandom number generators", 2014).
+    /// Node n is drawn where its next word is n modulo 144.
+    pub generator: u64,
+}
+
+// A word, and the generator's next state.
+fn drawn_word(state: u64) -> (u64, u64)
+    ensures { result ≡ mix_u64 state }
+{
+    let mut generator = SplitMix64::seed_from_u64(state);
+    let word = generator.next_word();
+    (word, u64::from_le_bytes(generator.state()))
+}
+
+// The node of this number; from 144 on they begin again.
+pub(crate) fn node_at(number: u64) -> NodeId
+    ensures { result ≡ node_id number }
+{
+    NodeId::new((number % NODES as u64) as u8)
+}
+
+// The node after this one, and 000 after the last.
+fn following(node: NodeId) -> NodeId
+    ensures { result ≡ node_id (node.number + 1) }
+{
+    if node.number < 143 {
+        NodeId::new(node.number + 1)
+    } else {
+        NodeId::new(0)
+    }
+}
+
+impl Schedule {
+    ghost use Rattle.std.specs.Prelude.{◌≡◌};
+    ghost use Rattle.ga_scheduler.specs.Schedules.{drawn, in_rounds, greedily, at_random, passed_on};
+
+    /// Rounds, the first of which begins at node 000.
+    pub fn in_rounds() -> Self
+        ensures { result ≡ in_rounds }
+    {
+        Schedule {
+            order: Order::Rounds,
+            turn: node_at(0),
+            generator: 0,
+        }
+    }
+
+    /// Node 000 until it has no event, then the next.
+    pub fn greedily() -> Self
+        ensures { result ≡ greedily }
+    {
+        Schedule {
+            order: Order::Greedy,
+            turn: node_at(0),
+            generator: 0,
+        }
+    }
+
+    /// Each turn that of a node drawn by a generator with this seed, which determines the schedule.
+    pub fn at_random(seed: u64) -> Self
+        ensures { result ≡ at_random seed }
+    {
+        let schedule = Schedule {
+            order: Order::Random,
+            turn: node_at(0),
+            generator: seed,
+        };
+        schedule.draw()
+    }
+
+    // The schedule with a node drawn.
+    fn draw(self) -> Self
+        ensures { result ≡ drawn self }
+    {
+        let (word, generator) = drawn_word(self.generator);
+        Schedule {
+            order: self.order,
+            turn: node_at(word),
+            generator,
+        }
+    }
+
+    // The schedule after an event that this node made.
+    pub(crate) fn pass_on(self, node: NodeId) -> Self
+        ensures { result ≡ passed_on self node }
+    {
+        match self.order {
+            Order::Rounds => Schedule {
+                turn: following(node),
+                ..self
+            },
+            Order::Greedy => Schedule { turn: node, ..self },
+            Order::Random => self.draw(),
+        }
+    }
+}

@@ -1,0 +1,158 @@
+//! Events up to the first one that a watch selects.
+
+ghost use Rattle.std.specs.Prelude.{◌≡◌, ◌≤◌, ◌%◌, Ok, Some, None, IfOk, IfErr, IfSome, IsSome, OnOk, OnErr};
+ghost use Rattle.ga_event.specs.Apply.{replay};
+ghost use Rattle.ga_lab.specs.Machine.{chip_of};
+ghost use Rattle.ga_scheduler.specs.declared.condition.Condition.TheVariants.{Writes};
+ghost use Rattle.ga_scheduler.specs.Conditions.{holds};
+ghost use Rattle.ga_scheduler.specs.inner.{HoldsReady, IsAlone};
+ghost use Rattle.ga_scheduler.specs.Running.{running};
+ghost use Rattle.ga_scheduler.specs.Watched.{IsNewestMade, chosen_first, told_first, first_moved, after_first, AreMadeFirst, watching, watch_after, IsHaltedFirst, IsNewestSeen, HasEndedWatched};
+
+use crate::edges::writes;
+use crate::numbers::Numbers;
+use crate::ready::{next_from, ready_nodes};
+use crate::running::make;
+use crate::schedule::Schedule;
+use crate::watch::Watch;
+use ga_grid::NodeId;
+use ga_lab::{Lab, LabFault, Made};
+
+/// Why no more events were made.
+#[derive(Clone, Copy, PartialEq, Eq, Debug)]
+pub enum WatchedEnd {
+    /// The watch ended the run after this event, and after none before.
+    Seen(Made),
+    /// As many events were made as were asked for.
+    Made,
+    /// No node of the chip has an event.
+    Quiet,
+    /// [`Lab::step`] refused the next event: `Full`, `Spent` or `Memory`.
+    Refused(LabFault),
+}
+
+/// The number of events, why the run ended, and the next schedule.
+#[derive(Clone, Copy, PartialEq, Eq, Debug)]
+pub struct WatchedRun {
+    /// How many events were made.
+    pub events: u64,
+    /// Why no more events were made.
+    pub end: WatchedEnd,
+    /// The schedule after the last event, with which a further run continues.
+    pub schedule: Schedule,
+}
+
+// The node that makes the next event: the one that has precedence, if it has an event, otherwise the one of the schedule.
+#[inline(always)]
+fn next_first(
+    ready: &Numbers,
+    alone: &mut Option<NodeId>,
+    first: Option<NodeId>,
+    schedule: &Schedule,
+    lab: &Lab,
+) -> Option<NodeId>
+    requires ready { HoldsReady (chip_of lab.now) ready.now }
+    requires alone { IfSome alone.old (IsAlone ready.now) }
+    ensures chosen { result ≡ chosen_first first (running lab.now schedule.now) }
+    ensures alone { IfSome alone.new (IsAlone ready.now) }
+{
+    match first {
+        Some(node) => {
+            if ready.has(node.number) {
+                Some(node)
+            } else {
+                next_from(ready, alone, schedule.turn)
+            }
+        }
+        None => next_from(ready, alone, schedule.turn),
+    }
+}
+
+// Makes the next event of the run, where nothing halts it.
+#[inline(always)]
+fn go(
+    lab: &mut Lab,
+    ready: &mut Numbers,
+    alone: &mut Option<NodeId>,
+    first: Option<NodeId>,
+    schedule: &mut Schedule,
+) -> Result<Made, WatchedEnd>
+    requires ready { HoldsReady (chip_of lab.old) ready.old }
+    requires alone { IfSome alone.old (IsAlone ready.old) }
+    requires replays { IsSome (replay lab.old.load lab.old.kept) }
+    ensures told { IfOk result (λ made. told_first first (running lab.old schedule.old) ≡ Some made) }
+    ensures moved { OnOk result (running lab.new schedule.new ≡ first_moved first (running lab.old schedule.old)) }
+    ensures ready { OnOk result (HoldsReady (chip_of lab.new) ready.new) }
+    ensures alone { OnOk result (IfSome alone.new (IsAlone ready.new)) }
+    ensures newest { IfOk result (λ made. IsNewestMade lab.new made) }
+    ensures replays { OnOk result (IsSome (replay lab.new.load lab.new.kept)) }
+    ensures halted { IfErr result (IsHaltedFirst first (running lab.old schedule.old)) }
+    ensures same { OnErr result (lab.new ≡ lab.old) }
+    ensures stays { OnErr result (schedule.new ≡ schedule.old) }
+{
+    match next_first(ready, alone, first, schedule, lab) {
+        Some(node) => match make(lab, ready, alone, schedule, node, true) {
+            Ok(made) => Ok(made),
+            Err(why) => Err(WatchedEnd::Refused(why)),
+        },
+        None => Err(WatchedEnd::Quiet),
+    }
+}
+
+/// Makes events in the order of a schedule, at most `most`, up to the first after which a watch ends the run, and returns the
+/// next schedule. If the watch didn't end it, a further run by this schedule, with the watch as it then is, continues this one.
+/// A node may have precedence: it makes each event that it has, and others make theirs only while it has none.
+pub fn run_watched<W: Watch>(
+    lab: &mut Lab,
+    mut schedule: Schedule,
+    first: Option<NodeId>,
+    most: u64,
+    watch: &mut W,
+) -> WatchedRun
+    ensures state { running lab.new result.schedule ≡ after_first first (running lab.old schedule) result.events }
+    ensures made { AreMadeFirst first (running lab.old schedule) result.events }
+    ensures watch { watch.new ≡ watch_after (watching first W.ends W.seen) watch.old (running lab.old schedule) result.events }
+    ensures most { result.events ≤ most }
+    ensures newest { IsNewestSeen lab.new result.end }
+    ensures end { HasEndedWatched (watching first W.ends W.seen) watch.old (running lab.old schedule) most result.events result.end }
+{
+    let mut ready = ready_nodes(lab.chip());
+    let mut alone = None;
+    let mut events = 0;
+    while events < most {
+        match go(lab, &mut ready, &mut alone, first, &mut schedule) {
+            Ok(made) => {
+                events += 1;
+                if watch.sees(&made, lab) {
+                    let end = WatchedEnd::Seen(made);
+                    return WatchedRun {
+                        events,
+                        end,
+                        schedule,
+                    };
+                }
+            }
+            Err(end) => {
+                return WatchedRun {
+                    events,
+                    end,
+                    schedule,
+                };
+            }
+        }
+    }
+    let end = WatchedEnd::Made;
+    WatchedRun {
+        events,
+        end,
+        schedule,
+    }
+}
+
+/// Whether the newest event of a lab stored in a cell of RAM of a node, which the low six bits of an address name.
+pub fn has_written(lab: &Lab, made: &Made, node: NodeId, address: u8) -> bool
+    requires { IsNewestMade lab.now made.now }
+    ensures { result ≡ holds (Writes node (address % 64) None) made.now lab.now }
+{
+    writes(made, lab, node, address % 64, None)
+}

@@ -1,0 +1,150 @@
+//! Listing the words of a link one after another, and counting them. A word is in the steps of both ends of the link.
+
+ghost use Rattle.std.specs.Prelude.{◌≡◌, ◌≤◌, option_to_list};
+ghost use Rattle.ga_lab.specs.Machine.{history_of};
+ghost use Rattle.ga_scheduler.specs.Words.{end_of, words_of, words_after, carried_as, is_over, one_over, word_count};
+
+use super::{Sent, Words};
+use ga_grid::NodeId;
+use ga_lab::{Lab, Made};
+
+// Whether the reader has fewer steps than the writer. The steps of either tell the words.
+#[tactic(auto, using(crate::proofs::WordCounts::by_either))]
+fn is_shorter(lab: &Lab, writer: NodeId, reader: NodeId) -> bool
+    ensures { words_after writer.number reader.number 0 (history_of lab.now (end_of result writer reader))
+        ≡ words_of lab.now writer.number reader.number }
+{
+    lab.steps(reader) < lab.steps(writer)
+}
+
+// The end of a link whose steps are read: the reader or the writer.
+fn end_of(by_reader: bool, writer: NodeId, reader: NodeId) -> NodeId
+    ensures { result.number ≡ end_of by_reader writer reader }
+{
+    if by_reader { reader } else { writer }
+}
+
+// Whether the event carried a word over the link.
+pub(crate) fn is_over(made: &Made, writer: NodeId, reader: NodeId) -> bool
+    ensures { result ≡ is_over writer.number reader.number made.now }
+{
+    match made {
+        Made::Own { .. } => false,
+        Made::Pass {
+            writer: from,
+            reader: to,
+            ..
+        } => from.number == writer.number && to.number == reader.number,
+    }
+}
+
+// 1 where the event carried a word over the link, else 0.
+pub(crate) fn one_over(made: &Made, writer: NodeId, reader: NodeId) -> u32
+    ensures one { result ≡ one_over writer.number reader.number made.now }
+    ensures most { result ≤ 1 }
+{
+    if is_over(made, writer, reader) { 1 } else { 0 }
+}
+
+/// How many words went from the writer to the reader, of those that are kept. Takes time by the steps of the one that has fewer.
+pub fn count_words(lab: &Lab, writer: NodeId, reader: NodeId) -> u32
+    ensures { result ≡ word_count lab.now writer.number reader.number }
+{
+    let end = end_of(is_shorter(lab, writer, reader), writer, reader);
+    let mut words = 0;
+    'places: for place in 0..lab.steps(end) {
+        match lab.told(end, place) {
+            Some(made) => words += one_over(&made, writer, reader),
+            None => return words,
+        }
+    }
+    words
+}
+
+// The word that an event carried over the link, with this number.
+fn sent_as(made: &Made, writer: NodeId, reader: NodeId, number: u32) -> Option<Sent>
+    ensures { option_to_list result ≡ carried_as writer.number reader.number number made.now }
+{
+    match made {
+        Made::Own { .. } => None,
+        Made::Pass {
+            writer: from,
+            writer_step,
+            reader: to,
+            reader_step,
+            word,
+        } => {
+            if from.number == writer.number && to.number == reader.number {
+                Some(Sent {
+                    number,
+                    writer_step: *writer_step,
+                    reader_step: *reader_step,
+                    word: *word,
+                })
+            } else {
+                None
+            }
+        }
+    }
+}
+
+impl Words {
+    ghost use Rattle.std.specs.Prelude.{◌≡◌, ◌++◌, [], option_to_list, IfNone};
+    ghost use Rattle.ga_lab.specs.Machine.{State};
+    ghost use Rattle.ga_scheduler.specs.Words.{words_of, words_left};
+
+    /// All words from the writer to the reader, of which none is listed yet.
+    pub fn new(writer: NodeId, reader: NodeId) -> Self
+        ensures { (s : State) → words_left s result ≡ words_of s writer.number reader.number }
+    {
+        Words {
+            writer,
+            reader,
+            by_reader: false,
+            place: 0,
+            before: 0,
+        }
+    }
+
+    // Whether the reader's steps are to be read: at first where they are fewer than the writer's, then as before.
+    #[tactic(auto, using(crate::proofs::WordCounts::at_first))]
+    fn reads_reader(&self, lab: &Lab) -> bool
+        ensures { words_left lab.now (record self.now { by_reader = result }) ≡ words_left lab.now self.now }
+    {
+        if self.place == 0 {
+            is_shorter(lab, self.writer, self.reader)
+        } else {
+            self.by_reader
+        }
+    }
+
+    /// The next word; none if all are listed. The time is linear in the number of steps between the words, of the writer or of
+    /// the reader: of the one that had fewer at the first word.
+    pub fn next(&mut self, lab: &Lab) -> Option<Sent>
+        ensures word { words_left lab.now self.old ≡ option_to_list result ++ words_left lab.now self.new }
+        ensures end { IfNone result (words_left lab.now self.old ≡ []) }
+    {
+        let (writer, reader, before) = (self.writer, self.reader, self.before);
+        let by_reader = self.reads_reader(lab);
+        let end = end_of(by_reader, writer, reader);
+        let steps = lab.steps(end);
+        for place in self.place..steps {
+            match lab.told(end, place) {
+                Some(made) => {
+                    if let Some(sent) = sent_as(&made, writer, reader, before + 1) {
+                        *self = Words {
+                            writer,
+                            reader,
+                            by_reader,
+                            place: place + 1,
+                            before: before + 1,
+                        };
+                        return Some(sent);
+                    }
+                }
+                None => return None,
+            }
+        }
+        None
+    }
+}

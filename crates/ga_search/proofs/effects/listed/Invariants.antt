@@ -1,9 +1,0 @@
-use Rattle.std.proofs.Common.{◌≡◌, ℕ, ◌+◌}
-use Rattle.std.specs.Prelude.{slice_index}
-use Rattle.ga_event.specs.Told.{steps_of}
-use Rattle.ga_search.specs.Effects.{kept_steps, effects_below}
-use Rattle.ga_search.proofs.effects.listed.Given as goal
-
-abbrev pub invariant-loop-number : goal.invariant-loop-number
-invariant-loop-number l =
-    (left : ℕ → ℕ) → ((m : ℕ) → slice_index l.steps m + left m ≡ steps_of m l.lab.kept) → l.list.items ≡ effects_below left (kept_steps l.lab) l.number

@@ -1,8 +1,0 @@
-use Rattle.std.proofs.Common.{◌≡◌, ℕ, ◌<◌, Some}
-use Rattle.std.specs.Prelude.{slice_get}
-use Rattle.ga_search.specs.declared.condition.Condition.{Condition}
-use Rattle.ga_search.specs.inner.{Covers}
-use Rattle.ga_search.proofs.watching.needs_of.Given as goal
-
-abbrev pub invariant-loop-condition : goal.invariant-loop-condition
-invariant-loop-condition l = (k : ℕ) (one : Condition) → slice_get l.until k ≡ Some one → k < l.condition-index → Covers l.needs one
