@@ -1,7 +1,7 @@
 //! `ga144 dap`: a session of an editor over the standard streams.
 
 use crate::files::{LONGEST_FILE, read_file};
-use ga_dap::{Arrivals, ProgramFiles, SessionEnd, SourceError, serve_client};
+use ga_dap::{PendingInput, ProgramFiles, SessionEnd, SourceError, serve_client};
 use std::alloc::Global;
 use std::io::{ErrorKind, Read};
 use std::process::ExitCode;
@@ -45,7 +45,7 @@ pub fn out_of_memory(rt: &HostRuntime) -> ExitCode {
 }
 
 /// Serves an editor, and says how that ended.
-pub fn serve_editor<R: Read, A: Arrivals>(
+pub fn serve_editor<R: Read, A: PendingInput>(
     rt: &HostRuntime,
     reader: &mut R,
     arrivals: &mut A,

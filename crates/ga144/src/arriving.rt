@@ -2,7 +2,7 @@
 //! value, and take no memory.
 
 use crossbeam_channel::{Receiver, Sender, bounded};
-use ga_dap::Arrivals;
+use ga_dap::PendingInput;
 use std::alloc::{AllocError, Global};
 use std::io::{Read, Stdin};
 use std::sync::Wait;
@@ -109,7 +109,7 @@ impl<R: Wait> Read for Arriving<R> {
     }
 }
 
-impl Arrivals for Arrived {
+impl PendingInput for Arrived {
     // When input comes can't be specified here.
     ghost tells = { λ host told after. Unit {0} };
 

@@ -1,6 +1,6 @@
 //! The files that the command line names.
 
-use ga_explorer::{close, is_cut_off};
+use ga_explorer::{append_end_line, lacks_end_line};
 use std::fs::File;
 use std::io;
 use std::io::{Chain, ErrorKind, Read, Stdin, Take};
@@ -46,10 +46,10 @@ pub fn front_of(rt: &HostRuntime, file: &Option<String>) -> Result<Front, ExitCo
     };
     let name = name.as_str();
     let mut text = text_of(rt, name)?;
-    if is_cut_off(text.as_slice()) {
+    if lacks_end_line(text.as_slice()) {
         return Ok(Front { text, behind: 0 });
     }
-    match close(&mut text) {
+    match append_end_line(&mut text) {
         Ok(()) => Ok(Front {
             text,
             behind: u64::MAX,

@@ -9,12 +9,12 @@ use Rattle.ga_grid.specs.Grid.{yxx_of}
 use Rattle.ga_grid.specs.Chip.{node_at, nowhere}
 use Rattle.ga_text.specs.Lines.{Text}
 use Rattle.ga_text.specs.Digits.{decimal3_of}
-use Rattle.ga_parser.specs.Saying.{Said, parted, said_from, source_lines}
+use Rattle.ga_parser.specs.Saying.{TokenContent, parted, said_from, source_lines}
 use Rattle.ga_asm_text.specs.inner.{Word, Says, Adds, holds_words, registers_words, memory_words, node_words, named_words, source_words, HasRegisters, IsFit}
 use Rattle.ga_asm_text.proofs.Telling.{says_nothing, says_both}
 use Rattle.ga_asm_text.proofs.SourceLines.{nothing_added, both_added}
 
-no_lines : (said : List Said) (line next : ℕ) → said_from line (source_lines []) ≡ said ++ said_from next (source_lines []) → said ≡ []
+no_lines : (said : List TokenContent) (line next : ℕ) → said_from line (source_lines []) ≡ said ++ said_from next (source_lines []) → said ≡ []
 unfolding parted said_from
 no_lines said line next e = sym (append-nil said) ∙ sym e
 
@@ -23,7 +23,7 @@ empty_says : (text : Text) (words : List Word) → text ≡ [] → Says text wor
 empty_says text words none says =
     let here = subst (λ (t : Text). Says t words) none says in
     let a = here.says 1 [] in
-    sym a.3 ∙ ap (map (λ (one : Said). one.text)) (no_lines a.0 1 a.1 a.2)
+    sym a.3 ∙ ap (map (λ (one : TokenContent). one.text)) (no_lines a.0 1 a.1 a.2)
 
 named_some : (n : ℕ) (words : List Word) → (words ≡ [] → ⊥) → (codes "node" ∷ decimal3_of (yxx_of n) ∷ []) ++ words ≡ named_words n words
 named_some n [] some = absurd (some refl)

@@ -9,7 +9,7 @@ use Rattle.ga_grid.specs.Grid.{yxx_of, node_of, node_number}
 use Rattle.ga_node.specs.Record.{NodeState}
 use Rattle.ga_text.specs.Lines.{Text}
 use Rattle.ga_text.specs.Digits.{decimal3_of}
-use Rattle.ga_parser.specs.Saying.{Said, parted, is_word, source_lines, said_from, up_to_fault, said_in}
+use Rattle.ga_parser.specs.Saying.{TokenContent, parted, is_word, source_lines, said_from, up_to_fault, said_in}
 use Rattle.ga_parser.specs.Plain.{words_in, is_node, body_in, bodies_in, yxx_in}
 use Rattle.ga_asm_text.specs.inner.{Word, Says, number_word, register_words, address_words, cell_words, next_of, cells_words, next_behind, usual_p, registers_words, memory_words, holds_words, node_words, named_words, source_words}
 use Rattle.ga_text.proofs.Numbers.{decimal_read as digit_back}
@@ -17,28 +17,28 @@ use Rattle.ga_text.proofs.Taking.{node_of_yxx as number_back}
 
 -- ---- all that a text says
 
-whole_all : (said : List Said) → list_all is_word said ≡ true → up_to_fault (said ++ []) ≡ said
+whole_all : (said : List TokenContent) → list_all is_word said ≡ true → up_to_fault (said ++ []) ≡ said
 unfolding up_to_fault
 whole_all [] whole = refl
 whole_all (one ∷ said) whole =
     let parts = and_parts (is_word one) (list_all is_word said) whole in
-    ap (λ (rest : List Said). one ∷ rest) (cond-true (is_word one) (up_to_fault (said ++ [])) [] parts.0 ∙ whole_all said parts.1)
+    ap (λ (rest : List TokenContent). one ∷ rest) (cond-true (is_word one) (up_to_fault (said ++ [])) [] parts.0 ∙ whole_all said parts.1)
 
 nothing_behind : (next : ℕ) → said_from next (source_lines []) ≡ []
 unfolding parted said_from
 nothing_behind next = refl
 
-all_said : (text : Text) (said : List Said) (next : ℕ) → said_from 1 (source_lines (text ++ [])) ≡ said ++ said_from next (source_lines []) → list_all is_word said ≡ true → said_in text ≡ said
+all_said : (text : Text) (said : List TokenContent) (next : ℕ) → said_from 1 (source_lines (text ++ [])) ≡ said ++ said_from next (source_lines []) → list_all is_word said ≡ true → said_in text ≡ said
 unfolding said_in
 all_said text said next e whole =
     ap (λ (t : Text). up_to_fault (said_from 1 (source_lines t))) (sym (append-nil text))
-    ∙ (ap up_to_fault (e ∙ ap (λ (l : List Said). said ++ l) (nothing_behind next)) ∙ whole_all said whole)
+    ∙ (ap up_to_fault (e ∙ ap (λ (l : List TokenContent). said ++ l) (nothing_behind next)) ∙ whole_all said whole)
 
 pub says_whole : (text : Text) (words : List Word) → Says text words → list_all is_word (said_in text) ≡ true
 says_whole text words says = let a = says.says 1 [] in ap (list_all is_word) (all_said text a.0 a.1 a.2 a.4) ∙ a.4
 
 pub says_words : (text : Text) (words : List Word) → Says text words → words_in text ≡ words
-says_words text words says = let a = says.says 1 [] in ap (map (λ (one : Said). one.text)) (all_said text a.0 a.1 a.2 a.4) ∙ a.3
+says_words text words says = let a = says.says 1 [] in ap (map (λ (one : TokenContent). one.text)) (all_said text a.0 a.1 a.2 a.4) ∙ a.3
 
 -- ---- the bodies of nodes
 

@@ -4,8 +4,8 @@ use Rattle.std.specs.Prelude.{IfSome}
 use Rattle.ga_parser.specs.declared.fault.Fault.{Fault}
 use Rattle.ga_source.specs.declared.program.Assembled.{Assembled}
 use Rattle.ga_parser.specs.declared.scan.Token.{Token}
-use Rattle.ga_parser.specs.Saying.{all_in, all_said}
-use Rattle.ga_source.specs.Mending.{with_numbers, mended, IsAssembledOf}
+use Rattle.ga_parser.specs.Saying.{all_in, token_contents}
+use Rattle.ga_source.specs.Recovery.{with_numbers, mended, IsAssembledOf}
 use Rattle.ga_image.specs.FirstFault.{no_memory}
 use Rattle.ga_image.specs.declared.fault.ImageFault.{ImageFault}
 use Rattle.ga_console.specs.Run.{IsReadAlone, IsFault, Refused, Refuses}
@@ -39,7 +39,7 @@ assembles_nothing read rest StreamFault unread = inl (refl, unread)
 assembles_nothing read rest NotFinished unread = unread
 
 -- what was assembled of a source, and the first fault
-listed_of : (source : List ℕ) (words : List Token) (assembled : Option Assembled) (faults : List Fault) (first : Option Fault) → all_said words ≡ all_in source
+listed_of : (source : List ℕ) (words : List Token) (assembled : Option Assembled) (faults : List Fault) (first : Option Fault) → token_contents words ≡ all_in source
     → IfSome assembled (IsAssembledOf (mended (with_numbers 1 words) faults)) → (assembled ≡ None → length faults ≡ 200) → (first ≡ None → faults ≡ []) → IfSome first (λ _. 0 < length faults) → IsListed source first
 listed_of source words (Some all) faults None said is many none some =
     record { words = words; all = all; said = said; assembled = subst (λ (list : List Fault). IsAssembledOf (mended (with_numbers 1 words) list) all) (none refl) is }
@@ -53,7 +53,7 @@ listed_of source words (Some all) (fault ∷ faults) (Some first) said is many n
 listed_of source words None (fault ∷ faults) (Some first) said is many none some = (fault, faults, inr (many refl))
 
 -- the same by faults that were looked at
-pub listed_seen : (source : List ℕ) (words : List Token) (assembled : Option Assembled) (faults seen : List Fault) (first : Option Fault) → all_said words ≡ all_in source → seen ≡ faults
+pub listed_seen : (source : List ℕ) (words : List Token) (assembled : Option Assembled) (faults seen : List Fault) (first : Option Fault) → token_contents words ≡ all_in source → seen ≡ faults
     → IfSome assembled (IsAssembledOf (mended (with_numbers 1 words) faults)) → (assembled ≡ None → length faults ≡ 200) → (first ≡ None → seen ≡ []) → IfSome first (λ _. 0 < length seen) → IsListed source first
 listed_seen source words assembled faults seen first said same is many none some =
     listed_of source words assembled faults first said is many (λ e. sym same ∙ none e) (subst (λ (list : List Fault). IfSome first (λ _. 0 < length list)) same some)

@@ -8,7 +8,7 @@ use Rattle.std.proofs.lemmas.Slice.Eq.{bytes_eq-Decides}
 use Rattle.std.proofs.lemmas.Bool.{cases_Bool, and_parts, and_from, cond-false, ltb-true, lt-ltb, ne_eqb, false≢true}
 use Rattle.ga_text.specs.Lines.{Text, Bytes, Line, HasNoFeed, ended, text_of, ends_line, with_byte}
 use Rattle.ga_text.specs.Digits.{decimal3_of}
-use Rattle.ga_parser.specs.Saying.{parted, is_feed, is_blank, source_lines, has_bytes, source_words, order_mark, without_return, bare, Said, a_word, is_word, spoken, said_by, next_line, said_from, said_in, up_to_fault}
+use Rattle.ga_parser.specs.Saying.{parted, is_feed, is_blank, source_lines, has_bytes, source_words, order_mark, without_return, bare, TokenContent, a_word, is_word, spoken, said_by, next_line, said_from, said_in, up_to_fault}
 use Rattle.ga_asm_text.specs.inner.{Word, Says, IsOrdinary, IsUnmarked, is_inner, is_shown}
 use Rattle.ga_asm_text.proofs.SourceWords.{not_true}
 use Rattle.ga_parser.proofs.Scanning.{short_line}
@@ -169,14 +169,14 @@ says_both first second words more one two = record {
         a.0 ++ b.0,
         b.1,
         ap (λ (text : Text). said_from line (source_lines text)) (append_assoc first second rest)
-            ∙ (a.2 ∙ (ap (λ (l : List Said). a.0 ++ l) b.2 ∙ sym (append_assoc a.0 b.0 (said_from b.1 (source_lines rest))))),
-        map-append (λ (said : Said). said.text) a.0 b.0 ∙ (ap (λ (l : List Word). l ++ map (λ (said : Said). said.text) b.0) a.3 ∙ ap (λ (l : List Word). words ++ l) b.3),
+            ∙ (a.2 ∙ (ap (λ (l : List TokenContent). a.0 ++ l) b.2 ∙ sym (append_assoc a.0 b.0 (said_from b.1 (source_lines rest))))),
+        map-append (λ (said : TokenContent). said.text) a.0 b.0 ∙ (ap (λ (l : List Word). l ++ map (λ (said : TokenContent). said.text) b.0) a.3 ∙ ap (λ (l : List Word). words ++ l) b.3),
         list_all-append is_word a.0 b.0 ∙ and_from (list_all is_word a.0) (list_all is_word b.0) a.4 b.4,
       );
   nothing = λ none. none_both first second (one.nothing (none_first words more none)) (two.nothing (none_second words more none));
 }
 
-all_words : (line : ℕ) (words : List Word) → (map (λ (said : Said). said.text) (map (a_word line) words) ≡ words) × (list_all is_word (map (a_word line) words) ≡ true)
+all_words : (line : ℕ) (words : List Word) → (map (λ (said : TokenContent). said.text) (map (a_word line) words) ≡ words) × (list_all is_word (map (a_word line) words) ≡ true)
 all_words line [] = (refl, refl)
 all_words line (word ∷ words) = let more = all_words line words in (ap (λ (l : List Word). word ∷ l) more.0, more.1)
 
@@ -186,7 +186,7 @@ says_line text words start inner short other some says = record {
   says = λ line rest. (
     map (a_word line) words,
     next_line line,
-    line_first line text rest start inner other ∙ ap (λ (l : List Said). l ++ said_from (next_line line) (source_lines rest)) (short_line line text short ∙ says line),
+    line_first line text rest start inner other ∙ ap (λ (l : List TokenContent). l ++ said_from (next_line line) (source_lines rest)) (short_line line text short ∙ says line),
     (all_words line words).0,
     (all_words line words).1,
   );
@@ -216,7 +216,7 @@ says_two first second start one two short =
     (omega (arith, length-append first (32 ∷ second)))
     (no_end first second)
     (λ none. cc)
-    (λ line. word_first line first second one ∙ ap (λ (l : List Said). a_word line first ∷ l) (word_last line second two))
+    (λ line. word_first line first second one ∙ ap (λ (l : List TokenContent). a_word line first ∷ l) (word_last line second two))
 
 -- ---- the name of a node
 
@@ -280,7 +280,7 @@ to_end (first ∷ lines) body line rest =
     ap (λ (t : Text). t ++ rest) (append_assoc (ended first) (text_of lines) (ended end_line)) ∙ append_assoc (ended first) behind rest in
     ap (λ (t : Text). said_from line (source_lines t)) whole
     ∙ (line_then line first (behind ++ rest) body.0.no_feed
-    ∙ (ap (λ (l : List Said). if bytes_eq (bare line first) (codes "end") then [] else said_by line (bare line first) ++ l) (to_end lines body.1 (next_line line) rest)
+    ∙ (ap (λ (l : List TokenContent). if bytes_eq (bare line first) (codes "end") then [] else said_by line (bare line first) ++ l) (to_end lines body.1 (next_line line) rest)
     ∙ (sym (line_then line first behind body.0.no_feed)
     ∙ ap (λ (t : Text). said_from line (source_lines t)) (sym (append_assoc (ended first) (text_of lines) (ended end_line))))))
 
@@ -305,6 +305,6 @@ read_says text read rest source ahead input parts (inr all) =
 -- so texts that say the same make the same chips
 pub made_of_same : (source text : Text) (chip : List NodeState) → said_in source ≡ said_in text → IsChipOfSource source chip → IsChipOfSource text chip
 made_of_same source text chip same made = record {
-  named = subst (λ (said : List Said). All (HasPlain chip) (bodies_in (map (λ (one : Said). one.text) said))) same made.named;
-  others = subst (λ (said : List Said). (n : ℕ) → All (λ words. yxx_in (slice_index_or words 0 []) ≢ Some n) (bodies_in (map (λ (one : Said). one.text) said)) → node_at chip n ≡ node_at default_chip n) same made.others;
+  named = subst (λ (said : List TokenContent). All (HasPlain chip) (bodies_in (map (λ (one : TokenContent). one.text) said))) same made.named;
+  others = subst (λ (said : List TokenContent). (n : ℕ) → All (λ words. yxx_in (slice_index_or words 0 []) ≢ Some n) (bodies_in (map (λ (one : TokenContent). one.text) said)) → node_at chip n ≡ node_at default_chip n) same made.others;
 }

@@ -10,12 +10,12 @@ use Rattle.ga_parser.specs.declared.fault.Fault.{Fault}
 use Rattle.ga_source.specs.declared.program.Program.{Program}
 use Rattle.ga_source.specs.declared.program.Assembled.{Assembled}
 use Rattle.ga_parser.specs.declared.scan.Token.{Token}
-use Rattle.ga_parser.specs.Saying.{all_in, all_said}
-use Rattle.ga_source.specs.Mending.{with_numbers, mended, IsAssembledOf}
+use Rattle.ga_parser.specs.Saying.{all_in, token_contents}
+use Rattle.ga_source.specs.Recovery.{with_numbers, mended, IsAssembledOf}
 use Rattle.ga_source.specs.Programs.{IsAssembled, AreRead, AreAsked}
 use Rattle.ga_source.specs.Made.{IsChipOfSource, IsSoundSource}
 use Rattle.ga_text.specs.Image.{HasNoEnd}
-use Rattle.ga_text.specs.Output.{IsReadWhole, Begins}
+use Rattle.ga_text.specs.Output.{IsReadWhole, TextHasPrefix}
 use Rattle.ga_display.specs.Texts.{image_fault_text}
 use Rattle.ga_console.specs.Run.{Refused}
 use Rattle.ga_console.specs.Race.{OfImage, IsCutShort}
@@ -49,7 +49,7 @@ Assembles read rest text NotFinished = ⊥
 pub record IsMendedBy (source : Text) (faults : List Fault) : Type 0 where
   pub words : List Token
   pub all : Assembled
-  pub said : all_said words ≡ all_in source
+  pub said : token_contents words ≡ all_in source
   pub assembled : IsAssembledOf (mended (with_numbers 1 words) faults) all
 
 -- the source has a fault; there is a chip without the words at fault, unless too many are
@@ -87,5 +87,5 @@ Disassembles read rest text ImageRefused = (fault : ImageFault) × Refused read 
 Disassembles read rest text StreamFault =
     ((text ≡ []) × HasNoEnd read)
     ⊎ OfImage read rest (λ image. IsCutShort (IsAccepted image) text)
-    ⊎ ((fault : ImageFault) × Refused read rest fault × Begins (image_fault_text fault) text)
+    ⊎ ((fault : ImageFault) × Refused read rest fault × TextHasPrefix (image_fault_text fault) text)
 Disassembles read rest text NotFinished = ⊥

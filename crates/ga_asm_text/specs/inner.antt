@@ -6,10 +6,10 @@ use Rattle.ga_grid.specs.Grid.{yxx_of, load_p_of}
 use Rattle.ga_node.specs.Record.{NodeState}
 use Rattle.ga_text.specs.Lines.{Bytes, Text}
 use Rattle.ga_text.specs.Digits.{decimal3_of}
-use Rattle.ga_parser.specs.Saying.{has_bytes, Said, is_word, source_lines, said_from}
+use Rattle.ga_parser.specs.Saying.{has_bytes, TokenContent, is_word, source_lines, said_from}
 use Rattle.ga_image.specs.declared.fault.ImageFault.{ImageFault}
 use Rattle.ga_text.specs.Image.{HasNoEnd}
-use Rattle.ga_text.specs.Output.{Begins}
+use Rattle.ga_text.specs.Output.{TextHasPrefix}
 use Rattle.ga_display.specs.Texts.{image_fault_text}
 use Rattle.ga_console.specs.Run.{IsFault}
 use Rattle.ga_console.specs.Race.{IsCutShort}
@@ -28,7 +28,7 @@ Word = Bytes
 
 -- The text is whole lines that say these words: before any lines, from any number on. Without a word it is empty.
 pub record Says (text : Text) (words : List Word) : Type 0 where
-  pub says : (line : ℕ) (rest : Text) → (said : List Said) × (next : ℕ) × (said_from line (source_lines (text ++ rest)) ≡ said ++ said_from next (source_lines rest))
+  pub says : (line : ℕ) (rest : Text) → (said : List TokenContent) × (next : ℕ) × (said_from line (source_lines (text ++ rest)) ≡ said ++ said_from next (source_lines rest))
       × (map (λ one. one.text) said ≡ words) × (list_all is_word said ≡ true)
   pub nothing : words ≡ [] → text ≡ []
 
@@ -198,7 +198,7 @@ Listing source text NotFinished = ⊥
 abbrev pub Disassembly : Text → Text → Status → Type 0
 Disassembly image text Done = IsAccepted image text
 Disassembly image text ImageRefused = (fault : ImageFault) × IsFault image fault × (text ≡ image_fault_text fault)
-Disassembly image text StreamFault = IsCutShort (IsAccepted image) text ⊎ ((fault : ImageFault) × IsFault image fault × Begins (image_fault_text fault) text)
+Disassembly image text StreamFault = IsCutShort (IsAccepted image) text ⊎ ((fault : ImageFault) × IsFault image fault × TextHasPrefix (image_fault_text fault) text)
 Disassembly image text NotFinished = ⊥
 
 -- the status to end with where source wasn't read whole

@@ -7,10 +7,10 @@ ghost use Rattle.ga_asm_text.specs.Source.{IsAssembly, Assembles};
 
 use super::reading::read_source;
 use ga_console::Status;
-use ga_debug_info::{tell_fault, tell_memory, tell_stores};
+use ga_debug_info::{report_code_stores, report_fault, report_out_of_memory};
 use ga_image::print;
 use ga_source::assemble;
-use ga_text::{WriteFailed, write_all};
+use ga_text::{WriteError, write_all};
 use std::alloc::Global;
 use std::io::{Read, Write};
 
@@ -43,7 +43,7 @@ pub fn write_text<W: Write>(writer: &mut W, text: Vec<u8>) -> Status
 {
     match write_all(writer, text.as_slice()) {
         Ok(()) => Status::Done,
-        Err(WriteFailed) => Status::StreamFault,
+        Err(WriteError) => Status::StreamFault,
     }
 }
 
@@ -54,19 +54,19 @@ fn image_of<E: Write>(alloc: Global, errors: &mut E, source: Vec<u8>) -> Option<
     match assemble(alloc, source.as_slice()) {
         Ok(assembled) => match print(alloc, &assembled.chip) {
             Ok(image) => {
-                if tell_stores(alloc, errors, &assembled) {
+                if report_code_stores(alloc, errors, &assembled) {
                     Some(image)
                 } else {
                     None
                 }
             }
             Err(_) => {
-                tell_memory(errors);
+                report_out_of_memory(errors);
                 None
             }
         },
         Err(fault) => {
-            tell_fault(errors, fault);
+            report_fault(errors, fault);
             None
         }
     }

@@ -10,10 +10,10 @@ ghost use Rattle.ga_asm_text.specs.Source.{IsAccepted, Disassembles};
 ghost use Rattle.ga_asm_text.specs.inner.{Disassembly, IsOrdinary, IsUnmarked, Says, Adds, AddsRemark, number_word, register_words, address_words, cell_words, next_of, cells_words, next_behind, holds_words as holds_words_of, usual_p as usual_p_of, registers_words, memory_words, node_words, named_words, source_words, AreCells, HasRegisters, HasMemories, IsFit};
 
 use super::assembling::write_text;
+use super::comment::CellRoles;
 use super::listing::{push_hex, push_node};
-use super::remark::Roles;
 use ga_console::{Status, refuse};
-use ga_debug_info::{edited_image, tell_edited, tell_unsaid};
+use ga_debug_info::{edited_image, report_editor_artifact, report_unrepresented};
 use ga_grid::{Chip, NODES, NodeId, load_p};
 use ga_image::{ImageCause, ImageFault, parse};
 use ga_node::{Node, Place};
@@ -75,7 +75,7 @@ fn source_for<E: Write>(
     let chip = parse_told(alloc, errors, image.as_slice())?;
     match source_of(alloc, &chip) {
         Ok(text) => {
-            tell_unsaid(errors, &chip);
+            report_unrepresented(errors, &chip);
             Ok(text)
         }
         Err(_) => Err(NO_MEMORY),
@@ -89,7 +89,7 @@ fn parse_told<E: Write>(alloc: Global, errors: &mut E, image: &[u8]) -> Result<C
 {
     let parsed = parse(alloc, image);
     if parsed.is_err() {
-        tell_edited(errors, edited_image(image));
+        report_editor_artifact(errors, edited_image(image));
     }
     parsed
 }
@@ -184,14 +184,14 @@ fn push_cells(text: &mut Vec<u8>, node: &Node) -> Result<(), AllocError>
     ensures says { OnOk result (Adds text.old.items text.new.items (memory_words node.now)) }
     ensures fit { OnOk result (HasMemories node.now) }
 {
-    let roles = Roles::of(node);
+    let roles = CellRoles::of(node);
     let next = push_ram(text, node, &roles)?;
     push_rom(text, node, &roles, next)?;
     Ok(())
 }
 
 /// Adds the cells of RAM. Tells the address behind the last one.
-fn push_ram(text: &mut Vec<u8>, node: &Node, roles: &Roles) -> Result<u32, AllocError>
+fn push_ram(text: &mut Vec<u8>, node: &Node, roles: &CellRoles) -> Result<u32, AllocError>
     ensures says { OnOk result (Adds text.old.items text.new.items (cells_words 0 0 node.now.ram)) }
     ensures next { IfOk result (λ next. next ≡ next_behind 0 0 node.now.ram) }
     ensures fit { OnOk result (AreCells node.now.ram) }
@@ -210,7 +210,12 @@ fn push_ram(text: &mut Vec<u8>, node: &Node, roles: &Roles) -> Result<u32, Alloc
 }
 
 /// Adds the cells of ROM.
-fn push_rom(text: &mut Vec<u8>, node: &Node, roles: &Roles, behind: u32) -> Result<(), AllocError>
+fn push_rom(
+    text: &mut Vec<u8>,
+    node: &Node,
+    roles: &CellRoles,
+    behind: u32,
+) -> Result<(), AllocError>
     ensures says { OnOk result (Adds text.old.items text.new.items (cells_words 0x80 behind node.now.rom)) }
     ensures fit { OnOk result (AreCells node.now.rom) }
 {
@@ -230,7 +235,7 @@ fn push_rom(text: &mut Vec<u8>, node: &Node, roles: &Roles, behind: u32) -> Resu
 /// Adds a cell unless it is 0, and `org` before it where it isn't the next one. Tells the address behind the last cell.
 fn push_word(
     text: &mut Vec<u8>,
-    roles: &Roles,
+    roles: &CellRoles,
     word: u32,
     address: u32,
     next: u32,

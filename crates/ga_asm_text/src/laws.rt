@@ -13,7 +13,7 @@ ghost use Rattle.ga_source.specs.Made.{IsChipOfSource};
 /// The chip that is assembled of the source of an image has the memories, A, B and P of the image's chip; so has that of the image
 /// which is written of this source, and that of the image which `asm` writes where this source is its input, of which it may read a
 /// part.
-pub fn source_keeps_the_chip()
+pub fn disassembly_round_trips()
     ensures made { (image text : Text) (made : List NodeState) → IsAccepted image text → IsChipOfSource text made →
         (chip : List NodeState) × IsImage (lines_of image) chip × ((n : ℕ) → n < 144 → IsLoadedAs (node_at chip n) (node_at made n)) }
     ensures written { (image text again : Text) → IsAccepted image text → IsAssembly text again →

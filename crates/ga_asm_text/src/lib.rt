@@ -3,12 +3,12 @@
 #![tactic(auto)]
 
 mod assembling;
+mod comment;
 mod disassembly;
 mod fault_lines;
 pub mod laws;
 mod listing;
 mod reading;
-mod remark;
 
 pub use assembling::assemble_source;
 pub use disassembly::disassemble;

@@ -12,13 +12,13 @@ use super::assembling::write_text;
 use super::fault_lines::{FaultLines, on_line};
 use super::reading::read_source;
 use ga_console::Status;
-use ga_debug_info::{tell_fault, tell_memory};
+use ga_debug_info::{report_fault, report_out_of_memory};
 use ga_grid::{Chip, NodeId};
 use ga_node::Place;
 use ga_ports::{Target, advance_p, classify};
 use ga_slots::Op;
 use ga_source::{
-    Assembled, Fault, Group, Item, Operand, Program, Request, Token, assemble_behind_faults,
+    Assembled, Fault, Group, Item, Operand, Program, Request, Token, assemble_with_recovery,
     source_words,
 };
 use std::alloc::{AllocError, Global};
@@ -41,7 +41,7 @@ pub fn list_source<R: Read, W: Write, E: Write>(
         Ok(source) => match listing_of(alloc, source.as_slice()) {
             Ok(listed) => write_listed(writer, errors, listed),
             Err(_) => {
-                tell_memory(errors);
+                report_out_of_memory(errors);
                 Status::ImageRefused
             }
         },
@@ -63,7 +63,7 @@ fn write_listed<W: Write, E: Write>(writer: &mut W, errors: &mut E, listed: List
 /// Tells a fault, where there is one.
 fn tell_first<E: Write>(errors: &mut E, fault: Option<Fault<'_>>) {
     if let Some(fault) = fault {
-        tell_fault(errors, fault);
+        report_fault(errors, fault);
     }
 }
 
@@ -103,7 +103,7 @@ fn listing_of(alloc: Global, source: &[u8]) -> Result<Listed<'_>, Fault<'_>>
 {
     let words = source_words(alloc, source)?;
     let all = words.as_slice();
-    let mended = assemble_behind_faults(alloc, all)?;
+    let mended = assemble_with_recovery(alloc, all)?;
     let fault = first_of(all, mended.faults.as_slice());
     let mut lines = FaultLines::new(source, all, mended.faults)?;
     let text = listing(alloc, mended.assembled.as_ref(), &mut lines)?;

@@ -5,7 +5,7 @@ ghost use Rattle.ga_text.specs.Output.{IsWholeText};
 ghost use Rattle.ga_asm_text.specs.inner.{IsUnread};
 
 use ga_console::Status;
-use ga_debug_info::{tell_long, tell_memory};
+use ga_debug_info::{report_input_too_long, report_out_of_memory};
 use ga_text::{WholeRead, read_whole};
 use std::alloc::Global;
 use std::io::{Read, Write};
@@ -24,12 +24,12 @@ pub(crate) fn read_source<R: Read, E: Write>(
     match read_whole(alloc, reader) {
         WholeRead::Whole(source) => Ok(source),
         WholeRead::TooLong(_) => {
-            tell_long(errors);
+            report_input_too_long(errors);
             Err(Status::ImageRefused)
         }
         WholeRead::ReadFailed => Err(Status::StreamFault),
         WholeRead::NoMemory => {
-            tell_memory(errors);
+            report_out_of_memory(errors);
             Err(Status::ImageRefused)
         }
     }

@@ -14,7 +14,7 @@ fn sum_kinds(node: &mut Node, count: u32) -> u32 {
         if node.not_ready().is_none() {
             saved = Saved::new();
             let due = node.due();
-            if let Kind::Run(code) = node.do_into(due, Seen::nobody(), &mut saved) {
+            if let Kind::Run(code) = node.execute_logged(due, Seen::nobody(), &mut saved) {
                 sum = sum.wrapping_add(u32::from(code));
             }
         }
@@ -31,7 +31,7 @@ fn sum_backs(node: &mut Node, count: u32) -> u32 {
         if node.not_ready().is_none() {
             let mut saved = Saved::new();
             let due = node.due();
-            let _ = node.do_into(due, Seen::nobody(), &mut saved);
+            let _ = node.execute_logged(due, Seen::nobody(), &mut saved);
             node.restore(&saved);
         }
         if let Ok((Kind::Run(code), _)) = node.own(Seen::nobody()) {

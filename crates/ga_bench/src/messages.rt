@@ -97,8 +97,8 @@ fn sent_once(
         Way::Respond => outbox.respond(request, body(alloc)?),
         Way::Acknowledge => outbox.acknowledge(request),
         Way::Refuse => outbox.refuse(request, "no node"),
-        Way::Tell => outbox.tell("stopped", body(alloc)?),
-        Way::TellAlone => outbox.tell_alone("initialized"),
+        Way::Tell => outbox.add_event("stopped", body(alloc)?),
+        Way::TellAlone => outbox.add_bare_event("initialized"),
     }
 }
 

@@ -2,7 +2,7 @@
 use Rattle.std.proofs.Common.{◌≡◌, ℕ, ◌<◌, ◌≤◌, ◌≢◌, ◌⊎◌, List, [], ◌∷◌, ◌++◌, length, refl, sym, ◌∙◌, ap, ap₂, subst, inl, inr, ⊎_elim, arith, zero, suc, ◌==◌, Bool, true, false, not, cond, ◌+◌, ◌-◌, drop, Some, None, option_map, length-drop, Option, Result, Ok, Err, IfOk}
 use Rattle.ga_event.specs.declared.event.Cause.{Cause}
 use Rattle.ga_causal.specs.declared.chain.Link.{Link}
-use Rattle.ga_causal.specs.Dependence.{rule_between, event_at, dependents, DependsOn, itself, through, no_cause, rule_of, IsDirect, cause_touches, place_of}
+use Rattle.ga_causal.specs.Dependence.{rule_between, event_at, dependents, DependsOn, itself, through, no_cause, rule_of, IsDirect, cause_touches, position_of_step}
 use Rattle.ga_causal.specs.Chains.{IsNext, IsLinked, IsChain, IsOldest, IsChainTo, alone, longer, IsFound, leads_to, least_below, oldest_cause, links_to, chain_of}
 use Rattle.std.specs.Prelude.{nat_lt, slice_index_or}
 use Rattle.std.proofs.lemmas.Bool.{cases_Bool, cases_lt, cases_eq, both_ways, cond-true, cond-false, le-ltb, lt-ltb, eq-eqb, ne_eqb, and_from, and_parts}
@@ -10,7 +10,7 @@ use Rattle.ga_causal.proofs.Exact.{meets_rule, why_dependent, DependsOn_from_fla
 use Rattle.std.proofs.lemmas.List.{get_or-drop}
 use Rattle.ga_causal.specs.Steps.{touching}
 use Rattle.ga_causal.proofs.Oldest.{DependsOn-order}
-use Rattle.ga_causal.proofs.Accounts.{place-other, place-touched}
+use Rattle.ga_causal.proofs.LocalHistories.{place-other, place-touched}
 use Rattle.ga_causal.proofs.Places.{on_by, on_by-zero, touching_yes, touching_no}
 
 -- ---- the chain is one, and is a chain
@@ -247,24 +247,24 @@ on_suc : (k : ℕ) (o : Option ℕ) → option_map suc (on_by k o) ≡ on_by (su
 on_suc k None = refl
 on_suc k (Some q) = ap Some (let e : suc (k + q) ≡ suc k + q = omega arith in e)
 
-later_from : (m j : ℕ) (xs ys : List Cause) → touching m xs ≤ j → place_of (xs ++ ys) m (suc j) ≡ on_by (length xs) (place_of ys m (suc (j - touching m xs)))
-later_from m j [] ys l = sym (on_by-zero (place_of ys m (suc (j - 0))) ∙ ap (λ (z : ℕ). place_of ys m (suc z)) (let e : j - 0 ≡ j = omega arith in e))
+later_from : (m j : ℕ) (xs ys : List Cause) → touching m xs ≤ j → position_of_step (xs ++ ys) m (suc j) ≡ on_by (length xs) (position_of_step ys m (suc (j - touching m xs)))
+later_from m j [] ys l = sym (on_by-zero (position_of_step ys m (suc (j - 0))) ∙ ap (λ (z : ℕ). position_of_step ys m (suc z)) (let e : j - 0 ≡ j = omega arith in e))
 later_from m zero (e ∷ es) ys l = ⊎_elim
     (λ yes. absurd (let a = touching_yes m e es yes in omega (arith, a, l)))
     (λ no. let a = touching_no m e es no in
-    place-other e (es ++ ys) m 0 no ∙ ap (option_map suc) (later_from m 0 es ys (omega (arith, a, l))) ∙ on_suc (length es) (place_of ys m (suc (0 - touching m es)))
-    ∙ ap (λ (z : ℕ). on_by (suc (length es)) (place_of ys m (suc (0 - z)))) (sym a))
+    place-other e (es ++ ys) m 0 no ∙ ap (option_map suc) (later_from m 0 es ys (omega (arith, a, l))) ∙ on_suc (length es) (position_of_step ys m (suc (0 - touching m es)))
+    ∙ ap (λ (z : ℕ). on_by (suc (length es)) (position_of_step ys m (suc (0 - z)))) (sym a))
     (cases_Bool (cause_touches e m))
 later_from m (suc j) (e ∷ es) ys l = ⊎_elim
     (λ yes. let a = touching_yes m e es yes in
-    place-touched e (es ++ ys) m j yes ∙ ap (option_map suc) (later_from m j es ys (omega (arith, a, l))) ∙ on_suc (length es) (place_of ys m (suc (j - touching m es)))
-    ∙ ap (λ (z : ℕ). on_by (suc (length es)) (place_of ys m (suc z))) (let h : j - touching m es ≡ suc j - touching m (e ∷ es) = omega (arith, a) in h))
+    place-touched e (es ++ ys) m j yes ∙ ap (option_map suc) (later_from m j es ys (omega (arith, a, l))) ∙ on_suc (length es) (position_of_step ys m (suc (j - touching m es)))
+    ∙ ap (λ (z : ℕ). on_by (suc (length es)) (position_of_step ys m (suc z))) (let h : j - touching m es ≡ suc j - touching m (e ∷ es) = omega (arith, a) in h))
     (λ no. let a = touching_no m e es no in
-    place-other e (es ++ ys) m (suc j) no ∙ ap (option_map suc) (later_from m (suc j) es ys (omega (arith, a, l))) ∙ on_suc (length es) (place_of ys m (suc (suc j - touching m es)))
-    ∙ ap (λ (z : ℕ). on_by (suc (length es)) (place_of ys m (suc (suc j - z)))) (sym a))
+    place-other e (es ++ ys) m (suc j) no ∙ ap (option_map suc) (later_from m (suc j) es ys (omega (arith, a, l))) ∙ on_suc (length es) (position_of_step ys m (suc (suc j - touching m es)))
+    ∙ ap (λ (z : ℕ). on_by (suc (length es)) (position_of_step ys m (suc (suc j - z)))) (sym a))
     (cases_Bool (cause_touches e m))
 
-pub place_later : (m j : ℕ) (xs ys : List Cause) → touching m xs < j → place_of (xs ++ ys) m j ≡ on_by (length xs) (place_of ys m (j - touching m xs))
+pub place_later : (m j : ℕ) (xs ys : List Cause) → touching m xs < j → position_of_step (xs ++ ys) m j ≡ on_by (length xs) (position_of_step ys m (j - touching m xs))
 place_later m zero xs ys l = absurd (omega (arith, l))
 place_later m (suc j) xs ys l =
-    later_from m j xs ys (omega (arith, l)) ∙ ap (λ (z : ℕ). on_by (length xs) (place_of ys m z)) (let h : suc (j - touching m xs) ≡ suc j - touching m xs = omega (arith, l) in h)
+    later_from m j xs ys (omega (arith, l)) ∙ ap (λ (z : ℕ). on_by (length xs) (position_of_step ys m z)) (let h : suc (j - touching m xs) ≡ suc j - touching m xs = omega (arith, l) in h)

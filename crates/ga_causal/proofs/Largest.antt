@@ -4,7 +4,7 @@ use Rattle.std.specs.Prelude.{slice_index_or}
 use Rattle.std.specs.List.{list_any}
 use Rattle.std.proofs.lemmas.Bool.{cases_lt, or_cases, cases_Bool, both_ways, false_from_ne_true}
 use Rattle.ga_event.specs.declared.event.Cause.{Cause}
-use Rattle.ga_causal.specs.Dependence.{cause_nodes, cause_touches, marked, dependents_after, dependents, without, DependsOn, NoneLooks}
+use Rattle.ga_causal.specs.Dependence.{cause_nodes, cause_touches, marked, dependents_after, dependents, unflagged, DependsOn, HasNoLooks}
 use Rattle.ga_event.specs.Touches.{seen_by, meets}
 use Rattle.ga_causal.specs.Steps.{counted, numbered_by, numbered, numbered_seen}
 use Rattle.ga_event.proofs.Locality.{touched-meets}
@@ -67,7 +67,7 @@ abbrev ShowsAll : (Cause → List ℕ) → List Cause → Type 0
 ShowsAll nodes [] = Unit {0}
 ShowsAll nodes (e ∷ es) = ((marks : ℕ → Bool) → meets marks e ≡ true → list_any marks (nodes e) ≡ true) × ShowsAll nodes es
 
-dropped_after : (nodes : Cause → List ℕ) (marks : ℕ → Bool) (es : List Cause) → ShowsAll nodes es → (fs : List Bool) (s z : ℕ → ℕ) → Lacks marks s z → numbered_by nodes s (without fs es) ≡ without fs (numbered_by nodes z es) → (p : ℕ) → slice_index_or (dependents_after marks es) p false ≡ true → slice_index_or fs p false ≡ true
+dropped_after : (nodes : Cause → List ℕ) (marks : ℕ → Bool) (es : List Cause) → ShowsAll nodes es → (fs : List Bool) (s z : ℕ → ℕ) → Lacks marks s z → numbered_by nodes s (unflagged fs es) ≡ unflagged fs (numbered_by nodes z es) → (p : ℕ) → slice_index_or (dependents_after marks es) p false ≡ true → slice_index_or fs p false ≡ true
 dropped_after nodes marks [] q fs s z l h p t = absurd (both_ways false refl t)
 dropped_after nodes marks (e ∷ es) q [] s z l h zero t = absurd (none_marked marks s z l (nodes e) (numbers_of e _ _ _ _ h) (q.0 marks t))
 dropped_after nodes marks (e ∷ es) q [] s z l h (suc p) t =
@@ -88,7 +88,7 @@ Lacks-first s z e l = record {
   less = λ n t. (let h : s n ≤ z n = l n in let k : z n < counted z e n = counted-more z e n t in omega arith);
 }
 
-dropped_rest : (nodes : Cause → List ℕ) (es : List Cause) → ShowsAll nodes es → (i : ℕ) (fs : List Bool) (s z : ℕ → ℕ) → ((n : ℕ) → s n ≤ z n) → slice_index_or fs i false ≡ true → numbered_by nodes s (without fs es) ≡ without fs (numbered_by nodes z es) → (p : ℕ) → slice_index_or (dependents es i) p false ≡ true → slice_index_or fs p false ≡ true
+dropped_rest : (nodes : Cause → List ℕ) (es : List Cause) → ShowsAll nodes es → (i : ℕ) (fs : List Bool) (s z : ℕ → ℕ) → ((n : ℕ) → s n ≤ z n) → slice_index_or fs i false ≡ true → numbered_by nodes s (unflagged fs es) ≡ unflagged fs (numbered_by nodes z es) → (p : ℕ) → slice_index_or (dependents es i) p false ≡ true → slice_index_or fs p false ≡ true
 dropped_rest nodes [] q i fs s z l d h p t = absurd (both_ways false refl t)
 dropped_rest nodes (e ∷ es) q i [] s z l d h p t = absurd (both_ways false refl d)
 dropped_rest nodes (e ∷ es) q zero (false ∷ fs) s z l d h p t = absurd (both_ways false refl d)
@@ -100,13 +100,13 @@ dropped_rest nodes (e ∷ es) q (suc i) (true ∷ fs) s z l d h (suc p) t =
 dropped_rest nodes (e ∷ es) q (suc i) (false ∷ fs) s z l d h (suc p) t =
     dropped_rest nodes es q.1 i fs (counted s e) (counted z e) (λ n. counted-mono s z e n (l n)) d (others_of e _ _ _ _ h) p t
 
-dropped_all : (nodes : Cause → List ℕ) (events : List Cause) → ShowsAll nodes events → (i : ℕ) (dropped : List Bool) → IsTrue (slice_index_or dropped i false) → numbered_by nodes (λ n. 0) (without dropped events) ≡ without dropped (numbered_by nodes (λ n. 0) events) → (j : ℕ) → DependsOn events i j → IsTrue (slice_index_or dropped j false)
+dropped_all : (nodes : Cause → List ℕ) (events : List Cause) → ShowsAll nodes events → (i : ℕ) (dropped : List Bool) → IsTrue (slice_index_or dropped i false) → numbered_by nodes (λ n. 0) (unflagged dropped events) ≡ unflagged dropped (numbered_by nodes (λ n. 0) events) → (j : ℕ) → DependsOn events i j → IsTrue (slice_index_or dropped j false)
 dropped_all nodes events q i fs d h j x = elim (cases_lt i (length events)) [
   | inl l ↦ dropped_rest nodes events q i fs (λ n. 0) (λ n. 0) (λ n. omega arith) d h j (flag_from_DependsOn events i j l x)
   | inr l ↦ subst (λ (z : ℕ). slice_index_or fs z false ≡ true) (sym (past_alone events i j l x)) d
 ]
 
-shows_steps : (es : List Cause) → NoneLooks es → ShowsAll cause_nodes es
+shows_steps : (es : List Cause) → HasNoLooks es → ShowsAll cause_nodes es
 shows_steps [] q = tt
 shows_steps (e ∷ es) q = (λ marks t. touched-meets marks e q.0 t, shows_steps es q.1)
 
@@ -114,8 +114,8 @@ shows_seen : (es : List Cause) → ShowsAll seen_by es
 shows_seen [] = tt
 shows_seen (e ∷ es) = (λ marks t. t, shows_seen es)
 
-pub largest : (events : List Cause) → NoneLooks events → (i : ℕ) (dropped : List Bool) → IsTrue (slice_index_or dropped i false) → numbered (without dropped events) ≡ without dropped (numbered events) → (j : ℕ) → DependsOn events i j → IsTrue (slice_index_or dropped j false)
+pub largest : (events : List Cause) → HasNoLooks events → (i : ℕ) (dropped : List Bool) → IsTrue (slice_index_or dropped i false) → numbered (unflagged dropped events) ≡ unflagged dropped (numbered events) → (j : ℕ) → DependsOn events i j → IsTrue (slice_index_or dropped j false)
 largest events q = dropped_all cause_nodes events (shows_steps events q)
 
-pub largest_seen : (events : List Cause) (i : ℕ) (dropped : List Bool) → IsTrue (slice_index_or dropped i false) → numbered_seen (without dropped events) ≡ without dropped (numbered_seen events) → (j : ℕ) → DependsOn events i j → IsTrue (slice_index_or dropped j false)
+pub largest_seen : (events : List Cause) (i : ℕ) (dropped : List Bool) → IsTrue (slice_index_or dropped i false) → numbered_seen (unflagged dropped events) ≡ unflagged dropped (numbered_seen events) → (j : ℕ) → DependsOn events i j → IsTrue (slice_index_or dropped j false)
 largest_seen events = dropped_all seen_by events (shows_seen events)

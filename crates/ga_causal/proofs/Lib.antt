@@ -5,9 +5,9 @@ pub mod Rollbacks
 pub mod Oldest
 pub mod ChainOf
 pub mod Places
-pub mod Shuffles
+pub mod Equivalences
 pub mod Consistent
-pub mod Accounts
+pub mod LocalHistories
 pub mod Taken
 pub mod Moved
 pub mod Words

@@ -4,17 +4,17 @@ use Rattle.std.specs.Prelude.{slice_index_or, is_some, nat_lt}
 use Rattle.std.proofs.lemmas.Bool.{both_ways, cases_Bool, or_parts, cond-false}
 use Rattle.ga_event.specs.declared.event.Event.{Event}
 use Rattle.ga_event.specs.declared.event.Cause.{Cause}
-use Rattle.ga_event.specs.Apply.{Told, run}
+use Rattle.ga_event.specs.Apply.{EventOutcome, run}
 use Rattle.ga_event.specs.Touches.{meets}
 use Rattle.ga_node.specs.Record.{NodeRecord}
 use Rattle.ga_causal.specs.declared.chain.Link.{Link}
-use Rattle.ga_causal.specs.Dependence.{cause_touches, rule_of, event_at, rule_between, cause_nodes, dependents, rest, place_of, rest_from, rewound_list, rewound_all}
+use Rattle.ga_causal.specs.Dependence.{cause_touches, rule_of, event_at, rule_between, cause_nodes, dependents, rest, position_of_step, rest_from, rewound_list, rewound_all}
 use Rattle.ga_causal.specs.Chains.{IsNext, IsLinked, IsChain}
 use Rattle.ga_causal.specs.Steps.{links_by_events, no_entry, counted, touching}
-use Rattle.ga_causal.specs.Equivalence.{AreApart, AreEquivalent}
+use Rattle.ga_causal.specs.Equivalence.{AreIndependent, AreEquivalent}
 use Rattle.ga_causal.proofs.Exact.{rule_meets}
 use Rattle.ga_causal.proofs.Runs.{causes, run_rest}
-use Rattle.ga_causal.proofs.Shuffles.{Shuffled, stays, flipped, after, chained, apart_free, entries, entries_flipped, AreApart-sym, counted_both}
+use Rattle.ga_causal.proofs.Equivalences.{IsSwapOf, stays, flipped, after, chained, independent_on_all, entries, entries_flipped, AreApart-sym, counted_both}
 use Rattle.ga_causal.proofs.Consistent.{shuffled_by, Made, made_of, made_shuffled, causes_without, run_made}
 use mathlib.Core.Path.{fun_ext}
 use Rattle.std.specs.List.{list_any}
@@ -54,10 +54,10 @@ abbrev lifted : (ℕ → ℕ) → ℕ → ℕ
 lifted f zero = zero
 lifted f (suc i) = suc (f i)
 
-no_rule : (e f : Cause) → AreApart e f → rule_of e f ≢ 0 → ⊥
-no_rule e f h r = both_ways (meets (cause_touches e) f) (apart_free e f h) (rule_meets e f r)
+no_rule : (e f : Cause) → AreIndependent e f → rule_of e f ≢ 0 → ⊥
+no_rule e f h r = both_ways (meets (cause_touches e) f) (independent_on_all e f h) (rule_meets e f r)
 
-moved_flipped : (s : ℕ → ℕ) (e f : Cause) (zs : List Cause) → AreApart e f → Moved s (e ∷ f ∷ zs) (f ∷ e ∷ zs)
+moved_flipped : (s : ℕ → ℕ) (e f : Cause) (zs : List Cause) → AreIndependent e f → Moved s (e ∷ f ∷ zs) (f ∷ e ∷ zs)
 moved_flipped s e f zs h = record { to = flip; within = within; alike = alike; order = order }
   where
     within : (i : ℕ) → i < length (e ∷ f ∷ zs) → flip i < length (f ∷ e ∷ zs)
@@ -107,7 +107,7 @@ moved_chained s xs ys zs a b = record {
       (λ q. r (same_rule s xs zs a i j (let w : i < length xs = omega (arith, l, k) in w) k ∙ q));
 }
 
-pub moved_of : (s : ℕ → ℕ) (xs ys : List Cause) → Shuffled xs ys → Moved s xs ys
+pub moved_of : (s : ℕ → ℕ) (xs ys : List Cause) → IsSwapOf xs ys → Moved s xs ys
 moved_of s xs ys stays = record { to = λ i. i; within = λ i l. l; alike = λ i l. refl; order = λ i j l k r. l }
 moved_of s xs ys (flipped {e} {f} {xs = zs} h) = moved_flipped s e f zs h
 moved_of s xs ys (after {e} {xs = us} {ys = vs} h) = moved_after s e us vs (moved_of (counted s e) us vs h)
@@ -138,7 +138,7 @@ linked_named xs ys m before (link ∷ links) h =
 abbrev pub Again : List Cause → List Cause → List Link → Type 0
 Again xs ys links = (chain : List Link) × IsChain ys chain × (links_by_events xs links ≡ links_by_events ys chain)
 
-pub chain_again : (xs ys : List Cause) (links : List Link) → Shuffled xs ys → IsChain xs links → Again xs ys links
+pub chain_again : (xs ys : List Cause) (links : List Link) → IsSwapOf xs ys → IsChain xs links → Again xs ys links
 chain_again xs ys [] h c = absurd c
 chain_again xs ys (link ∷ links) h c =
     let m = moved_of (λ n. 0) xs ys h in (
@@ -147,7 +147,7 @@ chain_again xs ys (link ∷ links) h c =
       ap₂ (λ (a : Cause × List ℕ) (b : List ((Cause × List ℕ) × ℕ)). (a, link.rule) ∷ b) (m.alike link.place c.0) (linked_named xs ys m link.place links c.2),
     )
 
-pub equivalent_chains : (c last now : List NodeRecord) (es fs : List Event) (ts us : List (Cause × Told)) (links : List Link) → run c es ≡ Some (last, ts) → run c fs ≡ Some (now, us) → AreEquivalent c es fs
+pub equivalent_chains : (c last now : List NodeRecord) (es fs : List Event) (ts us : List (Cause × EventOutcome)) (links : List Link) → run c es ≡ Some (last, ts) → run c fs ≡ Some (now, us) → AreEquivalent c es fs
     → IsChain (causes ts) links → Again (causes ts) (causes us) links
 equivalent_chains c last now es fs ts us links is so h k =
     chain_again (causes ts) (causes us) links (shuffled_by c last now es fs ts us is so h) k
@@ -191,10 +191,10 @@ kept_is : (m : ℕ → Bool) (c : ℕ → ℕ) (cut : ℕ → ℕ → Bool) (e :
 unfolding is_dropped
 kept_is m c cut e es f = walk-kept m c cut e es f
 
-by_paths : (xs ys us vs : List Cause) → xs ≡ us → ys ≡ vs → Shuffled us vs → Shuffled xs ys
-by_paths xs ys us vs p q h = subst (λ z. Shuffled z ys) (sym p) (subst (λ z. Shuffled us z) (sym q) h)
+by_paths : (xs ys us vs : List Cause) → xs ≡ us → ys ≡ vs → IsSwapOf us vs → IsSwapOf xs ys
+by_paths xs ys us vs p q h = subst (λ z. IsSwapOf z ys) (sym p) (subst (λ z. IsSwapOf us z) (sym q) h)
 
-walk_flipped : (m : ℕ → Bool) (c : ℕ → ℕ) (cut : ℕ → ℕ → Bool) (e f : Cause) (zs : List Cause) → AreApart e f → Shuffled (walk m c cut (e ∷ f ∷ zs)) (walk m c cut (f ∷ e ∷ zs))
+walk_flipped : (m : ℕ → Bool) (c : ℕ → ℕ) (cut : ℕ → ℕ → Bool) (e f : Cause) (zs : List Cause) → AreIndependent e f → IsSwapOf (walk m c cut (e ∷ f ∷ zs)) (walk m c cut (f ∷ e ∷ zs))
 walk_flipped m c cut e f zs h = ⊎_elim
     (λ t. ⊎_elim
     (λ u. by_paths _ _ _ _ (dropped_is m c cut e (f ∷ zs) t ∙ dropped_is (λ n. m n || cause_touches e n) c cut f zs (dropped_marked m c cut e f ef ∙ u) ∙ ap (λ z. walk z c cut zs) (fun_ext (λ n. or-swap (m n) (cause_touches e n) (cause_touches f n))))
@@ -211,12 +211,12 @@ walk_flipped m c cut e f zs h = ⊎_elim
     (cases_Bool (is_dropped m c cut e))
   where
     ef : meets (cause_touches e) f ≡ false
-    ef = apart_free e f h
+    ef = independent_on_all e f h
 
     fe : meets (cause_touches f) e ≡ false
-    fe = apart_free f e (AreApart-sym e f h)
+    fe = independent_on_all f e (AreApart-sym e f h)
 
-walk_shuffled : (m : ℕ → Bool) (c : ℕ → ℕ) (cut : ℕ → ℕ → Bool) (xs ys : List Cause) → Shuffled xs ys → Shuffled (walk m c cut xs) (walk m c cut ys)
+walk_shuffled : (m : ℕ → Bool) (c : ℕ → ℕ) (cut : ℕ → ℕ → Bool) (xs ys : List Cause) → IsSwapOf xs ys → IsSwapOf (walk m c cut xs) (walk m c cut ys)
 walk_shuffled m c cut xs ys stays = stays
 walk_shuffled m c cut xs ys (flipped {e} {f} {xs = zs} h) = walk_flipped m c cut e f zs h
 walk_shuffled m c cut xs ys (after {e} {xs = us} {ys = vs} h) = ⊎_elim
@@ -226,11 +226,11 @@ walk_shuffled m c cut xs ys (after {e} {xs = us} {ys = vs} h) = ⊎_elim
 walk_shuffled m c cut xs ys (chained {ys = zs} h k) = chained (walk_shuffled m c cut xs zs h) (walk_shuffled m c cut zs ys k)
 
 -- a rollback of one step leaves such lists again
-pub rewound_shuffled : (xs ys : List Cause) (n k : ℕ) → Shuffled xs ys → Shuffled (rewound_list xs n k) (rewound_list ys n k)
+pub rewound_shuffled : (xs ys : List Cause) (n k : ℕ) → IsSwapOf xs ys → IsSwapOf (rewound_list xs n k) (rewound_list ys n k)
 rewound_shuffled xs ys n k h =
     by_paths _ _ _ _ (sym (rewound_walk (λ i. 0) n k xs k (omega arith))) (sym (rewound_walk (λ i. 0) n k ys k (omega arith))) (walk_shuffled nowhere (λ i. 0) (single n k) xs ys h)
 
-pub all_shuffled : (steps : List (ℕ × ℕ)) (xs ys : List Cause) → Shuffled xs ys → Shuffled (rewound_all xs steps) (rewound_all ys steps)
+pub all_shuffled : (steps : List (ℕ × ℕ)) (xs ys : List Cause) → IsSwapOf xs ys → IsSwapOf (rewound_all xs steps) (rewound_all ys steps)
 all_shuffled [] xs ys h = h
 all_shuffled (step ∷ steps) xs ys h = all_shuffled steps (rewound_list xs step.0 step.1) (rewound_list ys step.0 step.1) (rewound_shuffled xs ys step.0 step.1 h)
 
@@ -245,9 +245,9 @@ rest_made c xs (Some i) m =
 
 pub all_made : (c : List NodeRecord) (steps : List (ℕ × ℕ)) (xs : List Cause) → Made c xs → Made c (rewound_all xs steps)
 all_made c [] xs m = m
-all_made c (step ∷ steps) xs m = all_made c steps (rewound_list xs step.0 step.1) (rest_made c xs (place_of xs step.0 step.1) m)
+all_made c (step ∷ steps) xs m = all_made c steps (rewound_list xs step.0 step.1) (rest_made c xs (position_of_step xs step.0 step.1) m)
 
-pub rolled_back : (c last now : List NodeRecord) (es fs : List Event) (ts us : List (Cause × Told)) → run c es ≡ Some (last, ts) → run c fs ≡ Some (now, us) → AreEquivalent c es fs
+pub rolled_back : (c last now : List NodeRecord) (es fs : List Event) (ts us : List (Cause × EventOutcome)) → run c es ≡ Some (last, ts) → run c fs ≡ Some (now, us) → AreEquivalent c es fs
     → (steps : List (ℕ × ℕ)) → AreEquivalent c (events_in (rewound_all (causes ts) steps)) (events_in (rewound_all (causes us) steps))
 rolled_back c last now es fs ts us is so h steps =
     (made_shuffled c (rewound_all (causes ts) steps) (rewound_all (causes us) steps)
@@ -255,13 +255,13 @@ rolled_back c last now es fs ts us is so h steps =
     (all_made c steps (causes ts) (made_of c last es ts is).0)).0
 
 -- such lists are as long, and each node makes as many steps in them
-pub length_shuffled : (xs ys : List Cause) → Shuffled xs ys → length xs ≡ length ys
+pub length_shuffled : (xs ys : List Cause) → IsSwapOf xs ys → length xs ≡ length ys
 length_shuffled xs ys stays = refl
 length_shuffled xs ys (flipped {e} {f} {xs = zs} h) = refl
 length_shuffled xs ys (after {e} {xs = us} {ys = vs} h) = ap suc (length_shuffled us vs h)
 length_shuffled xs ys (chained {ys = zs} h k) = length_shuffled xs zs h ∙ length_shuffled zs ys k
 
-pub touching_shuffled : (n : ℕ) (xs ys : List Cause) → Shuffled xs ys → touching n xs ≡ touching n ys
+pub touching_shuffled : (n : ℕ) (xs ys : List Cause) → IsSwapOf xs ys → touching n xs ≡ touching n ys
 touching_shuffled n xs ys stays = refl
 touching_shuffled n xs ys (flipped {e} {f} {xs = zs} h) = two _ _ _ _ _ _ _ (touching-cons n e (f ∷ zs)) (touching-cons n f zs) (touching-cons n f (e ∷ zs)) (touching-cons n e zs)
   where
@@ -272,6 +272,6 @@ touching_shuffled n xs ys (after {e} {xs = us} {ys = vs} h) =
 touching_shuffled n xs ys (chained {ys = zs} h k) = touching_shuffled n xs zs h ∙ touching_shuffled n zs ys k
 
 -- a step is in both or in neither
-pub place_shuffled : (n k : ℕ) (xs ys : List Cause) → Shuffled xs ys → is_some (place_of xs n k) ≡ is_some (place_of ys n k)
+pub place_shuffled : (n k : ℕ) (xs ys : List Cause) → IsSwapOf xs ys → is_some (position_of_step xs n k) ≡ is_some (position_of_step ys n k)
 place_shuffled n zero xs ys h = ap is_some (place-zero xs n) ∙ sym (ap is_some (place-zero ys n))
 place_shuffled n (suc k) xs ys h = place_stands xs n k ∙ ap (nat_lt k) (touching_shuffled n xs ys h) ∙ sym (place_stands ys n k)

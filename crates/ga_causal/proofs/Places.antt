@@ -9,10 +9,10 @@ use Rattle.std.proofs.lemmas.List.Sums.{sum_by-cons}
 use Rattle.ga_event.specs.declared.event.Event.{Event}
 use Rattle.ga_event.specs.declared.event.Cause.{Cause}
 use Rattle.ga_event.specs.Touches.{touches as event_touches, meets}
-use Rattle.ga_causal.specs.Dependence.{cause_touches, event_at, place_of, cause_nodes, DependsOn, itself, through}
+use Rattle.ga_causal.specs.Dependence.{cause_touches, event_at, position_of_step, cause_nodes, DependsOn, itself, through}
 use Rattle.ga_event.specs.Told.{events_in}
 use Rattle.ga_causal.specs.Steps.{touching, IsStep}
-use Rattle.ga_causal.proofs.Accounts.{place-first, place-touched, place-other, some-shift, shifted_of}
+use Rattle.ga_causal.proofs.LocalHistories.{place-first, place-touched, place-other, some-shift, shifted_of}
 use Rattle.ga_event.proofs.Locality.{meets-touched}
 use Rattle.ga_causal.proofs.Exact.{meets_rule, any-mono}
 
@@ -34,30 +34,30 @@ drop_at es i e l is =
     drop-cons es i e l ∙ ap (λ z. z ∷ drop (suc i) es) (sym is) ∙ ap (λ (k : ℕ). e ∷ drop k es) (let h : suc i ≡ i + 1 = omega arith in h)
 
 -- the search from a place on, by the event there
-pub on_found : (es : List Cause) (n i left : ℕ) (e : Cause) → i < length es → e ≡ get_or es i e → cause_touches e n ≡ true → left ≡ 0 → on_by i (place_of (drop i es) n (suc left)) ≡ Some i
+pub on_found : (es : List Cause) (n i left : ℕ) (e : Cause) → i < length es → e ≡ get_or es i e → cause_touches e n ≡ true → left ≡ 0 → on_by i (position_of_step (drop i es) n (suc left)) ≡ Some i
 on_found es n i left e l is t none =
-    ap (λ (k : ℕ). on_by i (place_of (drop i es) n (suc k))) none
-    ∙ ap (λ z. on_by i (place_of z n 1)) (drop_at es i e l is) ∙ ap (on_by i) (place-first e (drop (i + 1) es) n t)
+    ap (λ (k : ℕ). on_by i (position_of_step (drop i es) n (suc k))) none
+    ∙ ap (λ z. on_by i (position_of_step z n 1)) (drop_at es i e l is) ∙ ap (on_by i) (place-first e (drop (i + 1) es) n t)
     ∙ ap Some (let h : i + 0 ≡ i = omega arith in h)
 
-pub on_touched : (es : List Cause) (n i left : ℕ) (e : Cause) → i < length es → e ≡ get_or es i e → cause_touches e n ≡ true → on_by i (place_of (drop i es) n (suc (suc left))) ≡ on_by (i + 1) (place_of (drop (i + 1) es) n (suc left))
+pub on_touched : (es : List Cause) (n i left : ℕ) (e : Cause) → i < length es → e ≡ get_or es i e → cause_touches e n ≡ true → on_by i (position_of_step (drop i es) n (suc (suc left))) ≡ on_by (i + 1) (position_of_step (drop (i + 1) es) n (suc left))
 on_touched es n i left e l is t =
-    ap (λ z. on_by i (place_of z n (suc (suc left)))) (drop_at es i e l is) ∙ ap (on_by i) (place-touched e (drop (i + 1) es) n left t)
-    ∙ on_by-suc i (place_of (drop (i + 1) es) n (suc left))
+    ap (λ z. on_by i (position_of_step z n (suc (suc left)))) (drop_at es i e l is) ∙ ap (on_by i) (place-touched e (drop (i + 1) es) n left t)
+    ∙ on_by-suc i (position_of_step (drop (i + 1) es) n (suc left))
 
-pub on_other : (es : List Cause) (n i left : ℕ) (e : Cause) → i < length es → e ≡ get_or es i e → cause_touches e n ≡ false → on_by i (place_of (drop i es) n (suc left)) ≡ on_by (i + 1) (place_of (drop (i + 1) es) n (suc left))
+pub on_other : (es : List Cause) (n i left : ℕ) (e : Cause) → i < length es → e ≡ get_or es i e → cause_touches e n ≡ false → on_by i (position_of_step (drop i es) n (suc left)) ≡ on_by (i + 1) (position_of_step (drop (i + 1) es) n (suc left))
 on_other es n i left e l is t =
-    ap (λ z. on_by i (place_of z n (suc left))) (drop_at es i e l is) ∙ ap (on_by i) (place-other e (drop (i + 1) es) n left t)
-    ∙ on_by-suc i (place_of (drop (i + 1) es) n (suc left))
+    ap (λ z. on_by i (position_of_step z n (suc left))) (drop_at es i e l is) ∙ ap (on_by i) (place-other e (drop (i + 1) es) n left t)
+    ∙ on_by-suc i (position_of_step (drop (i + 1) es) n (suc left))
 
 -- no step has number 0
-pub place-zero : (es : List Cause) (n : ℕ) → place_of es n 0 ≡ None
+pub place-zero : (es : List Cause) (n : ℕ) → position_of_step es n 0 ≡ None
 place-zero [] n = refl
 place-zero (e ∷ es) n = refl
 
 -- past the list nothing is found
-pub on_end : (es : List Cause) (n i k : ℕ) → length es ≤ i → on_by i (place_of (drop i es) n k) ≡ None
-on_end es n i k l = ap (λ z. on_by i (place_of z n k)) (drop_all i es l)
+pub on_end : (es : List Cause) (n i k : ℕ) → length es ≤ i → on_by i (position_of_step (drop i es) n k) ≡ None
+on_end es n i k l = ap (λ z. on_by i (position_of_step z n k)) (drop_all i es l)
 
 -- one event more
 pub touching-cons : (n : ℕ) (e : Cause) (es : List Cause) → touching n (e ∷ es) ≡ cond (cause_touches e n) 1 0 + touching n es
@@ -83,15 +83,15 @@ touching_no n e es t = sum _ _ (touching-cons n e es) (ap (λ (z : Bool). cond {
     sum a b p q = omega arith
 
 -- a step exists up to the number of events that touch the node
-pub place_stands : (es : List Cause) (n k : ℕ) → is_some (place_of es n (suc k)) ≡ nat_lt k (touching n es)
+pub place_stands : (es : List Cause) (n k : ℕ) → is_some (position_of_step es n (suc k)) ≡ nat_lt k (touching n es)
 place_stands [] n k = sym (le-ltb k 0 (omega arith))
 place_stands (e ∷ es) n zero = ⊎_elim
     (λ t. ap is_some (place-first e es n t) ∙ sym (lt-ltb 0 (touching n (e ∷ es)) (let h = touching_yes n e es t in omega (arith, h))))
-    (λ f. ap is_some (place-other e es n 0 f) ∙ some-shift (place_of es n 1) ∙ place_stands es n 0 ∙ ap (nat_lt 0) (sym (touching_no n e es f)))
+    (λ f. ap is_some (place-other e es n 0 f) ∙ some-shift (position_of_step es n 1) ∙ place_stands es n 0 ∙ ap (nat_lt 0) (sym (touching_no n e es f)))
     (cases_Bool (cause_touches e n))
 place_stands (e ∷ es) n (suc k) = ⊎_elim
-    (λ t. ap is_some (place-touched e es n k t) ∙ some-shift (place_of es n (suc k)) ∙ place_stands es n k ∙ same_test k (touching n es) ∙ ap (nat_lt (suc k)) (sym (touching_yes n e es t)))
-    (λ f. ap is_some (place-other e es n (suc k) f) ∙ some-shift (place_of es n (suc (suc k))) ∙ place_stands es n (suc k) ∙ ap (nat_lt (suc k)) (sym (touching_no n e es f)))
+    (λ t. ap is_some (place-touched e es n k t) ∙ some-shift (position_of_step es n (suc k)) ∙ place_stands es n k ∙ same_test k (touching n es) ∙ ap (nat_lt (suc k)) (sym (touching_yes n e es t)))
+    (λ f. ap is_some (place-other e es n (suc k) f) ∙ some-shift (position_of_step es n (suc (suc k))) ∙ place_stands es n (suc k) ∙ ap (nat_lt (suc k)) (sym (touching_no n e es f)))
     (cases_Bool (cause_touches e n))
   where
     same_test : (a b : ℕ) → nat_lt a b ≡ nat_lt (suc a) (suc b)
@@ -100,7 +100,7 @@ place_stands (e ∷ es) n (suc k) = ⊎_elim
         (λ l. le-ltb a b l ∙ sym (le-ltb (suc a) (suc b) (omega arith)))
         (cases_lt a b)
 
-pub stands_exact : (es : List Cause) (n k : ℕ) → IsSome (place_of es n k) ↔ ((0 < k) × (k ≤ touching n es))
+pub stands_exact : (es : List Cause) (n k : ℕ) → IsSome (position_of_step es n k) ↔ ((0 < k) × (k ≤ touching n es))
 stands_exact es n zero = (λ h. absurd (both_ways false refl (sym (ap is_some (place-zero es n)) ∙ h)), λ p. absurd (omega (arith, p.0)))
 stands_exact es n (suc k) = (
   λ h. let l : k < touching n es = ltb-true k (touching n es) (sym (place_stands es n k) ∙ h) in (omega arith, omega (arith, l)),
@@ -118,23 +118,23 @@ step_past e es n k place f s =
     let a = touching_no n e (take place es) f in
     record { within = omega (arith, s.within); touched = s.touched; before = omega (arith, s.before, a) }
 
-pub place_step : (es : List Cause) (n k place : ℕ) → place_of es n k ≡ Some place → IsStep es n k place
+pub place_step : (es : List Cause) (n k place : ℕ) → position_of_step es n k ≡ Some place → IsStep es n k place
 place_step [] n k place h = absurd (cc)
 place_step (e ∷ es) n zero place h = absurd (cc)
 place_step (e ∷ es) n (suc zero) place h = ⊎_elim
     (λ t. subst (IsStep (e ∷ es) n 1) (same_Some 0 place (sym (place-first e es n t) ∙ h)) (record { within = omega arith; touched = t; before = refl }))
-    (λ f. let s = shifted_of (place_of es n 1) place (sym (place-other e es n 0 f) ∙ h) in
+    (λ f. let s = shifted_of (position_of_step es n 1) place (sym (place-other e es n 0 f) ∙ h) in
     subst (IsStep (e ∷ es) n 1) (sym s.shift) (step_past e es n 1 s.place f (place_step es n 1 s.place s.is)))
     (cases_Bool (cause_touches e n))
 place_step (e ∷ es) n (suc (suc i)) place h = ⊎_elim
-    (λ t. let s = shifted_of (place_of es n (suc i)) place (sym (place-touched e es n i t) ∙ h) in
+    (λ t. let s = shifted_of (position_of_step es n (suc i)) place (sym (place-touched e es n i t) ∙ h) in
     subst (IsStep (e ∷ es) n (suc (suc i))) (sym s.shift) (step_later e es n (suc i) s.place t (place_step es n (suc i) s.place s.is)))
-    (λ f. let s = shifted_of (place_of es n (suc (suc i))) place (sym (place-other e es n (suc i) f) ∙ h) in
+    (λ f. let s = shifted_of (position_of_step es n (suc (suc i))) place (sym (place-other e es n (suc i) f) ∙ h) in
     subst (IsStep (e ∷ es) n (suc (suc i))) (sym s.shift) (step_past e es n (suc (suc i)) s.place f (place_step es n (suc (suc i)) s.place s.is)))
     (cases_Bool (cause_touches e n))
 
 -- the place of a step in a list of two parts
-pub place_split : (n j : ℕ) (xs : List Cause) (x : Cause) (ys : List Cause) → touching n xs ≡ j → cause_touches x n ≡ true → place_of (xs ++ x ∷ ys) n (suc j) ≡ Some (length xs)
+pub place_split : (n j : ℕ) (xs : List Cause) (x : Cause) (ys : List Cause) → touching n xs ≡ j → cause_touches x n ≡ true → position_of_step (xs ++ x ∷ ys) n (suc j) ≡ Some (length xs)
 place_split n zero [] x ys q t = place-first x ys n t
 place_split n (suc j) [] x ys q t = absurd (zero_suc j q)
   where
@@ -149,7 +149,7 @@ place_split n (suc j) (e ∷ es) x ys q t = ⊎_elim
     (λ no. place-other e (es ++ x ∷ ys) n (suc j) no ∙ ap (option_map suc) (place_split n (suc j) es x ys (sym (touching_no n e es no) ∙ q) t))
     (cases_Bool (cause_touches e n))
 
-pub place_more : (n j : ℕ) (xs ys : List Cause) → j < touching n xs → place_of (xs ++ ys) n (suc j) ≡ place_of xs n (suc j)
+pub place_more : (n j : ℕ) (xs ys : List Cause) → j < touching n xs → position_of_step (xs ++ ys) n (suc j) ≡ position_of_step xs n (suc j)
 place_more n j [] ys l = absurd (omega (arith, l))
 place_more n zero (e ∷ es) ys l = ⊎_elim
     (λ yes. place-first e (es ++ ys) n yes ∙ sym (place-first e es n yes))
@@ -178,7 +178,7 @@ both_touch : (d e : Cause) (n : ℕ) → cause_touches d n ≡ true → cause_to
 both_touch d e n first second =
     meets-touched (cause_touches d) e (any-mono (λ m. m == n) (cause_touches d) (λ m at. subst (λ z. cause_touches d z ≡ true) (sym (eqb-true m n at)) first) (cause_nodes e) second)
 
-pub older_step : (events : List Cause) (n k j i q : ℕ) → place_of events n k ≡ Some i → place_of events n j ≡ Some q → k ≤ j → DependsOn events i q
+pub older_step : (events : List Cause) (n k j i q : ℕ) → position_of_step events n k ≡ Some i → position_of_step events n j ≡ Some q → k ≤ j → DependsOn events i q
 older_step events n k j i q first second l = ⊎_elim
     (λ e. subst (DependsOn events i) e itself)
     (λ other. ⊎_elim

@@ -7,7 +7,7 @@ use Rattle.std.specs.List.Sorted.{IsPermutation}
 use Rattle.std.proofs.lemmas.List.Sorted.{list_any-IsPermutation}
 use Rattle.std.proofs.lemmas.Bool.{or_cases, or_parts, or_left, or_right, or_from, and_from, cases_Bool, both_ways, cond-true, cond-false, false_from_ne_true, eq-eqb, ne_eqb}
 use Rattle.ga_event.specs.declared.event.Cause.{Cause}
-use Rattle.ga_causal.specs.Dependence.{cause_nodes, cause_touches, place_of, rest_from, rewound_list, rewound_all}
+use Rattle.ga_causal.specs.Dependence.{cause_nodes, cause_touches, position_of_step, rest_from, rewound_list, rewound_all}
 use Rattle.ga_event.specs.Touches.{seen_by, meets}
 use Rattle.ga_causal.specs.Steps.{counted}
 use Rattle.ga_event.proofs.Locality.{meets-touched}
@@ -199,17 +199,17 @@ rest_later e es None = refl
 rest_later e es (Some i) = refl
 
 pub rewound-first : (e : Cause) (es : List Cause) (n : ℕ) → cause_touches e n ≡ true → rewound_list (e ∷ es) n 1 ≡ kept (cause_touches e) es
-rewound-first e es n t = ap (λ (o : Option ℕ). rest_from (e ∷ es) o) (cond-true (cause_touches e n) (Some 0) (option_map suc (place_of es n 1)) t)
+rewound-first e es n t = ap (λ (o : Option ℕ). rest_from (e ∷ es) o) (cond-true (cause_touches e n) (Some 0) (option_map suc (position_of_step es n 1)) t)
 
 pub rewound-touched : (e : Cause) (es : List Cause) (n i : ℕ) → cause_touches e n ≡ true → rewound_list (e ∷ es) n (suc (suc i)) ≡ e ∷ rewound_list es n (suc i)
 rewound-touched e es n i t =
     ap (λ (o : Option ℕ). rest_from (e ∷ es) o)
-    (cond-true (cause_touches e n) (cond (suc i == 0) (Some 0) (option_map suc (place_of es n (suc i)))) (option_map suc (place_of es n (suc (suc i)))) t
-    ∙ cond-false (suc i == 0) (Some 0) (option_map suc (place_of es n (suc i))) (ne_eqb (suc i) 0 (λ q. omega arith)))
-    ∙ rest_later e es (place_of es n (suc i))
+    (cond-true (cause_touches e n) (cond (suc i == 0) (Some 0) (option_map suc (position_of_step es n (suc i)))) (option_map suc (position_of_step es n (suc (suc i)))) t
+    ∙ cond-false (suc i == 0) (Some 0) (option_map suc (position_of_step es n (suc i))) (ne_eqb (suc i) 0 (λ q. omega arith)))
+    ∙ rest_later e es (position_of_step es n (suc i))
 
 pub rewound-other : (e : Cause) (es : List Cause) (n j : ℕ) → cause_touches e n ≡ false → rewound_list (e ∷ es) n (suc j) ≡ e ∷ rewound_list es n (suc j)
-rewound-other e es n j f = ap (λ (o : Option ℕ). rest_from (e ∷ es) o) (cond-false (cause_touches e n) _ (option_map suc (place_of es n (suc j))) f) ∙ rest_later e es (place_of es n (suc j))
+rewound-other e es n j f = ap (λ (o : Option ℕ). rest_from (e ∷ es) o) (cond-false (cause_touches e n) _ (option_map suc (position_of_step es n (suc j))) f) ∙ rest_later e es (position_of_step es n (suc j))
 
 counted-touched : (c : ℕ → ℕ) (e : Cause) (n : ℕ) → cause_touches e n ≡ true → counted c e n ≡ c n + 1
 counted-touched c e n t = cond-true (cause_touches e n) (c n + 1) (c n) t

@@ -5,19 +5,19 @@ use Rattle.ga_event.specs.declared.event.Event.{Event}
 use Rattle.ga_event.specs.declared.event.Event.TheVariants.{Own, Pass}
 use Rattle.ga_event.specs.declared.event.Cause.{Cause}
 use Rattle.ga_event.specs.Touches.{looked_at, seen_by, meets}
-use Rattle.ga_event.specs.Apply.{Told, run}
+use Rattle.ga_event.specs.Apply.{EventOutcome, run}
 use Rattle.ga_node.specs.Record.{NodeRecord}
-use Rattle.ga_causal.specs.Dependence.{cause_nodes, NoneLooks, cause_touches, marked, dependents_after, dependents, without, rest}
-use Rattle.ga_causal.specs.Equivalence.{AreEquivalent, sees, AreApart}
+use Rattle.ga_causal.specs.Dependence.{cause_nodes, HasNoLooks, cause_touches, marked, dependents_after, dependents, unflagged, rest}
+use Rattle.ga_causal.specs.Equivalence.{AreEquivalent, observes, AreIndependent}
 use Rattle.ga_causal.specs.Steps.{counted, numbered_by, numbered, numbered_seen}
 use Rattle.ga_causal.proofs.Runs.{causes}
-use Rattle.ga_causal.proofs.Shuffles.{In, Shuffled, stays, flipped, after, chained, sees_touched}
+use Rattle.ga_causal.proofs.Equivalences.{In, IsSwapOf, stays, flipped, after, chained, sees_touched}
 use Rattle.ga_causal.proofs.Consistent.{in_moved, same_events, made_of, made_shuffled}
 use Rattle.std.specs.List.{list_any}
 use Rattle.std.proofs.lemmas.Bool.{both_ways}
 use Rattle.ga_event.specs.Told.{events_in}
 use Rattle.ga_causal.proofs.Exact.{any-mono}
-use Rattle.ga_causal.proofs.Accounts.{marked-touched, marked-stays}
+use Rattle.ga_causal.proofs.LocalHistories.{marked-touched, marked-stays}
 
 -- ---- lists without looks
 
@@ -29,7 +29,7 @@ seen_blind e h = ap (λ z. cause_nodes e ++ z) (ap (looked_at e.event) h ∙ non
     none (Own node) = refl
     none (Pass w r side) = refl
 
-numbered_blind : (s : ℕ → ℕ) (es : List Cause) → NoneLooks es → numbered_by seen_by s es ≡ numbered_by cause_nodes s es
+numbered_blind : (s : ℕ → ℕ) (es : List Cause) → HasNoLooks es → numbered_by seen_by s es ≡ numbered_by cause_nodes s es
 numbered_blind s [] h = refl
 numbered_blind s (e ∷ es) h =
     ap (λ z. (e, map (λ n. s n + 1) z) ∷ numbered_by seen_by (counted s e) es) (seen_blind e h.0)
@@ -39,17 +39,17 @@ causes_numbered : (nodes : Cause → List ℕ) (s : ℕ → ℕ) (es : List Caus
 causes_numbered nodes s [] = refl
 causes_numbered nodes s (e ∷ es) = ap (λ z. e ∷ z) (causes_numbered nodes (counted s e) es)
 
-none_of : (xs : List Cause) (x : Cause) → NoneLooks xs → In x xs → x.look ≡ false
+none_of : (xs : List Cause) (x : Cause) → HasNoLooks xs → In x xs → x.look ≡ false
 none_of [] x h i = absurd i
 none_of (y ∷ ys) x h (inl q) = subst (λ z. z.look ≡ false) q h.0
 none_of (y ∷ ys) x h (inr i) = none_of ys x h.1 i
 
-none_from : (ys : List Cause) → ((x : Cause) → In x ys → x.look ≡ false) → NoneLooks ys
+none_from : (ys : List Cause) → ((x : Cause) → In x ys → x.look ≡ false) → HasNoLooks ys
 none_from [] h = tt
 none_from (y ∷ ys) h = (h y (inl refl), none_from ys (λ x i. h x (inr i)))
 
 -- the same numbered events, so none of them looks in either list
-none_moved : (nodes : Cause → List ℕ) (xs ys : List Cause) → IsPermutation (numbered_by nodes (λ n. 0) xs) (numbered_by nodes (λ n. 0) ys) → NoneLooks xs → NoneLooks ys
+none_moved : (nodes : Cause → List ℕ) (xs ys : List Cause) → IsPermutation (numbered_by nodes (λ n. 0) xs) (numbered_by nodes (λ n. 0) ys) → HasNoLooks xs → HasNoLooks ys
 none_moved nodes xs ys h none =
     let p : IsPermutation xs ys =
     subst (λ z. IsPermutation z ys) (causes_numbered nodes (λ n. 0) xs)
@@ -58,7 +58,7 @@ none_moved nodes xs ys h none =
     none_from ys (λ x i. none_of xs x none (in_moved ys xs x (IsPermutation-sym xs ys p) i))
 
 -- the same steps
-pub same_steps : (c last now : List NodeRecord) (es fs : List Event) (ts us : List (Cause × Told)) → run c es ≡ Some (last, ts) → run c fs ≡ Some (now, us) → NoneLooks (causes ts) → AreEquivalent c es fs ↔ IsPermutation (numbered (causes ts)) (numbered (causes us))
+pub same_steps : (c last now : List NodeRecord) (es fs : List Event) (ts us : List (Cause × EventOutcome)) → run c es ≡ Some (last, ts) → run c fs ≡ Some (now, us) → HasNoLooks (causes ts) → AreEquivalent c es fs ↔ IsPermutation (numbered (causes ts)) (numbered (causes us))
 same_steps c last now es fs ts us is so none = (to, from)
   where
     both : AreEquivalent c es fs ↔ IsPermutation (numbered_seen (causes ts)) (numbered_seen (causes us))
@@ -78,58 +78,58 @@ same_steps c last now es fs ts us is so none = (to, from)
 
 -- the flagged elements
 abbrev taken : {A : Type 0} → List Bool → List A → List A
-taken flags xs = without (map not flags) xs
+taken flags xs = unflagged (map not flags) xs
 
 abbrev AllApart : Cause → List Cause → Type 0
 AllApart e [] = Unit {0}
-AllApart e (k ∷ ks) = AreApart e k × AllApart e ks
+AllApart e (k ∷ ks) = AreIndependent e k × AllApart e ks
 
 -- an event moves past events that are independent of it
-behind : (e : Cause) (ks ls : List Cause) → AllApart e ks → Shuffled (e ∷ (ks ++ ls)) (ks ++ e ∷ ls)
+behind : (e : Cause) (ks ls : List Cause) → AllApart e ks → IsSwapOf (e ∷ (ks ++ ls)) (ks ++ e ∷ ls)
 behind e [] ls h = stays
 behind e (k ∷ ks) ls h = chained (flipped h.0) (after (behind e ks ls h.1))
 
-sees-marked : (marks : ℕ → Bool) (k : Cause) (n : ℕ) → marks n ≡ true → sees k n ≡ true → meets marks k ≡ true
+sees-marked : (marks : ℕ → Bool) (k : Cause) (n : ℕ) → marks n ≡ true → observes k n ≡ true → meets marks k ≡ true
 sees-marked marks k n h t = any-mono (λ m. m == n) marks (λ m q. subst (λ z. marks z ≡ true) (sym (eqb-true m n q)) h) (seen_by k) t
 
-one_apart : (e k : Cause) (marks : ℕ → Bool) → ((n : ℕ) → cause_touches e n ≡ true → marks n ≡ true) → e.look ≡ false → meets marks k ≡ false → AreApart e k
+one_apart : (e k : Cause) (marks : ℕ → Bool) → ((n : ℕ) → cause_touches e n ≡ true → marks n ≡ true) → e.look ≡ false → meets marks k ≡ false → AreIndependent e k
 one_apart e k marks h blind free = record {
   first = λ n t seen. both_ways (meets marks k) free (sees-marked marks k n (h n t) seen);
   second = λ n t seen. both_ways (meets marks k) free (sees-marked marks k n (h n (subst (λ z. list_any (λ m. m == n) z ≡ true) (seen_blind e blind) seen)) (sees_touched k n t));
 }
 
-left_apart : (e : Cause) (marks : ℕ → Bool) (es : List Cause) → ((n : ℕ) → cause_touches e n ≡ true → marks n ≡ true) → e.look ≡ false → AllApart e (without (dependents_after marks es) es)
+left_apart : (e : Cause) (marks : ℕ → Bool) (es : List Cause) → ((n : ℕ) → cause_touches e n ≡ true → marks n ≡ true) → e.look ≡ false → AllApart e (unflagged (dependents_after marks es) es)
 left_apart e marks [] h blind = tt
 left_apart e marks (k ∷ es) h blind =
     go (meets marks k) (λ f. one_apart e k marks h blind f) (left_apart e (marked marks k) es (λ n t. marked-stays marks k n (h n t)) blind)
   where
-    go : (b : Bool) → (b ≡ false → AreApart e k) → AllApart e (without (dependents_after (marked marks k) es) es) → AllApart e (cond b (without (dependents_after (marked marks k) es) es) (k ∷ without (dependents_after (marked marks k) es) es))
+    go : (b : Bool) → (b ≡ false → AreIndependent e k) → AllApart e (unflagged (dependents_after (marked marks k) es) es) → AllApart e (cond b (unflagged (dependents_after (marked marks k) es) es) (k ∷ unflagged (dependents_after (marked marks k) es) es))
     go true one ih = ih
     go false one ih = (one refl, ih)
 
 -- one event more
-parted : (b : Bool) (e : Cause) (es ks ls : List Cause) → (b ≡ true → e.look ≡ false → AllApart e ks) → NoneLooks (cond (not b) ls (e ∷ ls)) → (NoneLooks ls → Shuffled es (ks ++ ls)) → Shuffled (e ∷ es) (cond b ks (e ∷ ks) ++ cond (not b) ls (e ∷ ls))
+parted : (b : Bool) (e : Cause) (es ks ls : List Cause) → (b ≡ true → e.look ≡ false → AllApart e ks) → HasNoLooks (cond (not b) ls (e ∷ ls)) → (HasNoLooks ls → IsSwapOf es (ks ++ ls)) → IsSwapOf (e ∷ es) (cond b ks (e ∷ ks) ++ cond (not b) ls (e ∷ ls))
 parted true e es ks ls h none ih = chained (after (ih none.1)) (behind e ks ls (h refl none.0))
 parted false e es ks ls h none ih = after (ih none)
 
-parted_after : (marks : ℕ → Bool) (es : List Cause) → NoneLooks (taken (dependents_after marks es) es) → Shuffled es (without (dependents_after marks es) es ++ taken (dependents_after marks es) es)
+parted_after : (marks : ℕ → Bool) (es : List Cause) → HasNoLooks (taken (dependents_after marks es) es) → IsSwapOf es (unflagged (dependents_after marks es) es ++ taken (dependents_after marks es) es)
 parted_after marks [] none = stays
 parted_after marks (e ∷ es) none =
-    parted (meets marks e) e es (without (dependents_after (marked marks e) es) es) (taken (dependents_after (marked marks e) es) es)
+    parted (meets marks e) e es (unflagged (dependents_after (marked marks e) es) es) (taken (dependents_after (marked marks e) es) es)
     (λ t blind. left_apart e (marked marks e) es (λ n u. marked-touched marks e n t u) blind)
     none (λ k. parted_after (marked marks e) es k)
 
-parted_rest : (es : List Cause) (i : ℕ) → NoneLooks (taken (dependents es i) es) → Shuffled es (rest es i ++ taken (dependents es i) es)
+parted_rest : (es : List Cause) (i : ℕ) → HasNoLooks (taken (dependents es i) es) → IsSwapOf es (rest es i ++ taken (dependents es i) es)
 parted_rest [] i none = stays
 parted_rest (e ∷ es) zero none =
-    parted true e es (without (dependents_after (cause_touches e) es) es) (taken (dependents_after (cause_touches e) es) es)
+    parted true e es (unflagged (dependents_after (cause_touches e) es) es) (taken (dependents_after (cause_touches e) es) es)
     (λ t blind. left_apart e (cause_touches e) es (λ n u. u) blind)
     none (λ k. parted_after (cause_touches e) es k)
 parted_rest (e ∷ es) (suc i) none = after (parted_rest es i none)
 
-pub taken_last : (chip last : List NodeRecord) (events : List Event) (steps : List (Cause × Told)) (i : ℕ) → run chip events ≡ Some (last, steps)
-    → NoneLooks (taken (dependents (causes steps) i) (causes steps)) → AreEquivalent chip events (events_in (rest (causes steps) i ++ taken (dependents (causes steps) i) (causes steps)))
-taken_last chip last events steps i is none =
+pub removed_events_swap_to_end : (chip last : List NodeRecord) (events : List Event) (steps : List (Cause × EventOutcome)) (i : ℕ) → run chip events ≡ Some (last, steps)
+    → HasNoLooks (taken (dependents (causes steps) i) (causes steps)) → AreEquivalent chip events (events_in (rest (causes steps) i ++ taken (dependents (causes steps) i) (causes steps)))
+removed_events_swap_to_end chip last events steps i is none =
     let m = made_of chip last events steps is in
     subst (λ z. AreEquivalent chip z (events_in (rest (causes steps) i ++ taken (dependents (causes steps) i) (causes steps)))) m.1
     ((made_shuffled chip (causes steps) (rest (causes steps) i ++ taken (dependents (causes steps) i) (causes steps)) (parted_rest (causes steps) i none) m.0).0)

@@ -11,31 +11,31 @@ use Rattle.ga_ports.specs.declared.side.Side.{Side}
 use Rattle.ga_node.specs.declared.wait.Reader.{Reader}
 use Rattle.ga_node.specs.declared.wait.Reader.TheVariants.{Instruction, Stack}
 use Rattle.ga_node.specs.declared.seen.Seen.{Seen}
-use Rattle.ga_node.specs.declared.due.Due.{Due}
-use Rattle.ga_node.specs.declared.due.Due.TheVariants as due
+use Rattle.ga_node.specs.declared.due.NextAction.{NextAction}
+use Rattle.ga_node.specs.declared.due.NextAction.TheVariants as due
 use Rattle.ga_node.specs.declared.kind.Kind.TheVariants as kind
 use Rattle.ga_node.specs.declared.kind.NotReady.{NotReady}
 use Rattle.ga_node.specs.Io.{io_word}
 use Rattle.ga_node.specs.Record.{NodeRecord, record_of}
 use Rattle.ga_node.specs.Changes.{after_changes as changed_by}
-use Rattle.ga_node.specs.Table.{Access, Plain, Reads, Writes, with_kind, found, followed, carried_out, does, fetches, due_of, done_by, own_event, own, looks, t, sent, taken}
+use Rattle.ga_node.specs.Table.{Access, Plain, Reads, Writes, with_kind, found, followed, carried_out, opcode_effect, fetches, next_action_of, done_by, own_event, own, looks, t, sent, taken}
 use Rattle.ga_node.proofs.Looks.{own_blind}
 use Rattle.ga_grid.specs.Chip.{nowhere, record_at}
 use Rattle.ga_grid.specs.declared.node_id.NodeId.{NodeId}
 use Rattle.ga_event.specs.declared.event.Event.{Event}
 use Rattle.ga_event.specs.declared.event.Event.TheVariants.{Own, Pass}
 use Rattle.ga_event.specs.declared.event.Cause.{Cause}
-use Rattle.ga_event.specs.Apply.{Told, seen_from, refusal_of, unless, after, apply, cause_of, run, replay, Agree, shows, beside_in}
+use Rattle.ga_event.specs.Apply.{EventOutcome, neighbour_states, refusal_of, when_allowed, after, apply, cause_of, run, replay, Agree, shows, beside_in}
 use Rattle.ga_causal.specs.Dependence.{cause_touches}
-use Rattle.ga_causal.specs.Words.{word_of, account_read, with_words}
+use Rattle.ga_causal.specs.Words.{word_of, local_history_with_reads, with_words}
 use Rattle.ga_causal.proofs.Runs.{first_of_run, keeps_of}
 use Rattle.std.specs.List.{list_any, filter}
 use Rattle.ga_ports.specs.declared.side.Side.TheVariants.{Right, Down, Left, Up}
 use Rattle.ga_grid.specs.Grid.{neighbour_of}
 use Rattle.ga_event.specs.Touches.{nodes_of, with_some, neighbours, looked_at, seen_by, meets, touches as event_touches}
 use Rattle.ga_event.proofs.Locality.{cause_alike}
-use Rattle.ga_causal.specs.Equivalence.{AreApart, AreEquivalent, same, swapped, later, joined}
-use Rattle.ga_causal.proofs.Shuffles.{AreApart-sym, apart_free}
+use Rattle.ga_causal.specs.Equivalence.{AreIndependent, AreEquivalent, same, swapped, later, joined}
+use Rattle.ga_causal.proofs.Equivalences.{AreApart-sym, independent_on_all}
 use Rattle.ga_causal.proofs.Consistent.{turned, swap_filter, not_both, kept_alike}
 
 -- A node's own event depends on the word of `io` alone, whatever shows that word.
@@ -53,13 +53,13 @@ access_same reader (Plain changes) seen other n h = refl
 access_same reader (Reads address more) seen other n h = ap (λ found. followed found more) (found_same (classified address) reader seen other n h)
 access_same reader (Writes address more) seen other n h = refl
 
-done_same : (due : Due) (seen other : Seen) (n : NodeRecord) → io_word seen ≡ io_word other → done_by due seen n ≡ done_by due other n
+done_same : (due : NextAction) (seen other : Seen) (n : NodeRecord) → io_word seen ≡ io_word other → done_by due seen n ≡ done_by due other n
 done_same due.Fetch seen other n h = ap (with_kind kind.Fetch) (access_same Instruction (fetches n) seen other n h)
-done_same (due.Run op) seen other n h = ap (with_kind _) (access_same Stack (does op n) seen other n h)
+done_same (due.Run op) seen other n h = ap (with_kind _) (access_same Stack (opcode_effect op n) seen other n h)
 
 own_same : (seen other : Seen) (n : NodeRecord) → io_word seen ≡ io_word other → own seen n ≡ own other n
 unfolding own own_event
-own_same seen other n h = ap (λ event. (event.0, changed_by event.1 n)) (done_same (due_of n) seen other n h)
+own_same seen other n h = ap (λ event. (event.0, changed_by event.1 n)) (done_same (next_action_of n) seen other n h)
 
 -- what an event with this word makes of a node that it touches
 abbrev pub Becomes : ℕ → NodeRecord → Event → Option ℕ → NodeRecord → Type 0
@@ -78,15 +78,15 @@ pub becomes_one : (n : ℕ) (x : NodeRecord) (e : Event) (word : Option ℕ) (y 
 becomes_one n x (Own node) word y z (seen, p, q) (other, u, v) = p ∙ ap (λ d. d.1) (own_once x seen other (sym q ∙ v)) ∙ sym u
 becomes_one n x (Pass writer reader side) word y z p q = p ∙ sym q
 
-pub after_is : (c d : List NodeRecord) (e : Event) (told : Told) → apply c e ≡ Some (d, told) → after c e ≡ (d, told)
+pub after_is : (c d : List NodeRecord) (e : Event) (told : EventOutcome) → apply c e ≡ Some (d, told) → after c e ≡ (d, told)
 after_is c d e told h = go (refusal_of c e) h
   where
-    go : (o : Option NotReady) → unless o (after c e) ≡ Some (d, told) → after c e ≡ (d, told)
+    go : (o : Option NotReady) → when_allowed o (after c e) ≡ Some (d, told) → after c e ≡ (d, told)
     go None k = same_Some (after c e) (d, told) k
     go (Some why) k = absurd (cc)
 
 own_becomes : (c : List NodeRecord) (node : NodeId) → node.number < length c → Becomes node.number (record_at c node.number) (Own node) (word_of c (Own node)) (record_at (after c (Own node)).0 node.number)
-own_becomes c node l = (seen_from c node.number, get_or-set_same c node.number _ (record_of nowhere) l, refl)
+own_becomes c node l = (neighbour_states c node.number, get_or-set_same c node.number _ (record_of nowhere) l, refl)
 
 pass_becomes : (c : List NodeRecord) (w r : NodeId) (side : Side) (n : ℕ) → n < length c → (((w.number == n) || ((r.number == n) || false)) ≡ true) → Becomes n (record_at c n) (Pass w r side) (word_of c (Pass w r side)) (record_at (after c (Pass w r side)).0 n)
 pass_becomes c w r side n l touched = elim (cases_eq n r.number) [ inl e ↦ as_reader e | inr ne ↦ as_writer ne ]
@@ -130,7 +130,7 @@ after_becomes n c (Own node) l touched =
 after_becomes n c (Pass w r side) l touched = pass_becomes c w r side n l touched
 
 -- what an event that was made makes of a node that it touches
-pub becomes_of : (n : ℕ) (c d : List NodeRecord) (e : Event) (told : Told) → n < length c → apply c e ≡ Some (d, told) → cause_touches (cause_of c e) n ≡ true → Becomes n (record_at c n) e (word_of c e) (record_at d n)
+pub becomes_of : (n : ℕ) (c d : List NodeRecord) (e : Event) (told : EventOutcome) → n < length c → apply c e ≡ Some (d, told) → cause_touches (cause_of c e) n ≡ true → Becomes n (record_at c n) e (word_of c e) (record_at d n)
 becomes_of n c d e told l h touched =
     subst (λ z. Becomes n (record_at c n) e (word_of c e) (record_at z n)) (ap (λ z. z.0) (after_is c d e told h)) (after_becomes n c e l touched)
 
@@ -143,50 +143,50 @@ lives_one : (n : ℕ) (x : NodeRecord) (xs : List (Event × Option ℕ)) (y z : 
 lives_one n x [] y z p q = sym p ∙ q
 lives_one n x (a ∷ xs) y z (u, b, l) (v, c, m) = lives_one n v xs y z (subst (λ w. Lives n w xs y) (becomes_one n x a.0 a.1 u v b c) l) m
 
-lived_more : (n : ℕ) (c mid : List NodeRecord) (e : Event) (told : Told) (xs : List (Event × Option ℕ)) (y : NodeRecord) → n < length c → apply c e ≡ Some (mid, told) → Lives n (record_at mid n) xs y
+lived_more : (n : ℕ) (c mid : List NodeRecord) (e : Event) (told : EventOutcome) (xs : List (Event × Option ℕ)) (y : NodeRecord) → n < length c → apply c e ≡ Some (mid, told) → Lives n (record_at mid n) xs y
     → (b : Bool) → cause_touches (cause_of c e) n ≡ b → Lives n (record_at c n) (cond b ((e, word_of c e) ∷ xs) xs) y
 lived_more n c mid e told xs y l h after_it true is = (record_at mid n, becomes_of n c mid e told l h is, after_it)
 lived_more n c mid e told xs y l h after_it false is = subst (λ z. Lives n z xs y) (sym ((keeps_of c e mid told h).same n is)) after_it
 
-pub same_size : (c last : List NodeRecord) (es : List Event) (ts : List (Cause × Told)) → run c es ≡ Some (last, ts) → length c ≡ length last
-same_size c last [] ts h = ap (λ (z : List NodeRecord × List (Cause × Told)). length z.0) (same_Some (c, []) (last, ts) h)
+pub same_size : (c last : List NodeRecord) (es : List Event) (ts : List (Cause × EventOutcome)) → run c es ≡ Some (last, ts) → length c ≡ length last
+same_size c last [] ts h = ap (λ (z : List NodeRecord × List (Cause × EventOutcome)). length z.0) (same_Some (c, []) (last, ts) h)
 same_size c last (e ∷ es) ts h =
     let m = first_of_run c e es last ts h in
     (keeps_of c e m.mid m.told m.first).size ∙ same_size m.mid last es m.others m.then
 
-lived : (n : ℕ) (c last : List NodeRecord) (es : List Event) (ts : List (Cause × Told)) → n < length c → run c es ≡ Some (last, ts) → Lives n (record_at c n) (account_read n c es) (record_at last n)
-lived n c last [] ts l h = ap (λ (z : List NodeRecord × List (Cause × Told)). record_at z.0 n) (same_Some (c, []) (last, ts) h)
+lived : (n : ℕ) (c last : List NodeRecord) (es : List Event) (ts : List (Cause × EventOutcome)) → n < length c → run c es ≡ Some (last, ts) → Lives n (record_at c n) (local_history_with_reads n c es) (record_at last n)
+lived n c last [] ts l h = ap (λ (z : List NodeRecord × List (Cause × EventOutcome)). record_at z.0 n) (same_Some (c, []) (last, ts) h)
 lived n c last (e ∷ es) ts l h =
     let m = first_of_run c e es last ts h in
     let size : length c ≡ length m.mid = (keeps_of c e m.mid m.told m.first).size in
     let after_it = lived n m.mid last es m.others (omega (arith, l, size)) m.then in
-    subst (λ d. Lives n (record_at c n) (cond (cause_touches (cause_of c e) n) ((e, word_of c e) ∷ account_read n d es) (account_read n d es)) (record_at last n)) (sym (ap (λ z. z.0) (after_is c m.mid e m.told m.first)))
-    (lived_more n c m.mid e m.told (account_read n m.mid es) (record_at last n) l m.first after_it (cause_touches (cause_of c e) n) refl)
+    subst (λ d. Lives n (record_at c n) (cond (cause_touches (cause_of c e) n) ((e, word_of c e) ∷ local_history_with_reads n d es) (local_history_with_reads n d es)) (record_at last n)) (sym (ap (λ z. z.0) (after_is c m.mid e m.told m.first)))
+    (lived_more n c m.mid e m.told (local_history_with_reads n m.mid es) (record_at last n) l m.first after_it (cause_touches (cause_of c e) n) refl)
 
 -- a list that can be replayed runs
-pub ran : (c last : List NodeRecord) (es : List Event) → replay c es ≡ Some last → (ts : List (Cause × Told)) × (run c es ≡ Some (last, ts))
+pub ran : (c last : List NodeRecord) (es : List Event) → replay c es ≡ Some last → (ts : List (Cause × EventOutcome)) × (run c es ≡ Some (last, ts))
 ran c last es h = go (run c es) refl h
   where
-    go : (o : Option (List NodeRecord × List (Cause × Told))) → run c es ≡ o → option_map {U = List NodeRecord} (λ done. done.0) o ≡ Some last → (ts : List (Cause × Told)) × (run c es ≡ Some (last, ts))
+    go : (o : Option (List NodeRecord × List (Cause × EventOutcome))) → run c es ≡ o → option_map {U = List NodeRecord} (λ done. done.0) o ≡ Some last → (ts : List (Cause × EventOutcome)) × (run c es ≡ Some (last, ts))
     go None is k = absurd (cc)
     go (Some done) is k = (done.1, is ∙ ap (λ (z : List NodeRecord). Some (z, done.1)) (same_Some done.0 last k))
 
 pub same_node : (chip other last now : List NodeRecord) (es fs : List Event) (n : ℕ) → replay chip es ≡ Some last → replay other fs ≡ Some now → length chip ≡ length other
-    → record_at chip n ≡ record_at other n → account_read n chip es ≡ account_read n other fs → record_at last n ≡ record_at now n
+    → record_at chip n ≡ record_at other n → local_history_with_reads n chip es ≡ local_history_with_reads n other fs → record_at last n ≡ record_at now n
 same_node chip other last now es fs n h k size at alike =
     let a = ran chip last es h in
     let b = ran other now fs k in
     let here : length chip ≡ length last = same_size chip last es a.0 a.1 in
     let there : length other ≡ length now = same_size other now fs b.0 b.1 in
     elim (cases_lt n (length chip)) [
-      | inl l ↦ lives_one n (record_at chip n) (account_read n chip es) (record_at last n) (record_at now n) (lived n chip last es a.0 l a.1)
+      | inl l ↦ lives_one n (record_at chip n) (local_history_with_reads n chip es) (record_at last n) (record_at now n) (lived n chip last es a.0 l a.1)
           (subst (λ z. Lives n (record_at chip n) z (record_at now n)) (sym alike)
-          (subst (λ z. Lives n z (account_read n other fs) (record_at now n)) (sym at) (lived n other now fs b.0 (omega (arith, l, size)) b.1)))
+          (subst (λ z. Lives n z (local_history_with_reads n other fs) (record_at now n)) (sym at) (lived n other now fs b.0 (omega (arith, l, size)) b.1)))
       | inr l ↦ get_or_past last n (record_of nowhere) (omega (arith, l, here)) ∙ sym (get_or_past now n (record_of nowhere) (omega (arith, l, size, there)))
     ]
 
 pub same_chip : (chip last now : List NodeRecord) (es fs : List Event) → replay chip es ≡ Some last → replay chip fs ≡ Some now
-    → ((n : ℕ) → account_read n chip es ≡ account_read n chip fs) → last ≡ now
+    → ((n : ℕ) → local_history_with_reads n chip es ≡ local_history_with_reads n chip fs) → last ≡ now
 same_chip chip last now es fs h k alike =
     let a = ran chip last es h in
     let b = ran chip now fs k in
@@ -202,8 +202,8 @@ beside_alike marks c d side (Some n) ns a free =
     let p : (marks n ≡ false) × (list_any marks ns ≡ false) = or_parts (marks n) (list_any marks ns) free in
     (ap (λ (z : NodeRecord). shows z.wait side) (a.same n p.0), p.1)
 
-seen_alike : (marks : ℕ → Bool) (c d : List NodeRecord) (n : ℕ) → Agree marks c d → list_any marks (neighbours n) ≡ false → seen_from c n ≡ seen_from d n
-unfolding neighbours seen_from
+seen_alike : (marks : ℕ → Bool) (c d : List NodeRecord) (n : ℕ) → Agree marks c d → list_any marks (neighbours n) ≡ false → neighbour_states c n ≡ neighbour_states d n
+unfolding neighbours neighbour_states
 seen_alike marks c d n a free =
     let right = beside_alike marks c d Right (neighbour_of n Right) _ a free in
     let down = beside_alike marks c d Down (neighbour_of n Down) _ a right.1 in
@@ -225,31 +225,31 @@ sees_parts marks c e free = any_parts marks (nodes_of e) (looked_at e (cause_of 
 word_alike : (marks : ℕ → Bool) (c d : List NodeRecord) (e : Event) → Agree marks c d → meets marks (cause_of c e) ≡ false → word_of c e ≡ word_of d e
 word_alike marks c d (Own node) a free =
     go (looks (record_at c node.number)) ((sees_parts marks c (Own node) free).1)
-    ∙ ap (λ (z : NodeRecord). cond (looks z) (Some (io_word (seen_from d node.number))) None) (a.same node.number ((or_parts (marks node.number) false ((sees_parts marks c (Own node) free).0)).0))
+    ∙ ap (λ (z : NodeRecord). cond (looks z) (Some (io_word (neighbour_states d node.number))) None) (a.same node.number ((or_parts (marks node.number) false ((sees_parts marks c (Own node) free).0)).0))
   where
-    go : (b : Bool) → list_any marks (looked_at (Own node) b) ≡ false → ◌≡◌ {A = Option ℕ} (cond b (Some (io_word (seen_from c node.number))) None) (cond b (Some (io_word (seen_from d node.number))) None)
+    go : (b : Bool) → list_any marks (looked_at (Own node) b) ≡ false → ◌≡◌ {A = Option ℕ} (cond b (Some (io_word (neighbour_states c node.number))) None) (cond b (Some (io_word (neighbour_states d node.number))) None)
     go true f = ap (λ (z : Seen). Some (io_word z)) (seen_alike marks c d node.number a f)
     go false f = refl
 word_alike marks c d (Pass w r side) a free =
     ap (λ (z : NodeRecord). Some (t z)) (a.same w.number ((or_parts (marks w.number) (marks r.number || false) ((sees_parts marks c (Pass w r side) free).0)).0))
 
-two_words : (c d p : List NodeRecord) (e f : Event) (told other : Told) (zs : List Event) → apply c e ≡ Some (d, told) → apply d f ≡ Some (p, other)
+two_words : (c d p : List NodeRecord) (e f : Event) (told other : EventOutcome) (zs : List Event) → apply c e ≡ Some (d, told) → apply d f ≡ Some (p, other)
     → with_words c (e ∷ f ∷ zs) ≡ (e, word_of c e) ∷ (f, word_of d f) ∷ with_words p zs
 two_words c d p e f told other zs h k =
-    ap (λ (q : List NodeRecord × Told). (e, word_of c e) ∷ with_words q.0 (f ∷ zs)) (after_is c d e told h)
-    ∙ ap (λ (q : List NodeRecord × Told). (e, word_of c e) ∷ (f, word_of d f) ∷ with_words q.0 zs) (after_is d p f other k)
+    ap (λ (q : List NodeRecord × EventOutcome). (e, word_of c e) ∷ with_words q.0 (f ∷ zs)) (after_is c d e told h)
+    ∙ ap (λ (q : List NodeRecord × EventOutcome). (e, word_of c e) ∷ (f, word_of d f) ∷ with_words q.0 zs) (after_is d p f other k)
 
 -- the other order of two independent events
-swapped_alike : (n : ℕ) (c last : List NodeRecord) (e f : Event) (zs : List Event) (ts : List (Cause × Told)) → AreApart (cause_of c e) (cause_of c f) → run c (e ∷ f ∷ zs) ≡ Some (last, ts)
-    → account_read n c (e ∷ f ∷ zs) ≡ account_read n c (f ∷ e ∷ zs)
+swapped_alike : (n : ℕ) (c last : List NodeRecord) (e f : Event) (zs : List Event) (ts : List (Cause × EventOutcome)) → AreIndependent (cause_of c e) (cause_of c f) → run c (e ∷ f ∷ zs) ≡ Some (last, ts)
+    → local_history_with_reads n c (e ∷ f ∷ zs) ≡ local_history_with_reads n c (f ∷ e ∷ zs)
 swapped_alike n c last e f zs ts h is =
     let m = first_of_run c e (f ∷ zs) last ts is in
     let k = first_of_run m.mid f zs last m.others m.then in
     let keeps = keeps_of c e m.mid m.told m.first in
-    let q : cause_of c f ≡ cause_of m.mid f = cause_alike (cause_touches (cause_of c e)) c m.mid f keeps (apart_free (cause_of c e) (cause_of c f) h) in
-    let z = turned c m.mid k.mid e f m.told k.told m.first k.first (subst (AreApart (cause_of c e)) q h) in
-    let one : word_of c f ≡ word_of m.mid f = word_alike (cause_touches (cause_of c e)) c m.mid f keeps (apart_free (cause_of c e) (cause_of c f) h) in
-    let two : word_of c e ≡ word_of z.mid e = word_alike (cause_touches (cause_of c f)) c z.mid e (keeps_of c f z.mid k.told z.first) (apart_free (cause_of c f) (cause_of c e) (AreApart-sym (cause_of c e) (cause_of c f) h)) in
+    let q : cause_of c f ≡ cause_of m.mid f = cause_alike (cause_touches (cause_of c e)) c m.mid f keeps (independent_on_all (cause_of c e) (cause_of c f) h) in
+    let z = turned c m.mid k.mid e f m.told k.told m.first k.first (subst (AreIndependent (cause_of c e)) q h) in
+    let one : word_of c f ≡ word_of m.mid f = word_alike (cause_touches (cause_of c e)) c m.mid f keeps (independent_on_all (cause_of c e) (cause_of c f) h) in
+    let two : word_of c e ≡ word_of z.mid e = word_alike (cause_touches (cause_of c f)) c z.mid e (keeps_of c f z.mid k.told z.first) (independent_on_all (cause_of c f) (cause_of c e) (AreApart-sym (cause_of c e) (cause_of c f) h)) in
     let test : Event × Option ℕ → Bool = λ x. event_touches x.0 n in
     ap (λ xs. filter test xs) (two_words c m.mid k.mid e f m.told k.told zs m.first k.first)
     ∙ ap (λ (w : Option ℕ). filter test ((e, word_of c e) ∷ (f, w) ∷ with_words k.mid zs)) (sym one)
@@ -257,18 +257,18 @@ swapped_alike n c last e f zs ts h is =
     ∙ ap (λ (w : Option ℕ). filter test ((f, word_of c f) ∷ (e, w) ∷ with_words k.mid zs)) two
     ∙ ap (λ xs. filter test xs) (sym (two_words c z.mid k.mid f e k.told m.told zs z.first z.second))
 
-received : (n : ℕ) (c : List NodeRecord) (xs ys : List Event) → AreEquivalent c xs ys → (last : List NodeRecord) (ts : List (Cause × Told)) → run c xs ≡ Some (last, ts) → account_read n c xs ≡ account_read n c ys
+received : (n : ℕ) (c : List NodeRecord) (xs ys : List Event) → AreEquivalent c xs ys → (last : List NodeRecord) (ts : List (Cause × EventOutcome)) → run c xs ≡ Some (last, ts) → local_history_with_reads n c xs ≡ local_history_with_reads n c ys
 received n c xs ys same last ts is = refl
 received n c xs ys (swapped {e} {f} {xs = zs} h) last ts is = swapped_alike n c last e f zs ts h is
 received n c xs ys (later {now} {e} {told} {xs = us} {ys = vs} h k) last ts is =
     let m = first_of_run c e us last ts is in
-    let at : m.mid ≡ now = ap (λ (w : List NodeRecord × Told). w.0) (same_Some (m.mid, m.told) (now, told) (sym m.first ∙ h)) in
-    let there : (after c e).0 ≡ now = ap (λ (w : List NodeRecord × Told). w.0) (after_is c now e told h) in
-    let on : account_read n now us ≡ account_read n now vs = received n now us vs k last m.others (subst (λ w. run w us ≡ Some (last, m.others)) at m.then) in
-    ap (λ (z : List (Event × Option ℕ)). cond (event_touches e n) ((e, word_of c e) ∷ z) z) (ap (λ d. account_read n d us) there ∙ on ∙ sym (ap (λ d. account_read n d vs) there))
+    let at : m.mid ≡ now = ap (λ (w : List NodeRecord × EventOutcome). w.0) (same_Some (m.mid, m.told) (now, told) (sym m.first ∙ h)) in
+    let there : (after c e).0 ≡ now = ap (λ (w : List NodeRecord × EventOutcome). w.0) (after_is c now e told h) in
+    let on : local_history_with_reads n now us ≡ local_history_with_reads n now vs = received n now us vs k last m.others (subst (λ w. run w us ≡ Some (last, m.others)) at m.then) in
+    ap (λ (z : List (Event × Option ℕ)). cond (event_touches e n) ((e, word_of c e) ∷ z) z) (ap (λ d. local_history_with_reads n d us) there ∙ on ∙ sym (ap (λ d. local_history_with_reads n d vs) there))
 received n c xs ys (joined {ys = zs} h k) last ts is =
     let b = kept_alike c last xs zs ts is h in
     received n c xs zs h last ts is ∙ received n c zs ys k last b.0 b.1
 
-pub same_received : (chip last : List NodeRecord) (events others : List Event) (n : ℕ) → replay chip events ≡ Some last → AreEquivalent chip events others → account_read n chip events ≡ account_read n chip others
+pub same_received : (chip last : List NodeRecord) (events others : List Event) (n : ℕ) → replay chip events ≡ Some last → AreEquivalent chip events others → local_history_with_reads n chip events ≡ local_history_with_reads n chip others
 same_received chip last events others n is h = let r = ran chip last events is in received n chip events others h last r.0 r.1

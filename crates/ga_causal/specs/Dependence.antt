@@ -70,33 +70,33 @@ dependents (e ∷ es) zero = true ∷ dependents_after (cause_touches e) es
 dependents (e ∷ es) (suc i) = false ∷ dependents es i
 
 -- the elements that are not flagged, in their order
-abbrev pub without : {A : Type 0} → List Bool → List A → List A
-without [] xs = xs
-without (flag ∷ flags) [] = []
-without (flag ∷ flags) (x ∷ xs) = if flag then without flags xs else x ∷ without flags xs
+abbrev pub unflagged : {A : Type 0} → List Bool → List A → List A
+unflagged [] xs = xs
+unflagged (flag ∷ flags) [] = []
+unflagged (flag ∷ flags) (x ∷ xs) = if flag then unflagged flags xs else x ∷ unflagged flags xs
 
 -- the events that do not depend on the one at this place (exactly those that do not by DependsOn: law marks_exact)
 abbrev pub rest : List Cause → ℕ → List Cause
-rest events i = without (dependents events i) events
+rest events i = unflagged (dependents events i) events
 
 -- no event of the list is a look
-abbrev pub NoneLooks : List Cause → Type 0
-NoneLooks [] = Unit {0}
-NoneLooks (e ∷ es) = (e.look ≡ false) × NoneLooks es
+abbrev pub HasNoLooks : List Cause → Type 0
+HasNoLooks [] = Unit {0}
+HasNoLooks (e ∷ es) = (e.look ≡ false) × HasNoLooks es
 
 -- These are the events that do not depend on the one at the place, in their order.
 pub record IsRest (events : List Cause) (place : ℕ) (left : List Cause) : Type 0 where
   pub gone : List Bool
   pub size : length gone ≡ length events
   pub exact : (j : ℕ) → j < length events → (IsTrue (slice_index_or gone j false) ↔ DependsOn events place j)
-  pub kept : left ≡ without gone events
+  pub kept : left ≡ unflagged gone events
 
 -- the place of the k-th event that touches the node, counted from 1; none where there is none
-abbrev pub place_of : List Cause → ℕ → ℕ → Option ℕ
-place_of [] n k = None
-place_of (e ∷ es) n zero = None
-place_of (e ∷ es) n (suc k) =
-    if cause_touches e n then (if k == 0 then Some 0 else option_map suc (place_of es n k)) else option_map suc (place_of es n (suc k))
+abbrev pub position_of_step : List Cause → ℕ → ℕ → Option ℕ
+position_of_step [] n k = None
+position_of_step (e ∷ es) n zero = None
+position_of_step (e ∷ es) n (suc k) =
+    if cause_touches e n then (if k == 0 then Some 0 else option_map suc (position_of_step es n k)) else option_map suc (position_of_step es n (suc k))
 
 abbrev pub rest_from : List Cause → Option ℕ → List Cause
 rest_from events None = events
@@ -104,7 +104,7 @@ rest_from events (Some i) = rest events i
 
 -- the list after a rollback of the node to its step k; the list itself if there is no such step
 abbrev pub rewound_list : List Cause → ℕ → ℕ → List Cause
-rewound_list events n k = rest_from events (place_of events n k)
+rewound_list events n k = rest_from events (position_of_step events n k)
 
 -- the list after rollbacks to these steps, each a node and a number, one after another
 abbrev pub rewound_all : List Cause → List (ℕ × ℕ) → List Cause

@@ -10,12 +10,12 @@ use Rattle.ga_grid.specs.Chip.{record_at}
 use Rattle.ga_event.specs.declared.event.Event.{Event}
 use Rattle.ga_event.specs.declared.event.Event.TheVariants.{Own, Pass}
 use Rattle.ga_event.specs.Touches.{touches}
-use Rattle.ga_event.specs.Apply.{seen_from, after}
+use Rattle.ga_event.specs.Apply.{neighbour_states, after}
 
 -- the word that comes with an event from outside its node: the transferred word of a pass, the word that a look reads in `io`;
 -- else none
 abbrev pub word_of : List NodeRecord → Event → Option ℕ
-word_of chip (Own node) = if looks (record_at chip node.number) then Some (io_word (seen_from chip node.number)) else None
+word_of chip (Own node) = if looks (record_at chip node.number) then Some (io_word (neighbour_states chip node.number)) else None
 word_of chip (Pass writer reader side) = Some (t (record_at chip writer.number))
 
 -- the events of a list that can be made, each with its word
@@ -23,10 +23,10 @@ abbrev pub with_words : List NodeRecord → List Event → List (Event × Option
 with_words chip [] = []
 with_words chip (event ∷ events) = (event, word_of chip event) ∷ with_words (after chip event).0 events
 
--- The local history of a node with its words: the events that touch it, in order, each with its word. Unlike `account` it has
+-- The local history of a node with its words: the events that touch it, in order, each with its word. Unlike `local_history` it has
 -- no numbers of steps, so it doesn't determine how many steps a neighbour had made when the node looked.
-abbrev pub account_read : ℕ → List NodeRecord → List Event → List (Event × Option ℕ)
-account_read n chip events = filter (λ x. touches x.0 n) (with_words chip events)
+abbrev pub local_history_with_reads : ℕ → List NodeRecord → List Event → List (Event × Option ℕ)
+local_history_with_reads n chip events = filter (λ x. touches x.0 n) (with_words chip events)
 
 -- the word of a look; an own event of another kind has none, and that of a pass is not read in `io`
 abbrev pub look_word : Event → Option ℕ → List ℕ
@@ -35,4 +35,4 @@ look_word (Pass writer reader side) word = []
 
 -- the words that the looks of a node read, in order
 abbrev pub words_read : ℕ → List NodeRecord → List Event → List ℕ
-words_read n chip events = flat_map (λ x. look_word x.0 x.1) (account_read n chip events)
+words_read n chip events = flat_map (λ x. look_word x.0 x.1) (local_history_with_reads n chip events)

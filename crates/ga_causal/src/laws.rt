@@ -6,23 +6,23 @@ ghost use Rattle.ga_event.specs.declared.event.Cause.{Cause};
 ghost use Rattle.ga_node.specs.Record.{NodeRecord};
 ghost use Rattle.ga_grid.specs.Chip.{record_at};
 ghost use Rattle.ga_event.specs.Touches.{touches};
-ghost use Rattle.ga_event.specs.Apply.{Told, replay, run, cause_of};
+ghost use Rattle.ga_event.specs.Apply.{EventOutcome, replay, run, cause_of};
 ghost use Rattle.ga_causal.specs.declared.chain.Link.{Link};
 ghost use Rattle.ga_causal.specs.Chains.{IsChain, IsChainTo, IsFound, chain_of};
 ghost use Rattle.ga_causal.specs.Steps.{links_by_events, numbered, numbered_seen, touching, IsStep};
-ghost use Rattle.ga_causal.specs.Dependence.{dependents, rest, without, DependsOn, NoneLooks, place_of, rewound_list, rewound_all};
+ghost use Rattle.ga_causal.specs.Dependence.{dependents, rest, unflagged, DependsOn, HasNoLooks, position_of_step, rewound_list, rewound_all};
 ghost use Rattle.ga_event.specs.Told.{events_in};
-ghost use Rattle.ga_causal.specs.Equivalence.{AreApart, AreEquivalent, recorded, account, account_told};
-ghost use Rattle.ga_causal.specs.Words.{account_read};
+ghost use Rattle.ga_causal.specs.Equivalence.{AreIndependent, AreEquivalent, recorded, local_history, local_history_told};
+ghost use Rattle.ga_causal.specs.Words.{local_history_with_reads};
 
 /// Two events can be swapped if they touch no common node and neither looks at a node that the other touches: in either order
 /// they lead to the same chip, and each looks alike and has the same outcome, or neither order can be made.
 #[tactic(auto, using(crate::proofs::Runs::replay_swapped, crate::proofs::Runs::run_swapped))]
 pub fn swap()
-    ensures chip { (chip : List NodeRecord) (e f : Event) → AreApart (cause_of chip e) (cause_of chip f) →
+    ensures chip { (chip : List NodeRecord) (e f : Event) → AreIndependent (cause_of chip e) (cause_of chip f) →
         replay chip (e ∷ f ∷ []) ≡ replay chip (f ∷ e ∷ []) }
-    ensures told { (chip : List NodeRecord) (e f : Event) → AreApart (cause_of chip e) (cause_of chip f) →
-        option_map (λ (done : List NodeRecord × List (Cause × Told)). (done.0, reverse done.1)) (run chip (e ∷ f ∷ []))
+    ensures told { (chip : List NodeRecord) (e f : Event) → AreIndependent (cause_of chip e) (cause_of chip f) →
+        option_map (λ (done : List NodeRecord × List (Cause × EventOutcome)). (done.0, reverse done.1)) (run chip (e ∷ f ∷ []))
         ≡ run chip (f ∷ e ∷ []) }
 {}
 
@@ -30,13 +30,13 @@ pub fn swap()
 /// before, and has the same numbers of steps. Each look that it keeps still comes after the same number of steps of each node
 /// at which it looks.
 pub fn rest_replays()
-    ensures told { (chip : List NodeRecord) (events : List Event) (i : ℕ) (last : List NodeRecord) (steps : List (Cause × Told)) →
+    ensures told { (chip : List NodeRecord) (events : List Event) (i : ℕ) (last : List NodeRecord) (steps : List (Cause × EventOutcome)) →
         run chip events ≡ Some (last, steps) →
-        let causes = map (λ (s : Cause × Told). s.0) steps in
-        (now : List NodeRecord) × (run chip (events_in (rest causes i)) ≡ Some (now, without (dependents causes i) steps)) }
-    ensures steps { (events : List Cause) (i : ℕ) → numbered (rest events i) ≡ without (dependents events i) (numbered events) }
+        let causes = map (λ (s : Cause × EventOutcome). s.0) steps in
+        (now : List NodeRecord) × (run chip (events_in (rest causes i)) ≡ Some (now, unflagged (dependents causes i) steps)) }
+    ensures steps { (events : List Cause) (i : ℕ) → numbered (rest events i) ≡ unflagged (dependents events i) (numbered events) }
     ensures seen { (events : List Cause) (i : ℕ) →
-        numbered_seen (rest events i) ≡ without (dependents events i) (numbered_seen events) }
+        numbered_seen (rest events i) ≡ unflagged (dependents events i) (numbered_seen events) }
 {}
 
 /// The flags of `dependents` are the places of the events that depend on the one at the place `i`. There must be one: past the end
@@ -53,13 +53,13 @@ pub fn marks_exact()
 /// each node at which it looks.
 #[tactic(auto, using(crate::proofs::Largest::largest, crate::proofs::Largest::largest_seen))]
 pub fn largest_rest()
-    ensures steps { (events : List Cause) → NoneLooks events →
+    ensures steps { (events : List Cause) → HasNoLooks events →
         (i : ℕ) (dropped : List Bool) → IsTrue (slice_index_or dropped i false) →
-        numbered (without dropped events) ≡ without dropped (numbered events) →
+        numbered (unflagged dropped events) ≡ unflagged dropped (numbered events) →
         (j : ℕ) → DependsOn events i j → IsTrue (slice_index_or dropped j false) }
     ensures seen { (events : List Cause) (i : ℕ) (dropped : List Bool) →
         IsTrue (slice_index_or dropped i false) →
-        numbered_seen (without dropped events) ≡ without dropped (numbered_seen events) →
+        numbered_seen (unflagged dropped events) ≡ unflagged dropped (numbered_seen events) →
         (j : ℕ) → DependsOn events i j → IsTrue (slice_index_or dropped j false) }
 {}
 
@@ -68,18 +68,18 @@ pub fn largest_rest()
 pub fn steps()
     ensures events { (events : List Cause) (n : ℕ) → touching n events ≡ count_by (λ e. touches e n) (events_in events) }
     ensures stands { (events : List Cause) (n k : ℕ) →
-        (IsSome (place_of events n k) ↔ ((0 < k) × (k ≤ touching n events))) }
-    ensures place { (events : List Cause) (n k place : ℕ) → place_of events n k ≡ Some place → IsStep events n k place }
-    ensures later { (events : List Cause) (n k j i q : ℕ) → place_of events n k ≡ Some i → place_of events n j ≡ Some q → k ≤ j →
+        (IsSome (position_of_step events n k) ↔ ((0 < k) × (k ≤ touching n events))) }
+    ensures place { (events : List Cause) (n k place : ℕ) → position_of_step events n k ≡ Some place → IsStep events n k place }
+    ensures later { (events : List Cause) (n k j i q : ℕ) → position_of_step events n k ≡ Some i → position_of_step events n j ≡ Some q → k ≤ j →
         DependsOn events i q }
 {}
 
 /// Rollbacks leave the same list in any order. Of two, the second is refused exactly where its step depends on the first.
-#[tactic(auto, using(crate::proofs::Rollbacks::rewound_twice, crate::proofs::Rollbacks::rewound_any_order, crate::proofs::Accounts::refused_exactly))]
+#[tactic(auto, using(crate::proofs::Rollbacks::rewound_twice, crate::proofs::Rollbacks::rewound_any_order, crate::proofs::LocalHistories::refused_exactly))]
 pub fn two_rollbacks()
     ensures either { (events : List Cause) (n k m j : ℕ) → rewound_list (rewound_list events n k) m j ≡ rewound_list (rewound_list events m j) n k }
-    ensures refused { (events : List Cause) (n k m j i q : ℕ) → place_of events n k ≡ Some i → place_of events m j ≡ Some q →
-        (IsNone (place_of (rest events i) m j) ↔ DependsOn events i q) }
+    ensures refused { (events : List Cause) (n k m j i q : ℕ) → position_of_step events n k ≡ Some i → position_of_step events m j ≡ Some q →
+        (IsNone (position_of_step (rest events i) m j) ↔ DependsOn events i q) }
     ensures any { (events : List Cause) (steps others : List (ℕ × ℕ)) → IsPermutation steps others →
         rewound_all events steps ≡ rewound_all events others }
 {}
@@ -95,10 +95,10 @@ pub fn equivalent()
 /// each node. The first list must run: a list that can't run has no chip and no local histories to compare.
 #[tactic(auto, using(crate::proofs::Consistent::kept_alike))]
 pub fn equivalent_keeps()
-    ensures { (chip last : List NodeRecord) (events others : List Event) (steps : List (Cause × Told)) →
+    ensures { (chip last : List NodeRecord) (events others : List Event) (steps : List (Cause × EventOutcome)) →
         run chip events ≡ Some (last, steps) → AreEquivalent chip events others →
-        (made : List (Cause × Told)) × (run chip others ≡ Some (last, made)) × IsPermutation (recorded steps) (recorded made)
-        × ((n : ℕ) → account_told n steps ≡ account_told n made) }
+        (made : List (Cause × EventOutcome)) × (run chip others ≡ Some (last, made)) × IsPermutation (recorded steps) (recorded made)
+        × ((n : ℕ) → local_history_told n steps ≡ local_history_told n made) }
 {}
 
 /// Causal consistency (Danos and Krivine): of two lists that run from one chip, one is made from the other by swaps of
@@ -107,18 +107,18 @@ pub fn equivalent_keeps()
 /// steps are enough; a look also needs the number of steps of each neighbour when it looked, which these numbers don't give.
 #[tactic(auto, using(crate::proofs::Consistent::same_accounts, crate::proofs::Consistent::same_events, crate::proofs::Taken::same_steps))]
 pub fn causal_consistency()
-    ensures accounts { (chip last now : List NodeRecord) (events others : List Event) (steps made : List (Cause × Told)) →
+    ensures accounts { (chip last now : List NodeRecord) (events others : List Event) (steps made : List (Cause × EventOutcome)) →
         run chip events ≡ Some (last, steps) → run chip others ≡ Some (now, made) →
-        let causes = map (λ (s : Cause × Told). s.0) in
-        (AreEquivalent chip events others ↔ ((n : ℕ) → account n (causes steps) ≡ account n (causes made))) }
-    ensures events { (chip last now : List NodeRecord) (events others : List Event) (steps made : List (Cause × Told)) →
+        let causes = map (λ (s : Cause × EventOutcome). s.0) in
+        (AreEquivalent chip events others ↔ ((n : ℕ) → local_history n (causes steps) ≡ local_history n (causes made))) }
+    ensures events { (chip last now : List NodeRecord) (events others : List Event) (steps made : List (Cause × EventOutcome)) →
         run chip events ≡ Some (last, steps) → run chip others ≡ Some (now, made) →
-        let causes = map (λ (s : Cause × Told). s.0) in
+        let causes = map (λ (s : Cause × EventOutcome). s.0) in
         (AreEquivalent chip events others ↔ IsPermutation (numbered_seen (causes steps)) (numbered_seen (causes made))) }
-    ensures steps { (chip last now : List NodeRecord) (events others : List Event) (steps made : List (Cause × Told)) →
+    ensures steps { (chip last now : List NodeRecord) (events others : List Event) (steps made : List (Cause × EventOutcome)) →
         run chip events ≡ Some (last, steps) → run chip others ≡ Some (now, made) →
-        let causes = map (λ (s : Cause × Told). s.0) in
-        NoneLooks (causes steps) →
+        let causes = map (λ (s : Cause × EventOutcome). s.0) in
+        HasNoLooks (causes steps) →
         (AreEquivalent chip events others ↔ IsPermutation (numbered (causes steps)) (numbered (causes made))) }
 {}
 
@@ -129,62 +129,62 @@ pub fn causal_consistency()
 /// neighbour. Equivalent lists have the same local histories with words. Both lists must run, since a list that can't be made
 /// leads to no chip.
 #[tactic(auto, using(crate::proofs::Words::same_node, crate::proofs::Words::same_chip, crate::proofs::Words::same_received))]
-pub fn accounts_determine()
+pub fn local_histories_determine()
     ensures node { (chip other last now : List NodeRecord) (events others : List Event) (n : ℕ) →
         replay chip events ≡ Some last → replay other others ≡ Some now → length chip ≡ length other →
-        record_at chip n ≡ record_at other n → account_read n chip events ≡ account_read n other others →
+        record_at chip n ≡ record_at other n → local_history_with_reads n chip events ≡ local_history_with_reads n other others →
         record_at last n ≡ record_at now n }
     ensures chip { (chip last now : List NodeRecord) (events others : List Event) →
         replay chip events ≡ Some last → replay chip others ≡ Some now →
-        ((n : ℕ) → account_read n chip events ≡ account_read n chip others) → last ≡ now }
+        ((n : ℕ) → local_history_with_reads n chip events ≡ local_history_with_reads n chip others) → last ≡ now }
     ensures equivalent { (chip last : List NodeRecord) (events others : List Event) (n : ℕ) →
         replay chip events ≡ Some last → AreEquivalent chip events others →
-        account_read n chip events ≡ account_read n chip others }
+        local_history_with_reads n chip events ≡ local_history_with_reads n chip others }
 {}
 
 /// Rollbacks of equivalent lists, to the same steps, leave equivalent lists. Both must run, so that there are steps to roll back.
 #[tactic(auto, using(crate::proofs::Moved::rolled_back))]
 pub fn equivalent_rollbacks()
-    ensures { (chip last now : List NodeRecord) (events others : List Event) (steps made : List (Cause × Told)) →
+    ensures { (chip last now : List NodeRecord) (events others : List Event) (steps made : List (Cause × EventOutcome)) →
         run chip events ≡ Some (last, steps) → run chip others ≡ Some (now, made) → AreEquivalent chip events others →
-        let causes = map (λ (s : Cause × Told). s.0) in
+        let causes = map (λ (s : Cause × EventOutcome). s.0) in
         (rollbacks : List (ℕ × ℕ)) →
         AreEquivalent chip (events_in (rewound_all (causes steps) rollbacks)) (events_in (rewound_all (causes made) rollbacks)) }
 {}
 
 /// After a rollback each local history is a prefix of the one before, with the same outcomes; that of the node whose step is
 /// removed ends just before the step, also if the step doesn't exist, when nothing is removed.
-pub fn account_kept()
+pub fn rollback_keeps_history_prefix()
     ensures first { (events : List Cause) (n k m : ℕ) →
-        (later : List (Cause × List ℕ)) × (account m events ≡ account m (rewound_list events n k) ++ later) }
+        (later : List (Cause × List ℕ)) × (local_history m events ≡ local_history m (rewound_list events n k) ++ later) }
     ensures own { (events : List Cause) (n k : ℕ) →
-        account n (rewound_list events n (k + 1)) ≡ take k (account n events) }
-    ensures told { (chip last : List NodeRecord) (events : List Event) (steps : List (Cause × Told)) (n k : ℕ) →
+        local_history n (rewound_list events n (k + 1)) ≡ take k (local_history n events) }
+    ensures told { (chip last : List NodeRecord) (events : List Event) (steps : List (Cause × EventOutcome)) (n k : ℕ) →
         run chip events ≡ Some (last, steps) →
-        let causes = map (λ (s : Cause × Told). s.0) steps in
-        (now : List NodeRecord) × (left : List (Cause × Told)) × (run chip (events_in (rewound_list causes n k)) ≡ Some (now, left))
-        × ((m : ℕ) → (later : List ((Cause × List ℕ) × Told)) × (account_told m steps ≡ account_told m left ++ later)) }
+        let causes = map (λ (s : Cause × EventOutcome). s.0) steps in
+        (now : List NodeRecord) × (left : List (Cause × EventOutcome)) × (run chip (events_in (rewound_list causes n k)) ≡ Some (now, left))
+        × ((m : ℕ) → (later : List ((Cause × List ℕ) × EventOutcome)) × (local_history_told m steps ≡ local_history_told m left ++ later)) }
 {}
 
 /// The events that a rollback removes can be moved to the end of the list by swaps of independent neighbours, if no look is
 /// among them: such a rollback is a sequence of undos, after swaps. A removed look can come before a kept step of a node at
 /// which it looked, and isn't swapped with it.
-#[tactic(auto, using(crate::proofs::Taken::taken_last))]
-pub fn taken_last()
-    ensures { (chip last : List NodeRecord) (events : List Event) (steps : List (Cause × Told)) (i : ℕ) →
+#[tactic(auto, using(crate::proofs::Taken::removed_events_swap_to_end))]
+pub fn removed_events_swap_to_end()
+    ensures { (chip last : List NodeRecord) (events : List Event) (steps : List (Cause × EventOutcome)) (i : ℕ) →
         run chip events ≡ Some (last, steps) →
-        let causes = map (λ (s : Cause × Told). s.0) steps in
-        let taken = without (map not (dependents causes i)) causes in
-        NoneLooks taken → AreEquivalent chip events (events_in (rest causes i ++ taken)) }
+        let causes = map (λ (s : Cause × EventOutcome). s.0) steps in
+        let taken = unflagged (map not (dependents causes i)) causes in
+        HasNoLooks taken → AreEquivalent chip events (events_in (rest causes i ++ taken)) }
 {}
 
 /// A chain in one of two equivalent lists is one in the other too: the same steps, each of which depends directly on the one before
 /// it by the same rule. Both lists must run, so that they have chains.
 #[tactic(auto, using(crate::proofs::Moved::equivalent_chains))]
 pub fn equivalent_chains()
-    ensures { (chip last now : List NodeRecord) (events others : List Event) (steps made : List (Cause × Told)) (links : List Link) →
+    ensures { (chip last now : List NodeRecord) (events others : List Event) (steps made : List (Cause × EventOutcome)) (links : List Link) →
         run chip events ≡ Some (last, steps) → run chip others ≡ Some (now, made) → AreEquivalent chip events others →
-        let causes = map (λ (s : Cause × Told). s.0) in
+        let causes = map (λ (s : Cause × EventOutcome). s.0) in
         IsChain (causes steps) links →
         (chain : List Link) × IsChain (causes made) chain × (links_by_events (causes steps) links ≡ links_by_events (causes made) chain) }
 {}

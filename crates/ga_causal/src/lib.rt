@@ -14,4 +14,4 @@ pub use ga_event::Cause;
 pub use ga_grid::Memory;
 pub use marks::{Marks, closure};
 pub use nodes::Nodes;
-pub use step::place_of;
+pub use step::position_of_step;

@@ -6,7 +6,7 @@ ghost use Rattle.ga_grid.specs.Grid.{neighbour_of};
 ghost use Rattle.ga_event.specs.Touches.{neighbours, meets};
 ghost use Rattle.ga_causal.specs.Dependence.{cause_nodes, cause_touches, is_marked};
 ghost use Rattle.ga_causal.specs.inner.{any_of};
-ghost use Rattle.ga_causal.specs.Equivalence.{sees};
+ghost use Rattle.ga_causal.specs.Equivalence.{observes};
 
 use ga_event::{Cause, Event};
 use ga_grid::{NODES, NodeId, neighbour};
@@ -47,7 +47,7 @@ impl Nodes {
     }
 
     /// Whether the event touches a node of the set.
-    pub fn met_by(&self, event: &Cause) -> bool
+    pub fn is_touched_by(&self, event: &Cause) -> bool
         ensures { result ≡ list_any (is_marked self.now) (cause_nodes event.now) }
     {
         match event.event {
@@ -83,7 +83,7 @@ impl Nodes {
     /// Adds the nodes that an event touches or looks at.
     #[tactic(auto, unfolding(ga_event::specs::Touches::seen_by))]
     pub fn add_seen(&mut self, event: &Cause)
-        ensures { (n : ℕ) → is_marked self.new n ≡ (is_marked self.old n || sees event.now n) }
+        ensures { (n : ℕ) → is_marked self.new n ≡ (is_marked self.old n || observes event.now n) }
     {
         match event.event {
             Event::Own(node) => {

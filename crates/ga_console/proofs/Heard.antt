@@ -9,9 +9,9 @@ use Rattle.std.proofs.lemmas.Bool.Decides.{nat_tests}
 use Rattle.ga_text.specs.Lines.{lines_of, ended, text_of, ended_lines, HasNoFeed}
 use Rattle.ga_console.specs.Session.{Answering, quit_line, Answers, HasNoQuit, heard_lines, HearsWholeLines, QuitsAfter, Serves, ServesToEnd, ServesToQuit, ServesToBound, ServesToFault, ServesCut}
 use Rattle.ga_display.specs.Texts.{no_input}
-use Rattle.ga_console.specs.declared.commands.Ending.{Ending}
-use Rattle.ga_console.specs.declared.commands.Ending.TheVariants.{Ended, Quit, Past, ReadFailed}
-use Rattle.ga_text.specs.declared.output.WriteFailed.{WriteFailed}
+use Rattle.ga_console.specs.declared.commands.CommandsEnd.{CommandsEnd}
+use Rattle.ga_console.specs.declared.commands.CommandsEnd.TheVariants.{Ended, Quit, Past, ReadFailed}
+use Rattle.ga_text.specs.declared.output.WriteError.{WriteError}
 use Rattle.ga_text.proofs.TextLemmas.{lines_front, ended_front, lines_last, ended_whole, more_lines}
 
 text_push : (lines : List (List ℕ)) (line tail : List ℕ) → text_of lines ++ (line ++ 10 ∷ tail) ≡ text_of (lines ++ line ∷ []) ++ tail
@@ -89,7 +89,7 @@ whole_quit room read rest heard after short (inl e) = inr (quit_line ∷ after, 
 whole_quit room read rest heard after short (inr e) = inl e.0
 
 -- If a write failed at last, what was written is in the script.
-pub cut_short : {M : Type 0} (A : Answering M) (room : ℕ) (m : M) (read rest text : List ℕ) (last : M) (ending : Result Ending WriteFailed)
+pub cut_short : {M : Type 0} (A : Answering M) (room : ℕ) (m : M) (read rest text : List ℕ) (last : M) (ending : Result CommandsEnd WriteError)
     → Serves A room m read rest text last ending → ServesCut A room m read rest text last
 cut_short A room m read rest text last (Ok Ended) s = record {
   heard = lines_of read;

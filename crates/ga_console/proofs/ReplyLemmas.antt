@@ -9,7 +9,7 @@ use Rattle.ga_event.specs.declared.event.Event.{Event}
 use Rattle.ga_causal.specs.declared.chain.Link.{Link}
 use Rattle.ga_event.specs.declared.made.Made.{Made}
 use Rattle.ga_event.specs.Told.{made_in}
-use Rattle.ga_lab.specs.Machine.{State, chip_of, step_answer, stepped, undone, rewind_answer, rewound, undo_answer, dropped_answer, history_of, told_of_kept, why_answer}
+use Rattle.ga_lab.specs.Machine.{State, chip_of, step_answer, stepped, undone, rewind_answer, rewound, undo_answer, dropped_answer, history_of, outcomes_of_kept, why_answer}
 use Rattle.ga_lab.specs.declared.fault.LabFault.{LabFault}
 use Rattle.ga_lab.specs.declared.fault.LabFault.TheVariants as fault
 use Rattle.ga_display.specs.declared.wording.Wording.{Wording}
@@ -111,22 +111,22 @@ pub why_independent : (w : Wording) (s : State) (from to : NodeId) (k j : ℕ) �
 why_independent w s from to k j e = why_done w s from to k j (Ok None) independent (inl (sym e)) refl
 
 -- the texts of the reports of a chain are those of its links
-told_texts : (s : State) (told : List Made) (links : List Link) → map Some told ≡ map (λ (link : Link). made_in (told_of_kept s) link.place) links
+told_texts : (s : State) (told : List Made) (links : List Link) → map Some told ≡ map (λ (link : Link). made_in (outcomes_of_kept s) link.place) links
     → flat_map made_text told ≡ flat_map (link_text s) links
 told_texts s [] [] e = refl
 told_texts s [] (link ∷ links) e = absurd (cc)
 told_texts s (made ∷ told) [] e = absurd (cc)
 told_texts s (made ∷ told) (link ∷ links) e =
-    let first : Some made ≡ made_in (told_of_kept s) link.place = cc in
-    let others : map Some told ≡ map (λ (link : Link). made_in (told_of_kept s) link.place) links = cc in
+    let first : Some made ≡ made_in (outcomes_of_kept s) link.place = cc in
+    let others : map Some told ≡ map (λ (link : Link). made_in (outcomes_of_kept s) link.place) links = cc in
     ap (λ (o : Option Made). told_text o ++ flat_map made_text told) first ∙ ap (λ z. link_text s link ++ z) (told_texts s told links others)
 
 pub why_told : (w : Wording) (s : State) (from to : NodeId) (k j : ℕ) (links : List Link) (told said : List Made) (text : List ℕ)
-    → why_answer s from.number k to.number j ≡ Ok (Some links) → map Some told ≡ map (λ (link : Link). made_in (told_of_kept s) link.place) links
+    → why_answer s from.number k to.number j ≡ Ok (Some links) → map Some told ≡ map (λ (link : Link). made_in (outcomes_of_kept s) link.place) links
     → said ≡ told → text ≡ chain_text (length said) ++ flat_map made_text said → Does w s (Why from k to j) text s
 why_told w s from to k j links told said text e same is t =
     let long : length told ≡ length links =
-    sym (length-map told (λ (made : Made). Some made)) ∙ ap length same ∙ length-map links (λ (link : Link). made_in (told_of_kept s) link.place) in
+    sym (length-map told (λ (made : Made). Some made)) ∙ ap length same ∙ length-map links (λ (link : Link). made_in (outcomes_of_kept s) link.place) in
     why_done w s from to k j (Ok (Some links)) text (inl (sym e))
     (t ∙ ap (λ z. chain_text (length z) ++ flat_map made_text z) is ∙ ap (λ (n : ℕ). chain_text n ++ flat_map made_text told) long
     ∙ ap (λ z. chain_text (length links) ++ z) (told_texts s told links same))

@@ -5,32 +5,32 @@ use Rattle.ga_image.proofs.Room.{short_image}
 use Rattle.ga_image.specs.declared.fault.ImageFault.{ImageFault}
 use Rattle.ga_text.specs.Input.{input_limit}
 use Rattle.ga_text.specs.Image.{HasNoEnd}
-use Rattle.ga_text.specs.Output.{IsSaid, ready}
+use Rattle.ga_text.specs.Output.{IsWritten, ready}
 use Rattle.ga_lab.specs.Machine.{State}
 use Rattle.ga_console.specs.Session.{Answering, Serves, Written}
 use Rattle.ga_console.specs.Run.{RunsBy, Served, Refused, Refuses, Opens, IsFault, IsImagePart, IsReadAlone, status_of}
 use Rattle.ga_console.specs.inner.Run.{AfterImage}
-use Rattle.ga_console.specs.declared.commands.Ending.{Ending}
-use Rattle.ga_console.specs.declared.commands.Ending.TheVariants.{Ended, Quit, Past, ReadFailed}
-use Rattle.ga_text.specs.declared.output.WriteFailed.{WriteFailed}
+use Rattle.ga_console.specs.declared.commands.CommandsEnd.{CommandsEnd}
+use Rattle.ga_console.specs.declared.commands.CommandsEnd.TheVariants.{Ended, Quit, Past, ReadFailed}
+use Rattle.ga_text.specs.declared.output.WriteError.{WriteError}
 use Rattle.ga_console.specs.declared.run.Status.{Status}
 use Rattle.ga_console.specs.declared.run.Status.TheVariants.{Done, ImageRefused, StreamFault, NotFinished}
 
 -- a text that nothing was written of yet
-pub said_fresh : (contents : Option (List ℕ)) (before text pending : List ℕ) → contents ≡ Some before → pending ≡ text → IsSaid contents before text pending
-said_fresh contents before text pending e p = record { sent = []; held = e ∙ ap Some (sym (append-nil before)); splits = sym p }
+pub written_fresh : (contents : Option (List ℕ)) (before text pending : List ℕ) → contents ≡ Some before → pending ≡ text → IsWritten contents before text pending
+written_fresh contents before text pending e p = record { sent = []; held = e ∙ ap Some (sym (append-nil before)); splits = sym p }
 
 -- and all was written of
-pub all_sent : (contents : Option (List ℕ)) (before text : List ℕ) (h : IsSaid contents before text []) → h.sent ≡ text
+pub all_sent : (contents : Option (List ℕ)) (before text : List ℕ) (h : IsWritten contents before text []) → h.sent ≡ text
 all_sent contents before text h = sym (h.splits ∙ append-nil h.sent)
 
 -- the same machine under another name
-pub serves_from : {M : Type 0} (A : Answering M) (room : ℕ) (m other : M) (read rest text : List ℕ) (last : M) (ending : Result Ending WriteFailed) → m ≡ other
+pub serves_from : {M : Type 0} (A : Answering M) (room : ℕ) (m other : M) (read rest text : List ℕ) (last : M) (ending : Result CommandsEnd WriteError) → m ≡ other
     → Serves A room m read rest text last ending → Serves A room other read rest text last ending
 serves_from {M} A room m other read rest text last ending e s =
     let P : M → Type 0 = λ x. Serves A room x read rest text last ending in subst P e s
 
-pub runs_served : {M : Type 0} (A : Answering M) (begin : State → M) (limit : ℕ) (read rest text : List ℕ) (ending : Result Ending WriteFailed) (status : Status) → status ≡ status_of ending
+pub runs_served : {M : Type 0} (A : Answering M) (begin : State → M) (limit : ℕ) (read rest text : List ℕ) (ending : Result CommandsEnd WriteError) (status : Status) → status ≡ status_of ending
     → Served A begin limit read rest text ending → RunsBy A begin limit read rest text status
 runs_served A begin limit read rest text ending Done e s = (ending, sym e, s)
 runs_served A begin limit read rest text (Ok Ended) ImageRefused e s = cc
@@ -56,7 +56,7 @@ pub refused_in : (image ahead rest : List ℕ) (fault : ImageFault) → IsReadAl
 refused_in image ahead rest fault part (inl e) = inl e
 refused_in image ahead rest fault part (inr e) = inr (record { image = image; ahead = ahead; splits = refl; part = part; faulty = e })
 
-served_in : {M : Type 0} (A : Answering M) (begin : State → M) (limit : ℕ) (image commands rest said text : List ℕ) (machine : State) (last : M) (ending : Result Ending WriteFailed) → IsImagePart image commands rest
+served_in : {M : Type 0} (A : Answering M) (begin : State → M) (limit : ℕ) (image commands rest said text : List ℕ) (machine : State) (last : M) (ending : Result CommandsEnd WriteError) → IsImagePart image commands rest
     → Opens image limit machine → Serves A (input_limit - length image) (begin machine) commands rest said last ending → Written ending (ready ++ said) text
     → Served A begin limit (image ++ commands) rest text ending
 served_in A begin limit image commands rest said text machine last ending part opens serves written =

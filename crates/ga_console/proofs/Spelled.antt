@@ -7,7 +7,7 @@ use Rattle.ga_grid.specs.declared.node_id.NodeId.{NodeId}
 use Rattle.ga_console.specs.declared.command.Command.{Command}
 use Rattle.ga_console.specs.declared.command.Command.TheVariants.{Step, Back, Rewind, Node, Memory, Trace, Why, Count, Dump, Quit}
 use Rattle.ga_text.specs.Digits.{name_of_node, byte_in}
-use Rattle.ga_text.specs.Parsing.{IsNumber, SpellsAddress, cut, node_in, number_in}
+use Rattle.ga_text.specs.Parsing.{IsNumber, SpellsAddress, split_at_space, parse_node, parse_number}
 use Rattle.ga_console.specs.Commands.{SpellsCommand}
 use Rattle.ga_console.specs.inner.Parsing.{step_in, rewind_in, memory_in, why_in, alone, with_arguments, command_by, command_in}
 use Rattle.ga_text.proofs.Taking.{cut_joined, word_cut, first_step, mapped, node_name, name_node, name_word, number_decimal, decimal_number, decimal_word, byte_address, address_byte}
@@ -17,9 +17,9 @@ use Rattle.ga_text.proofs.Taking.{cut_joined, word_cut, first_step, mapped, node
 step_spelled : (text : List ℕ) (step : NodeId × ℕ) → step_in text ≡ Some step → IsNumber step.1 × (text ≡ name_of_node step.0 ++ 32 ∷ decimal step.1)
 unfolding step_in
 step_spelled text step e =
-    let (parts, whole, rest) = first_step (cut text) _ step e in
-    let (node, name, numbered) = first_step (node_in parts.0) _ step rest in
-    let (k, digits, made) = first_step (number_in parts.1) _ step numbered in
+    let (parts, whole, rest) = first_step (split_at_space text) _ step e in
+    let (node, name, numbered) = first_step (parse_node parts.0) _ step rest in
+    let (k, digits, made) = first_step (parse_number parts.1) _ step numbered in
     let same : (node, k) ≡ step = cc in
     let (is, text_is) = number_decimal parts.1 k digits in
     let P : NodeId × ℕ → Type 0 = λ s. IsNumber s.1 × (text ≡ name_of_node s.0 ++ 32 ∷ decimal s.1) in
@@ -30,10 +30,10 @@ Named : List ℕ → List ℕ → List ℕ → Option Command → Command → Ty
 Named name word text found c = name ≡ word → found ≡ Some c → SpellsCommand c (name ++ 32 ∷ text)
 
 node_spelled : (word text : List ℕ) (f : NodeId → Command) (name : List ℕ) (c : Command)
-    → ((node : NodeId) (line : List ℕ) → line ≡ word ++ 32 ∷ name_of_node node → SpellsCommand (f node) line) → Named name word text (option_map f (node_in text)) c
+    → ((node : NodeId) (line : List ℕ) → line ≡ word ++ 32 ∷ name_of_node node → SpellsCommand (f node) line) → Named name word text (option_map f (parse_node text)) c
 unfolding Named
 node_spelled word text f name c spells is e =
-    let (node, found, same) = mapped (node_in text) f c e in
+    let (node, found, same) = mapped (parse_node text) f c e in
     let P : Command → Type 0 = λ d. SpellsCommand d (name ++ 32 ∷ text) in
     subst P same (spells node (name ++ 32 ∷ text) (ap (λ (t : List ℕ). t ++ 32 ∷ text) is ∙ ap (λ (t : List ℕ). word ++ 32 ∷ t) (node_name text node found)))
 
@@ -48,8 +48,8 @@ rewind_spelled text name c is e =
 memory_spelled : (text name : List ℕ) (c : Command) → Named name (codes "mem") text (memory_in text) c
 unfolding Named memory_in
 memory_spelled text name c is e =
-    let (parts, whole, rest) = first_step (cut text) _ c e in
-    let (node, first, last) = first_step (node_in parts.0) _ c rest in
+    let (parts, whole, rest) = first_step (split_at_space text) _ c e in
+    let (node, first, last) = first_step (parse_node parts.0) _ c rest in
     let (address, digits, made) = first_step (byte_in parts.1) _ c last in
     let same : Memory node address ≡ c = cc in
     let P : Command → Type 0 = λ d. SpellsCommand d (name ++ 32 ∷ text) in
@@ -63,10 +63,10 @@ memory_spelled text name c is e =
 why_spelled : (text name : List ℕ) (c : Command) → Named name (codes "why") text (why_in text) c
 unfolding Named why_in
 why_spelled text name c is e =
-    let (first, whole, after) = first_step (cut text) _ c e in
-    let (second, rest, after_second) = first_step (cut first.1) _ c after in
-    let (from, from_found, after_from) = first_step (node_in first.0) _ c after_second in
-    let (k, k_found, after_k) = first_step (number_in second.0) _ c after_from in
+    let (first, whole, after) = first_step (split_at_space text) _ c e in
+    let (second, rest, after_second) = first_step (split_at_space first.1) _ c after in
+    let (from, from_found, after_from) = first_step (parse_node first.0) _ c after_second in
+    let (k, k_found, after_k) = first_step (parse_number second.0) _ c after_from in
     let (to, to_found, made) = first_step (step_in second.1) _ c after_k in
     let same : Why from k to.0 to.1 ≡ c = cc in
     let (k_small, k_text) = number_decimal second.0 k k_found in
@@ -163,7 +163,7 @@ spelled_read Quit line is = rw is refl
 
 -- a line spells what it is read as
 pub read_spelled : (c : Command) (line : List ℕ) → command_in line ≡ Some c → SpellsCommand c line
-read_spelled c line e = by_cut (cut line) (cut_joined line) e where
+read_spelled c line e = by_cut (split_at_space line) (cut_joined line) e where
   by_cut : (found : Option (List ℕ × List ℕ)) → ((parts : List ℕ × List ℕ) → found ≡ Some parts → line ≡ parts.0 ++ 32 ∷ parts.1) → command_by found line ≡ Some c → SpellsCommand c line
   by_cut None is e = alone_spelled line c e
   by_cut (Some parts) is e =

@@ -7,12 +7,12 @@ use Rattle.ga_text.specs.Lines.{Bytes, Text, lines_of}
 use Rattle.ga_image.specs.Grammar.{IsImage}
 use Rattle.ga_image.specs.FirstFault.{IsFirstFault}
 use Rattle.ga_image.specs.declared.fault.ImageFault.{ImageFault}
-use Rattle.ga_lab.specs.Machine.{State, first}
+use Rattle.ga_lab.specs.Machine.{State, initial_state}
 use Rattle.ga_shared.specs.declared.call.Call.{Call}
 use Rattle.ga_shared.specs.declared.call.Call.TheVariants.{Step}
 use Rattle.ga_shared.specs.declared.call.Entry.{Entry}
 use Rattle.ga_shared.specs.Log.{IsLegal, calls_of}
-use Rattle.ga_text.specs.Output.{Begins}
+use Rattle.ga_text.specs.Output.{TextHasPrefix}
 use Rattle.ga_text.specs.Image.{HasNoEnd}
 use Rattle.ga_console.specs.Run.{IsReadAlone}
 use Rattle.ga_display.specs.Texts.{image_fault_text}
@@ -26,7 +26,7 @@ calls_by worker count = replicate count (Step (node_id worker))
 -- The calls of all workers, in the order in which they had the lock, lead the machine from the load to this lab.
 pub record IsRaceOfWorkers (load : List NodeRecord) (limit workers calls : ℕ) (lab : State) : Type 0 where
   pub log : List Entry
-  pub legal : IsLegal (first load limit) log lab
+  pub legal : IsLegal (initial_state load limit) log lab
   pub by_worker : (w : ℕ) → w < workers → calls_of w log ≡ calls_by w calls
   pub count : length log ≡ workers * calls
 
@@ -53,7 +53,7 @@ pub record IsRefusal (image text : Text) : Type 0 where
 pub record IsCutShort (IsText : Text → Type 0) (text : Text) : Type 0 where
   pub whole : Text
   pub is_text : IsText whole
-  pub front : Begins whole text
+  pub front : TextHasPrefix whole text
 
 -- P holds of the image that was read, and nothing was read after it
 abbrev pub OfImage : Bytes → Bytes → (Text → Type 0) → Type 0

@@ -8,7 +8,7 @@ use Rattle.ga_text.specs.Lines.{Text, Line, longest}
 use Rattle.ga_image.specs.Printing.{printed}
 use Rattle.ga_event.specs.Told.{made_in}
 use Rattle.ga_event.specs.declared.made.Made.{Made}
-use Rattle.ga_lab.specs.Machine.{State, chip_of, step_answer, stepped, undo_answer, undone, rewind_answer, rewound, word_at, history_of, told_of_kept, why_answer}
+use Rattle.ga_lab.specs.Machine.{State, chip_of, step_answer, stepped, undo_answer, undone, rewind_answer, rewound, word_at, history_of, outcomes_of_kept, why_answer}
 use Rattle.ga_lab.specs.declared.fault.LabFault.{LabFault}
 use Rattle.ga_display.specs.declared.wording.Wording.{Wording}
 use Rattle.ga_display.specs.declared.wording.Wording.TheVariants.{Brief}
@@ -45,7 +45,7 @@ told_text (Some made) = made_text made
 
 -- the report of the event of a link
 abbrev pub link_text : State → Link → Text
-link_text s link = told_text (made_in (told_of_kept s) link.place)
+link_text s link = told_text (made_in (outcomes_of_kept s) link.place)
 
 -- the events of a chain: how many, and a line for each
 abbrev pub links_text : State → List Link → Text

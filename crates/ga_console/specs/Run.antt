@@ -8,15 +8,15 @@ use Rattle.ga_image.specs.Grammar.{IsImage}
 use Rattle.ga_image.specs.FirstFault.{no_memory, IsFirstFault}
 use Rattle.ga_image.specs.declared.fault.ImageFault.{ImageFault}
 use Rattle.ga_text.specs.Input.{input_limit, block_size}
-use Rattle.ga_text.specs.Output.{Begins, ready}
+use Rattle.ga_text.specs.Output.{TextHasPrefix, ready}
 use Rattle.ga_text.specs.Image.{EndsAtEnd, HasNoEnd}
-use Rattle.ga_lab.specs.Machine.{State, first}
+use Rattle.ga_lab.specs.Machine.{State, initial_state}
 use Rattle.ga_display.specs.Texts.{image_fault_text}
 use Rattle.ga_console.specs.Session.{Answering, Serves, Written}
 use Rattle.ga_console.specs.Replies.{LineAnswer}
-use Rattle.ga_console.specs.declared.commands.Ending.{Ending}
-use Rattle.ga_console.specs.declared.commands.Ending.TheVariants.{Ended, Quit, Past, ReadFailed}
-use Rattle.ga_text.specs.declared.output.WriteFailed.{WriteFailed}
+use Rattle.ga_console.specs.declared.commands.CommandsEnd.{CommandsEnd}
+use Rattle.ga_console.specs.declared.commands.CommandsEnd.TheVariants.{Ended, Quit, Past, ReadFailed}
+use Rattle.ga_text.specs.declared.output.WriteError.{WriteError}
 use Rattle.ga_console.specs.declared.run.Status.{Status}
 use Rattle.ga_console.specs.declared.run.Status.TheVariants.{Done, ImageRefused, StreamFault, NotFinished}
 
@@ -34,7 +34,7 @@ IsReadAlone image ahead rest = (EndsAtEnd image × (length ahead < block_size))
     ⊎ ((length image ≡ input_limit) × (length ahead ≡ 1) × HasNoEnd image)
 
 -- the image was accepted, and the commands after it were served to this ending
-pub record Served {M : Type 0} (A : Answering M) (begin : State → M) (limit : ℕ) (read rest : Bytes) (text : Text) (ending : Result Ending WriteFailed) : Type 0 where
+pub record Served {M : Type 0} (A : Answering M) (begin : State → M) (limit : ℕ) (read rest : Bytes) (text : Text) (ending : Result CommandsEnd WriteError) : Type 0 where
   pub image : Text
   pub commands : Bytes
   pub chip : List NodeState
@@ -43,7 +43,7 @@ pub record Served {M : Type 0} (A : Answering M) (begin : State → M) (limit : 
   pub part : IsImagePart image commands rest
   pub accepted : IsImage (lines_of image) chip
   pub last : M
-  pub serves : Serves A (input_limit - length image) (begin (first (records_of chip) limit)) commands rest said last ending
+  pub serves : Serves A (input_limit - length image) (begin (initial_state (records_of chip) limit)) commands rest said last ending
   pub written : Written ending (ready ++ said) text
 
 -- the image was refused with its first fault, and nothing was read after it
@@ -58,7 +58,7 @@ pub record Faulty (read rest : Bytes) (fault : ImageFault) : Type 0 where
 abbrev pub Refused : Bytes → Bytes → ImageFault → Type 0
 Refused read rest fault = (fault ≡ no_memory) ⊎ Faulty read rest fault
 
-abbrev pub status_of : Result Ending WriteFailed → Status
+abbrev pub status_of : Result CommandsEnd WriteError → Status
 status_of (Ok Ended) = Done
 status_of (Ok Quit) = Done
 status_of (Ok Past) = StreamFault
@@ -67,15 +67,15 @@ status_of (Err failed) = StreamFault
 
 -- What a session may have written, where read was read of its input and rest is left of it.
 abbrev pub RunsBy : {M : Type 0} → Answering M → (State → M) → ℕ → Bytes → Bytes → Text → Status → Type 0
-RunsBy A begin limit read rest text Done = (ending : Result Ending WriteFailed) × (status_of ending ≡ Done) × Served A begin limit read rest text ending
+RunsBy A begin limit read rest text Done = (ending : Result CommandsEnd WriteError) × (status_of ending ≡ Done) × Served A begin limit read rest text ending
 RunsBy A begin limit read rest text ImageRefused = (fault : ImageFault) × Refused read rest fault × (text ≡ image_fault_text fault)
 -- the command part failed, or a read in the image part, or a write of the refusal
 RunsBy A begin limit read rest text StreamFault =
-    ((ending : Result Ending WriteFailed)
+    ((ending : Result CommandsEnd WriteError)
     × (status_of ending ≡ StreamFault)
     × Served A begin limit read rest text ending)
     ⊎ ((text ≡ []) × HasNoEnd read)
-    ⊎ ((fault : ImageFault) × Refused read rest fault × Begins (image_fault_text fault) text)
+    ⊎ ((fault : ImageFault) × Refused read rest fault × TextHasPrefix (image_fault_text fault) text)
 RunsBy A begin limit read rest text NotFinished = ⊥
 
 -- The debugger's session.
@@ -86,12 +86,12 @@ Runs limit read rest text status = RunsBy LineAnswer (λ s. s) limit read rest t
 abbrev pub Refuses : ImageFault → Text → Status → Type 0
 Refuses fault text Done = ⊥
 Refuses fault text ImageRefused = text ≡ image_fault_text fault
-Refuses fault text StreamFault = Begins (image_fault_text fault) text
+Refuses fault text StreamFault = TextHasPrefix (image_fault_text fault) text
 Refuses fault text NotFinished = ⊥
 
 -- an image was accepted, and the machine has its chip as its load
 abbrev pub Opens : Text → ℕ → State → Type 0
-Opens image limit machine = (chip : List NodeState) × IsImage (lines_of image) chip × (machine ≡ first (records_of chip) limit)
+Opens image limit machine = (chip : List NodeState) × IsImage (lines_of image) chip × (machine ≡ initial_state (records_of chip) limit)
 
 -- an image is refused with its first fault, or for want of memory
 abbrev pub IsFault : Text → ImageFault → Type 0

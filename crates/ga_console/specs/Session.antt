@@ -3,13 +3,13 @@
 use Rattle.std.specs.Prelude.{codes, ◌≡◌, ◌≢◌, ℕ, ◌+◌, ◌<◌, ◌≤◌, ◌⊎◌, List, [], ◌∷◌, ◌++◌, length, take, nat_le, if◌then◌else◌, Result, Ok, Err}
 use Rattle.ga_text.specs.Lines.{Text, Line, Bytes, longest, lines_of, ended_lines}
 use Rattle.std.specs.List.{AllByRecursion}
-use Rattle.ga_text.specs.Output.{Begins}
+use Rattle.ga_text.specs.Output.{TextHasPrefix}
 use Rattle.ga_display.specs.Texts.{no_input}
-use Rattle.ga_console.specs.declared.commands.Ending.{Ending}
-use Rattle.ga_console.specs.declared.commands.Ending.TheVariants.{Ended, Quit, Past, ReadFailed}
-use Rattle.ga_console.specs.declared.responder.Turn.{Turn}
-use Rattle.ga_console.specs.declared.responder.Turn.TheVariants as turn
-use Rattle.ga_text.specs.declared.output.WriteFailed.{WriteFailed}
+use Rattle.ga_console.specs.declared.commands.CommandsEnd.{CommandsEnd}
+use Rattle.ga_console.specs.declared.commands.CommandsEnd.TheVariants.{Ended, Quit, Past, ReadFailed}
+use Rattle.ga_console.specs.declared.responder.LineAction.{LineAction}
+use Rattle.ga_console.specs.declared.responder.LineAction.TheVariants as turn
+use Rattle.ga_text.specs.declared.output.WriteError.{WriteError}
 
 -- ---- how a session answers one line, whatever its machine is (docs/REFERENCE.md, "Sessions"; this project's own)
 
@@ -26,7 +26,7 @@ abbrev pub AnswersLine : {M : Type 0} → Answering M → M → Line → Text �
 AnswersLine A m line answer new = (part : Line) → line ≡ take (longest + 1) part → A m part answer new × (part ≢ quit_line)
 
 -- a line is answered, as far as the answer can be written, or ends the session
-abbrev pub Turns : {M : Type 0} → Answering M → M → Line → M → Result Turn WriteFailed → Text → Type 0
+abbrev pub Turns : {M : Type 0} → Answering M → M → Line → M → Result LineAction WriteError → Text → Type 0
 Turns A m line new (Ok turn.Answered) answer = AnswersLine A m line answer new
 Turns A m line new (Ok turn.Quit) answer = (line ≡ quit_line) × (new ≡ m) × (answer ≡ [])
 Turns A m line new (Err failed) answer = AnswersLine A m line answer new
@@ -106,7 +106,7 @@ pub record ServesCut {M : Type 0} (A : Answering M) (room : ℕ) (m : M) (read r
   pub whole : HearsWholeLines room read rest heard
 
 -- This text may have been said at this ending.
-abbrev pub Serves : {M : Type 0} → Answering M → ℕ → M → Bytes → Bytes → Text → M → Result Ending WriteFailed → Type 0
+abbrev pub Serves : {M : Type 0} → Answering M → ℕ → M → Bytes → Bytes → Text → M → Result CommandsEnd WriteError → Type 0
 Serves A room m read rest text last (Ok Ended) = ServesToEnd A room m read rest text last
 Serves A room m read rest text last (Ok Quit) = ServesToQuit A room m read rest text last
 Serves A room m read rest text last (Ok Past) = ServesToBound A room m read rest text last
@@ -114,6 +114,6 @@ Serves A room m read rest text last (Ok ReadFailed) = ServesToFault A room m rea
 Serves A room m read rest text last (Err failed) = ServesCut A room m read rest text last
 
 -- What is written of all that was said: the whole, or where a write failed, a front of it.
-abbrev pub Written : Result Ending WriteFailed → Text → Bytes → Type 0
+abbrev pub Written : Result CommandsEnd WriteError → Text → Bytes → Type 0
 Written (Ok ending) said text = text ≡ said
-Written (Err failed) said text = Begins said text
+Written (Err failed) said text = TextHasPrefix said text

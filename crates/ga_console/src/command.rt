@@ -2,14 +2,14 @@
 
 ghost use Rattle.std.specs.Prelude.{◌≡◌, false, IfSome, IfNone, option_map};
 ghost use Rattle.ga_console.specs.Commands.{SpellsCommand};
-ghost use Rattle.ga_text.specs.Parsing.{cut, node_in, number_in};
+ghost use Rattle.ga_text.specs.Parsing.{split_at_space, parse_node, parse_number};
 ghost use Rattle.ga_console.specs.inner.Parsing.{step_in, rewind_in, memory_in, why_in, alone, with_arguments, is_head};
 ghost use Rattle.ga_console.specs.declared.command.Command.{Command};
 ghost use Rattle.ga_console.specs.declared.command.Command.TheVariants.{Step, Node, Trace};
 
-use super::ahead::{node_ahead, word_of};
+use super::fast_path::{node_ahead, word_of};
 use ga_grid::NodeId;
-use ga_text::{byte_of, cut, node_in, number_in};
+use ga_text::{parse_hex_byte, parse_node, parse_number, split_at_space};
 
 /// The value in a table for a name, if it is the text; otherwise nothing.
 macro_rules! by_name {
@@ -146,7 +146,7 @@ fn memory_shown(line: &[u8]) -> Option<Command>
         return None;
     }
     let node = node_ahead(*row, *tens, *ones, b'\n')?;
-    let address = byte_of(&[*high, *low])?;
+    let address = parse_hex_byte(&[*high, *low])?;
     Some(Command::Memory(node, address))
 }
 
@@ -156,7 +156,7 @@ fn spelled_by(line: &[u8]) -> Option<Command>
     ensures only { IfSome result (λ command. (other : Command) → SpellsCommand other line.now → other ≡ command) }
     ensures none { IfNone result ((command : Command) → ¬ SpellsCommand command line.now) }
 {
-    match cut(line) {
+    match split_at_space(line) {
         Some((name, arguments)) => with_arguments(name, arguments),
         None => alone(line),
     }
@@ -192,21 +192,21 @@ fn with_arguments(name: &[u8], arguments: &[u8]) -> Option<Command>
 }
 
 fn step_command(arguments: &[u8]) -> Option<Command>
-    ensures { result ≡ option_map Step (node_in arguments.now) }
+    ensures { result ≡ option_map Step (parse_node arguments.now) }
 {
-    Some(Command::Step(node_in(arguments)?))
+    Some(Command::Step(parse_node(arguments)?))
 }
 
 fn node_command(arguments: &[u8]) -> Option<Command>
-    ensures { result ≡ option_map Node (node_in arguments.now) }
+    ensures { result ≡ option_map Node (parse_node arguments.now) }
 {
-    Some(Command::Node(node_in(arguments)?))
+    Some(Command::Node(parse_node(arguments)?))
 }
 
 fn trace_command(arguments: &[u8]) -> Option<Command>
-    ensures { result ≡ option_map Trace (node_in arguments.now) }
+    ensures { result ≡ option_map Trace (parse_node arguments.now) }
 {
-    Some(Command::Trace(node_in(arguments)?))
+    Some(Command::Trace(parse_node(arguments)?))
 }
 
 #[tactic(auto, unfolding(crate::specs::inner::Parsing::rewind_in))]
@@ -221,18 +221,18 @@ fn rewind_of(arguments: &[u8]) -> Option<Command>
 fn memory_of(arguments: &[u8]) -> Option<Command>
     ensures { result ≡ memory_in arguments.now }
 {
-    let (node, address) = cut(arguments)?;
-    Some(Command::Memory(node_in(node)?, byte_of(address)?))
+    let (node, address) = split_at_space(arguments)?;
+    Some(Command::Memory(parse_node(node)?, parse_hex_byte(address)?))
 }
 
 #[tactic(auto, unfolding(crate::specs::inner::Parsing::why_in))]
 fn why_of(arguments: &[u8]) -> Option<Command>
     ensures { result ≡ why_in arguments.now }
 {
-    let (from, rest) = cut(arguments)?;
-    let (from_step, rest) = cut(rest)?;
-    let from = node_in(from)?;
-    let from_step = number_in(from_step)?;
+    let (from, rest) = split_at_space(arguments)?;
+    let (from_step, rest) = split_at_space(rest)?;
+    let from = parse_node(from)?;
+    let from_step = parse_number(from_step)?;
     let (to, to_step) = step_of(rest)?;
     Some(Command::Why {
         from,
@@ -247,6 +247,6 @@ fn why_of(arguments: &[u8]) -> Option<Command>
 fn step_of(text: &[u8]) -> Option<(NodeId, u32)>
     ensures { result ≡ step_in text.now }
 {
-    let (node, step) = cut(text)?;
-    Some((node_in(node)?, number_in(step)?))
+    let (node, step) = split_at_space(text)?;
+    Some((parse_node(node)?, parse_number(step)?))
 }

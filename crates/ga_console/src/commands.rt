@@ -2,18 +2,18 @@
 ghost use Rattle.std.specs.Prelude.{◌≡◌, ◌-◌, ◌++◌, Some};
 ghost use Rattle.ga_text.specs.Lines.{Bytes};
 ghost use Rattle.ga_text.specs.Input.{IsWithin, input_limit};
-ghost use Rattle.ga_text.specs.Output.{IsSaid, IsSaidOrCut, IsSameStream};
+ghost use Rattle.ga_text.specs.Output.{IsWritten, IsWrittenOrTruncated, IsSameStream};
 ghost use Rattle.ga_console.specs.Session.{Serves, Written};
 
-use super::ahead::{Ahead, ahead_of};
-use super::responder::{Responder, Turn};
-use ga_text::{Input, LineBuffer, LineEnd, WriteFailed, Writer, read_line};
+use super::fast_path::{PrefixCommand, parse_prefix_command};
+use super::responder::{LineAction, Responder};
+use ga_text::{Input, LineBuffer, LineEnd, WriteError, Writer, read_line};
 use std::alloc::Global;
 use std::io::{Read, Write};
 
 /// How the command part ended.
 #[derive(Clone, Copy, PartialEq, Eq)]
-pub enum Ending {
+pub enum CommandsEnd {
     /// The input ended.
     Ended,
     /// A line `quit` came.
@@ -34,11 +34,11 @@ pub fn serve<S: Responder, R: Read, W: Write>(
     reader: &mut R,
     writer: &mut Writer<'_, W>,
     session: &mut S,
-) -> Result<Ending, WriteFailed>
+) -> Result<CommandsEnd, WriteError>
     requires { IsWithin input.old }
     ensures same { IsSameStream writer.old writer.new }
     ensures serves { (left before said : Bytes) → R.remaining reader.old ≡ Some left →
-        IsSaid (W.contents writer.old.stream.now) before said writer.old.pending.items →
+        IsWritten (W.contents writer.old.stream.now) before said writer.old.pending.items →
         (read rest text sent : Bytes)
         × (input.old.bytes ++ left ≡ read ++ rest) × (R.remaining reader.new ≡ Some rest)
         × (W.contents writer.new.stream.now ≡ Some (before ++ sent))
@@ -46,7 +46,7 @@ pub fn serve<S: Responder, R: Read, W: Write>(
         × Written result (said ++ text) sent }
 {
     let ending = answer_lines(alloc, input, reader, writer, session)?;
-    writer.send()?;
+    writer.flush()?;
     Ok(ending)
 }
 
@@ -57,54 +57,54 @@ fn answer_lines<S: Responder, R: Read, W: Write>(
     reader: &mut R,
     writer: &mut Writer<'_, W>,
     session: &mut S,
-) -> Result<Ending, WriteFailed>
+) -> Result<CommandsEnd, WriteError>
     requires { IsWithin input.old }
     ensures same { IsSameStream writer.old writer.new }
     ensures serves { (left before said : Bytes) → R.remaining reader.old ≡ Some left →
-        IsSaid (W.contents writer.old.stream.now) before said writer.old.pending.items →
+        IsWritten (W.contents writer.old.stream.now) before said writer.old.pending.items →
         (read rest text : Bytes)
         × (input.old.bytes ++ left ≡ read ++ rest) × (R.remaining reader.new ≡ Some rest)
         × Serves S.answers (input_limit - input.old.taken) session.old read rest text session.new result
-        × IsSaidOrCut result (W.contents writer.new.stream.now) before (said ++ text) writer.new.pending.items }
+        × IsWrittenOrTruncated result (W.contents writer.new.stream.now) before (said ++ text) writer.new.pending.items }
 {
     let mut line = LineBuffer::new();
     'lines: loop {
         let text = input.unread();
-        match ahead_of(text) {
-            Ahead::Spelled(command, count) => {
+        match parse_prefix_command(text) {
+            PrefixCommand::Spelled(command, count) => {
                 input.skip(count);
                 session.obey(alloc, command, writer)?;
                 continue 'lines;
             }
-            Ahead::Other(size) => {
+            PrefixCommand::Other(size) => {
                 let turn = session.answer(alloc, &text[..size], writer)?;
                 input.skip(size);
                 match turn {
-                    Turn::Quit => return Ok(Ending::Quit),
-                    Turn::Answered => continue 'lines,
+                    LineAction::Quit => return Ok(CommandsEnd::Quit),
+                    LineAction::Answered => continue 'lines,
                 }
             }
-            Ahead::Nothing => {}
+            PrefixCommand::Nothing => {}
         }
         match read_line(input, reader, writer, &mut line)? {
             LineEnd::Feed => match session.answer(alloc, line.as_slice(), writer)? {
-                Turn::Quit => return Ok(Ending::Quit),
-                Turn::Answered => {}
+                LineAction::Quit => return Ok(CommandsEnd::Quit),
+                LineAction::Answered => {}
             },
             LineEnd::Last => {
                 if line.is_empty() {
-                    return Ok(Ending::Ended);
+                    return Ok(CommandsEnd::Ended);
                 }
                 return match session.answer(alloc, line.as_slice(), writer)? {
-                    Turn::Quit => Ok(Ending::Quit),
-                    Turn::Answered => Ok(Ending::Ended),
+                    LineAction::Quit => Ok(CommandsEnd::Quit),
+                    LineAction::Answered => Ok(CommandsEnd::Ended),
                 };
             }
             LineEnd::Past => {
-                writer.say(b"no 33 input\n")?;
-                return Ok(Ending::Past);
+                writer.write_text(b"no 33 input\n")?;
+                return Ok(CommandsEnd::Past);
             }
-            LineEnd::ReadFailed => return Ok(Ending::ReadFailed),
+            LineEnd::ReadFailed => return Ok(CommandsEnd::ReadFailed),
         }
     }
 }

@@ -10,7 +10,7 @@ ghost use Rattle.ga_console.specs.Run.{Opens};
 use ga_lab::laws::machine_stays_steady;
 
 /// In each chip to which a session comes, each node's wait fits its slot and its stop: so its dump is an image.
-pub fn stays_fit()
+pub fn session_keeps_steady()
     ensures { (image : Bytes) (limit : ℕ) (machine last : State) (lines : List Line) →
         Opens image limit machine → Reaches machine lines last → AreSteady (chip_of last) }
 {

@@ -9,7 +9,7 @@ use super::run::{Status, refuse};
 use ga_grid::{Chip, NodeId};
 use ga_image::{ImageCause, parse};
 use ga_shared::{Call, Closed, Free, race};
-use ga_text::{TextBuffer, WholeRead, WriteFailed, push_number, push_text, read_whole, write_all};
+use ga_text::{TextBuffer, WholeRead, WriteError, push_number, push_text, read_whole, write_all};
 use std::alloc::{AllocError, Global};
 use std::io::{Read, Write};
 use std::sync::Wait;
@@ -127,7 +127,7 @@ fn report<W: Write>(writer: &mut W, closed: &Closed) -> Status
     put_report(&mut text, closed);
     match write_all(writer, text.as_slice()) {
         Ok(()) => Status::Done,
-        Err(WriteFailed) => Status::StreamFault,
+        Err(WriteError) => Status::StreamFault,
     }
 }
 

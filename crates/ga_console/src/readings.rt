@@ -1,41 +1,49 @@
 //! The commands that read the machine and leave it as it is.
-ghost use Rattle.ga_text.specs.Output.{Says};
+ghost use Rattle.ga_text.specs.Output.{WritesSome};
 ghost use Rattle.std.specs.Prelude.{◌≡◌, ◌++◌, length, flat_map};
 ghost use Rattle.ga_display.specs.Texts.{made_text, chain_text};
 ghost use Rattle.ga_console.specs.Replies.{Does, steps_text};
 ghost use Rattle.ga_display.specs.declared.wording.Wording.{Wording as Worded};
 ghost use Rattle.ga_console.specs.declared.command.Command.TheVariants.{Node, Memory, Trace, Why, Count, Dump};
 
-use ga_display::{Wording, say_chain_count, say_counts, say_made, say_memory, say_node, say_trace};
+use ga_display::{
+    Wording, write_chain_head, write_counts, write_event, write_memory, write_node,
+    write_trace_head,
+};
 use ga_grid::NodeId;
 use ga_image::print;
 use ga_lab::{Lab, LabFault, Made};
-use ga_text::{Spoken, Writer};
+use ga_text::{WriteResult, Writer};
 use std::alloc::Global;
 use std::io::Write;
 
 /// `node NNN`: shows the node.
-pub fn node<W: Write>(lab: &Lab, node: NodeId, writer: &mut Writer<'_, W>) -> Spoken
-    ensures { (wording : Worded) → Says result (λ text. Does wording lab.now (Node node) text lab.now)
+pub fn node<W: Write>(lab: &Lab, node: NodeId, writer: &mut Writer<'_, W>) -> WriteResult
+    ensures { (wording : Worded) → WritesSome result (λ text. Does wording lab.now (Node node) text lab.now)
         W.contents writer.old writer.new }
 {
-    say_node(writer, node, lab.node(node))
+    write_node(writer, node, lab.node(node))
 }
 
 /// `mem NNN HH`: shows the word at an address of the node's memory.
-pub fn memory<W: Write>(lab: &Lab, node: NodeId, address: u8, writer: &mut Writer<'_, W>) -> Spoken
-    ensures { (wording : Worded) → Says result (λ text. Does wording lab.now (Memory node address) text lab.now)
+pub fn memory<W: Write>(
+    lab: &Lab,
+    node: NodeId,
+    address: u8,
+    writer: &mut Writer<'_, W>,
+) -> WriteResult
+    ensures { (wording : Worded) → WritesSome result (λ text. Does wording lab.now (Memory node address) text lab.now)
         W.contents writer.old writer.new }
 {
-    say_memory(writer, node, address, lab.memory(node, address))
+    write_memory(writer, node, address, lab.memory(node, address))
 }
 
 /// `count`: shows how many events are kept, how many were made, and how many may be kept.
-pub fn count<W: Write>(lab: &Lab, writer: &mut Writer<'_, W>) -> Spoken
-    ensures { (wording : Worded) → Says result (λ text. Does wording lab.now Count text lab.now)
+pub fn count<W: Write>(lab: &Lab, writer: &mut Writer<'_, W>) -> WriteResult
+    ensures { (wording : Worded) → WritesSome result (λ text. Does wording lab.now Count text lab.now)
         W.contents writer.old writer.new }
 {
-    say_counts(writer, lab.counts())
+    write_counts(writer, lab.counts())
 }
 
 /// `trace NNN`: shows the steps of the node, a line for each.
@@ -44,24 +52,24 @@ pub fn trace<W: Write>(
     node: NodeId,
     wording: Wording,
     writer: &mut Writer<'_, W>,
-) -> Spoken
-    ensures { Says result (λ text. Does wording lab.now (Trace node) text lab.now)
+) -> WriteResult
+    ensures { WritesSome result (λ text. Does wording lab.now (Trace node) text lab.now)
         W.contents writer.old writer.new }
 {
     match lab.history(node) {
         Ok(steps) => say_steps(node, steps.as_slice(), writer),
-        Err(fault) => writer.say(wording.refusal(fault)),
+        Err(fault) => writer.write_text(wording.refusal(fault)),
     }
 }
 
 /// Says how many steps there are, then each of them.
-fn say_steps<W: Write>(node: NodeId, steps: &[Made], writer: &mut Writer<'_, W>) -> Spoken
-    ensures { Says result (λ text. text ≡ steps_text node steps.now)
+fn say_steps<W: Write>(node: NodeId, steps: &[Made], writer: &mut Writer<'_, W>) -> WriteResult
+    ensures { WritesSome result (λ text. text ≡ steps_text node steps.now)
         W.contents writer.old writer.new }
 {
-    say_trace(writer, node, steps.len())?;
+    write_trace_head(writer, node, steps.len())?;
     'steps: for made in steps {
-        say_made(writer, *made)?;
+        write_event(writer, *made)?;
     }
     Ok(())
 }
@@ -73,25 +81,25 @@ pub fn why<W: Write>(
     to: (NodeId, u32),
     wording: Wording,
     writer: &mut Writer<'_, W>,
-) -> Spoken
-    ensures { Says result (λ text. Does wording lab.now (Why from.0 from.1 to.0 to.1) text lab.now)
+) -> WriteResult
+    ensures { WritesSome result (λ text. Does wording lab.now (Why from.0 from.1 to.0 to.1) text lab.now)
         W.contents writer.old writer.new }
 {
     match lab.explain(from, to) {
-        Ok(None) => writer.say(b"independent\n"),
+        Ok(None) => writer.write_text(b"independent\n"),
         Ok(Some(chain)) => say_chain(chain.as_slice(), writer),
-        Err(fault) => writer.say(wording.refusal(fault)),
+        Err(fault) => writer.write_text(wording.refusal(fault)),
     }
 }
 
 /// Writes how many events a chain has, then the report of each.
-fn say_chain<W: Write>(events: &[Made], writer: &mut Writer<'_, W>) -> Spoken
-    ensures { Says result (λ text. text ≡ chain_text (length events.now) ++ flat_map made_text events.now)
+fn say_chain<W: Write>(events: &[Made], writer: &mut Writer<'_, W>) -> WriteResult
+    ensures { WritesSome result (λ text. text ≡ chain_text (length events.now) ++ flat_map made_text events.now)
         W.contents writer.old writer.new }
 {
-    say_chain_count(writer, events.len())?;
+    write_chain_head(writer, events.len())?;
     'events: for made in events {
-        say_made(writer, *made)?;
+        write_event(writer, *made)?;
     }
     Ok(())
 }
@@ -102,12 +110,12 @@ pub fn dump<W: Write>(
     lab: &Lab,
     wording: Wording,
     writer: &mut Writer<'_, W>,
-) -> Spoken
-    ensures { Says result (λ text. Does wording lab.now Dump text lab.now)
+) -> WriteResult
+    ensures { WritesSome result (λ text. Does wording lab.now Dump text lab.now)
         W.contents writer.old writer.new }
 {
     match print(alloc, lab.chip()) {
-        Ok(image) => writer.say_blocks(image.as_slice()),
-        Err(_) => writer.say(wording.refusal(LabFault::Memory)),
+        Ok(image) => writer.write_blocks(image.as_slice()),
+        Err(_) => writer.write_text(wording.refusal(LabFault::Memory)),
     }
 }

@@ -1,5 +1,5 @@
 //! What answers the lines of a session.
-ghost use Rattle.ga_text.specs.Output.{Says};
+ghost use Rattle.ga_text.specs.Output.{WritesSome};
 ghost use Rattle.std.specs.Prelude.{◌≡◌};
 ghost use Rattle.ga_text.specs.Lines.{Bytes};
 ghost use Rattle.ga_lab.specs.Machine.{State};
@@ -13,13 +13,13 @@ use super::readings::{count, dump, memory, node, trace, why};
 use ga_display::Wording;
 use ga_image::LINE_LIMIT;
 use ga_lab::Lab;
-use ga_text::{Spoken, WriteFailed, Writer};
+use ga_text::{WriteError, WriteResult, Writer};
 use std::alloc::Global;
 use std::io::Write;
 
 /// What a line asks for.
 #[derive(Clone, Copy, PartialEq, Eq)]
-pub enum Turn {
+pub enum LineAction {
     /// An answer, which was said.
     Answered,
     /// The end of the session.
@@ -47,8 +47,8 @@ pub trait Responder: Drop {
         alloc: Global,
         line: &[u8],
         writer: &mut Writer<'_, W>,
-    ) -> Result<Turn, WriteFailed>
-        ensures { Says result (Turns answers self.old line.now self.new result) W.contents writer.old writer.new };
+    ) -> Result<LineAction, WriteError>
+        ensures { WritesSome result (Turns answers self.old line.now self.new result) W.contents writer.old writer.new };
 
     /// Answers a line that spells a command of the debugger.
     ///
@@ -59,8 +59,8 @@ pub trait Responder: Drop {
         alloc: Global,
         command: Command,
         writer: &mut Writer<'_, W>,
-    ) -> Spoken
-        ensures { Says result (AnswersCommand answers self.old command self.new) W.contents writer.old writer.new };
+    ) -> WriteResult
+        ensures { WritesSome result (AnswersCommand answers self.old command self.new) W.contents writer.old writer.new };
 }
 
 impl Responder for Lab {
@@ -79,7 +79,7 @@ impl Responder for Lab {
         alloc: Global,
         line: &[u8],
         writer: &mut Writer<'_, W>,
-    ) -> Result<Turn, WriteFailed> {
+    ) -> Result<LineAction, WriteError> {
         answer_worded(alloc, self, line, Wording::Brief, writer)
     }
 
@@ -89,7 +89,7 @@ impl Responder for Lab {
         alloc: Global,
         command: Command,
         writer: &mut Writer<'_, W>,
-    ) -> Spoken {
+    ) -> WriteResult {
         obey_worded(alloc, self, command, Wording::Brief, writer)
     }
 }
@@ -104,23 +104,23 @@ pub fn answer_worded<W: Write>(
     line: &[u8],
     wording: Wording,
     writer: &mut Writer<'_, W>,
-) -> Result<Turn, WriteFailed>
-    ensures { Says result (Turns (WordedAnswer wording) lab.old line.now lab.new result) W.contents writer.old writer.new }
+) -> Result<LineAction, WriteError>
+    ensures { WritesSome result (Turns (WordedAnswer wording) lab.old line.now lab.new result) W.contents writer.old writer.new }
 {
     if line.len() > LINE_LIMIT {
-        writer.say(b"no 32 long\n")?;
-        return Ok(Turn::Answered);
+        writer.write_text(b"no 32 long\n")?;
+        return Ok(LineAction::Answered);
     }
     match command_of(line) {
         None => {
-            writer.say(b"no 31 syntax\n")?;
-            Ok(Turn::Answered)
+            writer.write_text(b"no 31 syntax\n")?;
+            Ok(LineAction::Answered)
         }
         Some(command) => match command {
-            Command::Quit => Ok(Turn::Quit),
+            Command::Quit => Ok(LineAction::Quit),
             _ => {
                 obey_worded(alloc, lab, command, wording, writer)?;
-                Ok(Turn::Answered)
+                Ok(LineAction::Answered)
             }
         },
     }
@@ -137,8 +137,8 @@ pub fn obey_worded<W: Write>(
     command: Command,
     wording: Wording,
     writer: &mut Writer<'_, W>,
-) -> Spoken
-    ensures { Says result (λ text. Does wording lab.old command text lab.new) W.contents writer.old writer.new }
+) -> WriteResult
+    ensures { WritesSome result (λ text. Does wording lab.old command text lab.new) W.contents writer.old writer.new }
 {
     match command {
         Command::Step(at) => step(lab, at, wording, writer),

@@ -5,12 +5,12 @@ ghost use Rattle.ga_text.specs.Input.{IsWithin};
 ghost use Rattle.ga_console.specs.Run.{Runs, RunsBy, Refuses, Opens, IsFault, status_of as status_that};
 ghost use Rattle.ga_console.specs.inner.Run.{AfterImage};
 
-use super::commands::{Ending, serve};
+use super::commands::{CommandsEnd, serve};
 use super::responder::Responder;
-use ga_display::put_fault;
+use ga_display::write_image_fault;
 use ga_image::{ImageCause, ImageFault, parse};
 use ga_lab::Lab;
-use ga_text::{ImageEnd, Input, TextBuffer, WriteFailed, Writer, read_image, write_all};
+use ga_text::{ImageEnd, Input, TextBuffer, WriteError, Writer, read_image, write_all};
 use std::alloc::Global;
 use std::io::{Read, Write};
 
@@ -123,22 +123,22 @@ pub fn refuse<W: Write>(writer: &mut W, fault: ImageFault) -> Status
     ensures { WritesText (λ text. Refuses fault text result) (W.contents writer.old) (W.contents writer.new) }
 {
     let mut text = TextBuffer::new();
-    put_fault(&mut text, fault);
+    write_image_fault(&mut text, fault);
     match write_all(writer, text.as_slice()) {
         Ok(()) => Status::ImageRefused,
-        Err(WriteFailed) => Status::StreamFault,
+        Err(WriteError) => Status::StreamFault,
     }
 }
 
 /// The status of a session whose commands were served so.
-pub fn status_of(ending: Result<Ending, WriteFailed>) -> Status
+pub fn status_of(ending: Result<CommandsEnd, WriteError>) -> Status
     ensures { result ≡ status_that ending }
 {
     match ending {
-        Ok(Ending::Ended) => Status::Done,
-        Ok(Ending::Quit) => Status::Done,
-        Ok(Ending::Past) => Status::StreamFault,
-        Ok(Ending::ReadFailed) => Status::StreamFault,
-        Err(WriteFailed) => Status::StreamFault,
+        Ok(CommandsEnd::Ended) => Status::Done,
+        Ok(CommandsEnd::Quit) => Status::Done,
+        Ok(CommandsEnd::Past) => Status::StreamFault,
+        Ok(CommandsEnd::ReadFailed) => Status::StreamFault,
+        Err(WriteError) => Status::StreamFault,
     }
 }

@@ -6,7 +6,7 @@ mod lines;
 
 use clap::ArgMatches;
 use ga_grid::NodeId;
-use ga_text::{node_in, number_in};
+use ga_text::{parse_node, parse_number};
 use lines::{GREATEST_EXPLORED, GREATEST_LIMIT, MOST_CALLS, MOST_WORKERS, program};
 use std::alloc::Global;
 use thiserror::Error;
@@ -191,7 +191,7 @@ fn order(alloc: Global, text: Option<&str>) -> Result<Option<u32>, LineFault>
 {
     match text {
         None => Ok(None),
-        Some(given) => match number_in(given.as_bytes()) {
+        Some(given) => match parse_number(given.as_bytes()) {
             Some(_) => Ok(Some(number(text, u32::MAX)?)),
             None => Err(no_order(alloc, given)),
         },
@@ -306,7 +306,7 @@ fn step(
     let [node, number] = words else {
         return Err(LineFault::Memory);
     };
-    match (node_in(node.as_bytes()), number_in(number.as_bytes())) {
+    match (parse_node(node.as_bytes()), parse_number(number.as_bytes())) {
         (Some(node), Some(number)) => Ok(Some((node, number))),
         _ => Err(no_step(alloc, name, node, number)),
     }

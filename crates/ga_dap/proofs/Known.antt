@@ -7,14 +7,14 @@ use Rattle.ga_dap_queries.specs.declared.debuggee.Debuggee.{Debuggee}
 use Rattle.ga_dap_control.specs.Configuring.{AreShown}
 use Rattle.ga_dap_protocol.specs.Sent.{SentMessages}
 use Rattle.ga_dap_queries.specs.Sending.{Message, Messages, Sends, SendsAll}
-use Rattle.ga_dap.specs.declared.unanswered.Unanswered.{Unanswered}
-use Rattle.ga_dap.specs.declared.unanswered.Unanswered.TheVariants.{Memory, Untold}
+use Rattle.ga_dap.specs.declared.unanswered.NoResponse.{NoResponse}
+use Rattle.ga_dap.specs.declared.unanswered.NoResponse.TheVariants.{Memory, Untold}
 use Rattle.ga_dap.specs.Client.{sent_as}
 use Rattle.ga_dap.specs.inner.Carrying.{Carries}
 use Rattle.std.specs.Prelude.{false}
 use Rattle.ga_dap_protocol.specs.declared.request.ClientRequest.{ClientRequest}
 use Rattle.ga_dap_queries.specs.declared.request_name.RequestName.{RequestName}
-use Rattle.ga_dap_control.specs.Requests.{DoesInPlace}
+use Rattle.ga_dap_control.specs.Requests.{AnswersAtOnce}
 use Rattle.ga_dap_control.specs.declared.launched.Launched.{Launched}
 use Rattle.ga_dap.specs.declared.session.Session.{Session}
 use Rattle.ga_dap.specs.Answering.{AnswersKnown, OfLaunch, DoesIfLaunched, DoesStanding, is_of_standing}
@@ -41,7 +41,7 @@ pub sent_then : (old : SentMessages) (first : Message) (between : SentMessages) 
 sent_then old first between rest new one all = (between, one, all)
 
 -- what a call did, in other words
-pub carries_so : (result : Result (Unit {0}) Unanswered) (P Q : Messages → Type 0) (Stays Still : Type 0) (old new : SentMessages)
+pub carries_so : (result : Result (Unit {0}) NoResponse) (P Q : Messages → Type 0) (Stays Still : Type 0) (old new : SentMessages)
     → Carries result P Stays old new → ((messages : Messages) → P messages → Q messages) → (Stays → Still) → Carries result Q Still old new
 carries_so (Ok done) P Q Stays Still old new h f g = (h.0, f h.0 h.1, h.2)
 carries_so (Err Memory) P Q Stays Still old new h f g = g h
@@ -80,7 +80,7 @@ of_launched G host s the.Disconnect request messages new i l d t does = absurd (
 -- one that makes no move and evaluates nothing is answered in place
 pub of_place : (command : RequestName) (l : Launched) (request : ClientRequest) (messages : Messages) (new : Launched)
     → command ≢ the.StepBack → command ≢ the.ReverseContinue → command ≢ the.Evaluate
-    → DoesInPlace command l request messages new → DoesStanding command l request messages new
+    → AnswersAtOnce command l request messages new → DoesStanding command l request messages new
 of_place the.Initialize l request messages new b r e does = does
 of_place the.Launch l request messages new b r e does = does
 of_place the.SetBreakpoints l request messages new b r e does = does

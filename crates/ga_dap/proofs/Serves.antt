@@ -3,7 +3,7 @@ use Rattle.std.proofs.Common.{◌≡◌, ◌∙◌, ℕ, suc, [], ◌++◌, Opti
 use Rattle.std.specs.Prelude.{false}
 use Rattle.std.proofs.lemmas.List.{append-nil}
 use Rattle.ga_text.specs.Lines.{Bytes}
-use Rattle.ga_text.specs.Output.{IsSaid}
+use Rattle.ga_text.specs.Output.{IsWritten}
 use Rattle.ga_dap_protocol.specs.Sent.{SentMessages}
 use Rattle.ga_dap.specs.declared.session.Session.{Session}
 use Rattle.ga_dap.specs.declared.serving.SessionEnd.{SessionEnd}
@@ -23,7 +23,7 @@ pub serves_on : {S A : Type 0} (G : FileGiving S) (T : ArrivalTelling A) (begin 
 serves_on G T begin count said s sent t serves open_still makes = (s, said, sent, serves, open_still, makes, refl)
 
 -- what is pending is written
-pub pends : (contents : Option Bytes) (before said pending : Bytes) → contents ≡ Some (before ++ said) → IsSaid contents before (said ++ pending) pending
+pub pends : (contents : Option Bytes) (before said pending : Bytes) → contents ≡ Some (before ++ said) → IsWritten contents before (said ++ pending) pending
 pends contents before said pending held = record { sent = said; held = held; splits = refl }
 
 -- where no turn is made, the session ends
@@ -34,7 +34,7 @@ ends_so s end.Memory open_still ends = open_still
 ends_so s end.StreamFault open_still ends = tt
 
 -- nothing is pending any more: all that was said is written
-pub all_sent : (contents : Option Bytes) (before said : Bytes) → IsSaid contents before said [] → contents ≡ Some (before ++ said)
+pub all_sent : (contents : Option Bytes) (before said : Bytes) → IsWritten contents before said [] → contents ≡ Some (before ++ said)
 all_sent contents before said h = h.held ∙ ap (λ (t : Bytes). Some (before ++ t)) (sym (h.splits ∙ append-nil h.sent))
 
 -- all that was said was written

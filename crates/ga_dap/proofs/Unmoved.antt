@@ -11,12 +11,12 @@ use Rattle.ga_event.specs.Told.{events_in, made_in}
 use Rattle.ga_event.specs.declared.event.Event.{Event}
 use Rattle.ga_event.specs.declared.event.Cause.{Cause}
 use Rattle.ga_event.specs.declared.made.Made.{Made}
-use Rattle.ga_causal.specs.Dependence.{dependents, without, place_of, rest_from, rewound_list}
-use Rattle.ga_lab.specs.Machine.{State, chip_of, causes_of, told_of_kept, answer_to, with_event, step_answer, unless_refused, stepped, undo_answer, rewind_answer, rewound, earlier}
+use Rattle.ga_causal.specs.Dependence.{dependents, unflagged, position_of_step, rest_from, rewound_list}
+use Rattle.ga_lab.specs.Machine.{State, chip_of, causes_of, outcomes_of_kept, answer_to, with_event, step_answer, unless_refused, stepped, undo_answer, rewind_answer, rewound, earlier}
 use Rattle.ga_lab.specs.declared.fault.LabFault.{LabFault}
-use Rattle.ga_scheduler.specs.Backward.{newest_held, number_of_step, left_from}
-use Rattle.ga_scheduler.specs.Conditions.{conditions_asked}
-use Rattle.ga_scheduler.specs.Running.{Running, running, chosen, told_by_step, moved_by, after_events, AreMade}
+use Rattle.ga_scheduler.specs.Backward.{find_newest_holding, number_of_step, left_from}
+use Rattle.ga_scheduler.specs.Conditions.{active_conditions}
+use Rattle.ga_scheduler.specs.Running.{Running, running, node_to_run, told_by_step, moved_by, after_events, AreMade}
 use Rattle.ga_scheduler.specs.declared.schedule.Schedule.{Schedule}
 use Rattle.ga_display.specs.declared.wording.Wording.{Wording}
 use Rattle.ga_display.specs.declared.wording.Wording.TheVariants.{Advised}
@@ -27,7 +27,7 @@ use Rattle.ga_console.specs.declared.command.Command.TheVariants.{Step, Back, Re
 use Rattle.ga_explorer.specs.Answers.{Explores, AnswersOther}
 use Rattle.ga_explorer.specs.Answers.Explores.{explored, debugged}
 use Rattle.ga_explorer.specs.Commands.{Explored}
-use Rattle.ga_explorer.specs.Opening.{Exploring}
+use Rattle.ga_explorer.specs.Opening.{ExplorerState}
 use Rattle.ga_explorer.specs.declared.commands.ExplorerCommand.{ExplorerCommand}
 use Rattle.ga_explorer.specs.declared.commands.ExplorerCommand.TheVariants as asked
 use Rattle.ga_dap_queries.specs.declared.debuggee.Debuggee.{Debuggee}
@@ -46,13 +46,13 @@ take_same zero (x ∷ xs) h = absurd (cc)
 take_same (suc n) [] h = refl
 take_same (suc n) (x ∷ xs) h = ap (λ l. x ∷ l) (take_same n xs (omega (arith, h)))
 
-without_within : {A : Type 0} (flags : List Bool) (xs : List A) → length (without flags xs) ≤ length xs
+without_within : {A : Type 0} (flags : List Bool) (xs : List A) → length (unflagged flags xs) ≤ length xs
 without_within [] xs = omega arith
 without_within (flag ∷ flags) [] = omega arith
 without_within (true ∷ flags) (x ∷ xs) = let h = without_within flags xs in omega (arith, h)
 without_within (false ∷ flags) (x ∷ xs) = let h = without_within flags xs in omega (arith, h)
 
-without_same : {A : Type 0} (flags : List Bool) (xs : List A) → length (without flags xs) ≡ length xs → without flags xs ≡ xs
+without_same : {A : Type 0} (flags : List Bool) (xs : List A) → length (unflagged flags xs) ≡ length xs → unflagged flags xs ≡ xs
 without_same [] xs h = refl
 without_same (flag ∷ flags) [] h = refl
 without_same (true ∷ flags) (x ∷ xs) h = let w = without_within flags xs in absurd (let no : ⊥ = omega (arith, w, h) in no)
@@ -73,13 +73,13 @@ rewound_same s n k caused h =
     let left : List Cause = rewound_list causes n k in
     let a : length (events_in left) ≡ length left = length-map left (λ (c : Cause). c.event) in
     let b : length (events_in causes) ≡ length causes = length-map causes (λ (c : Cause). c.event) in
-    let e : left ≡ causes = rest_same causes (place_of causes n k) (sym a ∙ h ∙ sym (ap length caused) ∙ b) in
+    let e : left ≡ causes = rest_same causes (position_of_step causes n k) (sym a ∙ h ∙ sym (ap length caused) ∙ b) in
     ap (λ (z : List Event). let t : State = record s { kept = z } in t) (ap events_in e ∙ caused)
 
 left_same : (only : Option NodeId) (s : State) (place : Option ℕ) → events_in (causes_of s) ≡ s.kept → length (left_from only s place).kept ≡ length s.kept → left_from only s place ≡ s
 left_same only s None caused h = refl
 left_same None s (Some place) caused h = earlier_same s place h
-left_same (Some node) s (Some place) caused h = rewound_same s node.number (number_of_step node.number (made_in (told_of_kept s) place)) caused h
+left_same (Some node) s (Some place) caused h = rewound_same s node.number (number_of_step node.number (made_in (outcomes_of_kept s) place)) caused h
 
 -- ---- what is made
 
@@ -102,7 +102,7 @@ run_made : (r : Running) (n : ℕ) → AreMade r n → (after_events r n).state.
 run_made r zero h = omega arith
 run_made r (suc n) h =
     let before = run_made r n (λ k l. h k (omega (arith, l))) in
-    let last = moved_made (after_events r n) (chosen (after_events r n)) (h n (omega arith)) in
+    let last = moved_made (after_events r n) (node_to_run (after_events r n)) (h n (omega arith)) in
     omega (arith, before, last)
 
 run_same : (s : State) (schedule : Schedule) (n : ℕ) → AreMade (running s schedule) n → (after_events (running s schedule) n).state.made ≡ s.made → (after_events (running s schedule) n).state ≡ s
@@ -153,16 +153,16 @@ other_same : (s : State) (line answer : List ℕ) (new : State) → events_in (c
 other_same s line answer new caused (inl of) h = line_same s line answer new caused of.1 h
 other_same s line answer new caused (inr none) h = none.2
 
-explored_same : (e : Exploring) (c : ExplorerCommand) (answer : List ℕ) (new : Exploring) → events_in (causes_of e.lab) ≡ e.lab.kept → Explored e c answer new → IsUnmoved e.lab new.lab → new.lab ≡ e.lab
+explored_same : (e : ExplorerState) (c : ExplorerCommand) (answer : List ℕ) (new : ExplorerState) → events_in (causes_of e.lab) ≡ e.lab.kept → Explored e c answer new → IsUnmoved e.lab new.lab → new.lab ≡ e.lab
 explored_same e (asked.Run schedule most until) answer new caused does h =
     let run = does.0 in
     same_as e.lab (after_events (running e.lab schedule) run.events).state new.lab run.state (λ same. run_same e.lab schedule run.events run.made same.1) h
 explored_same e (asked.BackUntil only until) answer new caused does h =
-    let place = newest_held (conditions_asked until) only e.lab in
+    let place = find_newest_holding (active_conditions until) only e.lab in
     same_as e.lab (left_from only e.lab place) new.lab does.1 (λ same. left_same only e.lab place caused same.0) h
-explored_same e (asked.Tell question) answer new caused does h = ap (λ (z : Exploring). z.lab) does.1
+explored_same e (asked.Tell question) answer new caused does h = ap (λ (z : ExplorerState). z.lab) does.1
 
-explores_same : (e : Exploring) (line answer : List ℕ) (new : Exploring) → events_in (causes_of e.lab) ≡ e.lab.kept → Explores e line answer new → IsUnmoved e.lab new.lab → new.lab ≡ e.lab
+explores_same : (e : ExplorerState) (line answer : List ℕ) (new : ExplorerState) → events_in (causes_of e.lab) ≡ e.lab.kept → Explores e line answer new → IsUnmoved e.lab new.lab → new.lab ≡ e.lab
 explores_same e line answer new caused (explored c short spelled does) h = explored_same e c answer new caused does h
 explores_same e line answer new caused (debugged none other notes) h = other_same e.lab line answer new.lab caused other h
 

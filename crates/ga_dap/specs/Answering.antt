@@ -9,7 +9,7 @@ use Rattle.ga_dap_queries.specs.declared.debuggee.Debuggee.{Debuggee}
 use Rattle.ga_dap_queries.specs.declared.request_name.RequestName.{RequestName}
 use Rattle.ga_dap_queries.specs.declared.request_name.RequestName.TheVariants as the
 use Rattle.ga_dap_control.specs.Moving.{run_ended}
-use Rattle.ga_dap_control.specs.Requests.{DoesInPlace}
+use Rattle.ga_dap_control.specs.Requests.{AnswersAtOnce}
 use Rattle.ga_dap_control.specs.declared.execution.Execution.{Execution}
 use Rattle.ga_dap_control.specs.declared.launched.Launched.{Launched}
 use Rattle.ga_dap.specs.declared.session.Session.{Session}
@@ -38,7 +38,7 @@ abbrev pub DoesStanding : RequestName → Launched → ClientRequest → Message
 DoesStanding the.StepBack l request messages new = OfProgram (StepsBack l.program request) l messages new
 DoesStanding the.ReverseContinue l request messages new = OfProgram (Reverses l.settings l.program request) l messages new
 DoesStanding the.Evaluate l request messages new = OfProgram (Evaluates l.program request) l messages new
-DoesStanding other l request messages new = DoesInPlace other l request messages new
+DoesStanding other l request messages new = AnswersAtOnce other l request messages new
 
 -- requests that begin a run
 abbrev pub begins_run : RequestName → Bool

@@ -7,7 +7,7 @@ use Rattle.serde_json.specs.Data.{Data}
 use Rattle.serde_json.specs.Read.{read}
 use Rattle.serde_json.specs.View.{view}
 use Rattle.ga_text.specs.Lines.{Bytes, Text}
-use Rattle.ga_text.specs.Output.{Begins}
+use Rattle.ga_text.specs.Output.{TextHasPrefix}
 use Rattle.ga_dap_protocol.specs.Framing.{IsMessage, BeginsOne}
 use Rattle.ga_dap_protocol.specs.Inbox.{IsBroken}
 use Rattle.ga_dap_protocol.specs.Messages.{IsRequest, HoldsNoRequest}
@@ -150,7 +150,7 @@ abbrev pub WrittenBy : SessionEnd → Bytes → Bytes → Type 0
 WrittenBy end.Done said written = written ≡ said
 WrittenBy (end.Broken why) said written = written ≡ said
 WrittenBy end.Memory said written = written ≡ said
-WrittenBy end.StreamFault said written = Begins said written
+WrittenBy end.StreamFault said written = TextHasPrefix said written
 
 abbrev pub new_session : Session
 new_session = record { launched = None; is_over = false }

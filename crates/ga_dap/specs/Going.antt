@@ -9,7 +9,7 @@ use Rattle.ga_dap_queries.specs.Arguments.{AsksOfThread}
 use Rattle.ga_dap_queries.specs.declared.debuggee.Debuggee.{Debuggee}
 use Rattle.ga_dap_queries.specs.Sending.{Messages, refused_response}
 use Rattle.ga_dap_control.specs.Configuring.{AreShown}
-use Rattle.ga_dap_control.specs.Back.{grain_asked, stepped_by, reversed_by, gone_words, WentBack}
+use Rattle.ga_dap_control.specs.Back.{requested_granularity, stepped_by, reversed_by, gone_words, RollsBackNode}
 use Rattle.ga_dap_control.specs.Slices.{MakesSlice}
 use Rattle.ga_dap_control.specs.declared.configuration.Configuration.{Configuration}
 use Rattle.ga_dap_control.specs.declared.execution.StopReason.{StopReason}
@@ -26,14 +26,14 @@ RunGoesOn l messages new = (stop : Option StopReason) × GoesOnBy l stop message
 
 -- a node was rolled back: the messages have what was removed with it, the threads that changed, and that the chip is stopped
 abbrev pub GoneTold : Debuggee → Debuggee → ClientRequest → NodeId → Text → Messages → Type 0
-GoneTold p new request node reason messages = (before : ℕ → Bool) × (steps : List ℕ) × (removed : ℕ) × AreShown p before × WentBack p.lab new.lab steps removed
+GoneTold p new request node reason messages = (before : ℕ → Bool) × (steps : List ℕ) × (removed : ℕ) × AreShown p before × RollsBackNode p.lab new.lab steps removed
     × BackTold before new request node (gone_words node steps removed new.lab) reason messages
 
 -- `stepBack`
 abbrev pub StepsBackOf : Debuggee → ClientRequest → Option NodeId → Messages → Debuggee → Type 0
 StepsBackOf p request None messages new = (messages ≡ refused_response request (codes "stepBack: no such thread") ∷ []) × (new ≡ p)
 StepsBackOf p request (Some node) messages new =
-    (new ≡ stepped_by (grain_asked p (view request.arguments)) p node)
+    (new ≡ stepped_by (requested_granularity p (view request.arguments)) p node)
     × GoneTold p new request node (codes "step") messages
 
 abbrev pub StepsBack : Debuggee → ClientRequest → Messages → Debuggee → Type 0

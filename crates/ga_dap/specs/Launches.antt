@@ -8,7 +8,7 @@ use Rattle.ga_scheduler.specs.declared.schedule.Schedule.{Schedule}
 use Rattle.ga_dap_protocol.specs.Messages.{bare_event, member_text}
 use Rattle.ga_dap_protocol.specs.declared.request.ClientRequest.{ClientRequest}
 use Rattle.ga_dap_queries.specs.Events.{output_body}
-use Rattle.ga_dap_queries.specs.Launching.{limit_asked, schedule_asked, stops_on_entry}
+use Rattle.ga_dap_queries.specs.Launching.{parse_limit, parse_schedule, stops_on_entry}
 use Rattle.ga_dap_queries.specs.Sending.{Message, Messages, acknowledged, refused_response, event_told}
 use Rattle.ga_dap_control.specs.declared.configuration.Configuration.{Configuration}
 use Rattle.ga_dap_control.specs.declared.launched.Launched.{Launched}
@@ -96,7 +96,7 @@ LaunchesAsked G host request (Some path) (Some limit) (Some schedule) messages a
 
 abbrev pub LaunchesFirst : {S : Type 0} → FileGiving S → S → ClientRequest → Messages → S → Option Launched → Type 0
 LaunchesFirst G host request messages after new =
-    let d = view request.arguments in LaunchesAsked G host request (member_text (codes "program") d) (limit_asked d) (schedule_asked d) messages after new
+    let d = view request.arguments in LaunchesAsked G host request (member_text (codes "program") d) (parse_limit d) (parse_schedule d) messages after new
 
 -- one program is launched in a session
 abbrev pub Launches : {S : Type 0} → FileGiving S → S → Option Launched → ClientRequest → Messages → S → Option Launched → Type 0

@@ -4,16 +4,16 @@ use Rattle.ga_grid.specs.declared.node_id.NodeId.{NodeId}
 use Rattle.ga_image.specs.FirstFault.{IsFirstFault}
 use Rattle.ga_image.specs.declared.fault.ImageFault.{ImageFault}
 use Rattle.ga_lab.specs.Machine.{State}
-use Rattle.ga_debug_info.specs.declared.notes.Notes.{Notes}
+use Rattle.ga_debug_info.specs.declared.notes.DebugInfo.{DebugInfo}
 use Rattle.ga_source.specs.Programs.{AreAsked}
 use Rattle.ga_source.specs.declared.program.Program.{Program}
 use Rattle.ga_source.specs.Made.{IsSoundSource}
 use Rattle.ga_text.specs.Lines.{Bytes, lines_of}
-use Rattle.ga_explorer.specs.Opening.{Exploring, begins_as_image, OpensExploring}
+use Rattle.ga_explorer.specs.Opening.{ExplorerState, begins_as_image, OpensExploring}
 use Rattle.ga_dap_queries.specs.declared.debuggee.Debuggee.{Debuggee}
 
 -- what is explored of a program
-abbrev pub parts_explored : State → Option Notes → Exploring
+abbrev pub parts_explored : State → Option DebugInfo → ExplorerState
 parts_explored lab notes = record { lab = lab; notes = notes }
 
 -- a text is opened as a program

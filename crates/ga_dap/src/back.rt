@@ -5,21 +5,21 @@ ghost use Rattle.ga_dap.specs.Going.{StepsBack, Reverses, reason_behind};
 ghost use Rattle.ga_dap.specs.inner.Carrying.{Carries};
 ghost use Rattle.ga_dap_queries.specs.Sending.{refused_response};
 
-use crate::changes::tell_back_twice;
-use crate::unanswered::Unanswered;
-use ga_dap_control::{Configuration, reverse_node, step_node_back};
+use crate::changes::emit_rollback_with_retry;
+use crate::unanswered::NoResponse;
+use ga_dap_control::{Configuration, reverse_continue_node, step_back_node};
 use ga_dap_protocol::{ClientRequest, Outbox};
-use ga_dap_queries::{Debuggee, node_asked, shown_nodes};
+use ga_dap_queries::{Debuggee, shown_nodes, thread_argument};
 use ga_grid::NodeId;
 use std::alloc::Global;
 
 /// Refuses a request.
-pub(crate) fn refuse(request: &ClientRequest, why: &str, out: &mut Outbox) -> Result<(), Unanswered>
+pub(crate) fn refuse(request: &ClientRequest, why: &str, out: &mut Outbox) -> Result<(), NoResponse>
     ensures { Carries result (λ messages. messages ≡ refused_response request.now why.now ∷ []) (Unit {0}) out.old out.new }
 {
     match out.refuse(request, why) {
         Ok(()) => Ok(()),
-        Err(_) => Err(Unanswered::Memory),
+        Err(_) => Err(NoResponse::Memory),
     }
 }
 
@@ -29,16 +29,16 @@ pub(crate) fn step_back(
     program: &mut Debuggee,
     request: &ClientRequest,
     out: &mut Outbox,
-) -> Result<(), Unanswered>
+) -> Result<(), NoResponse>
     requires { out.old.bytes ≡ [] }
     ensures { Carries result (λ messages. StepsBack program.old request.now messages program.new) (program.new ≡ program.old) out.old out.new }
 {
-    let Some(node) = node_asked(&request.arguments) else {
+    let Some(node) = thread_argument(&request.arguments) else {
         return refuse(request, "stepBack: no such thread", out);
     };
     let before = shown_nodes(&program.lab, program.nodes.as_slice());
-    let gone = step_node_back(program, node, &request.arguments);
-    tell_back_twice(alloc, program, &before, request, &gone, "step", out)
+    let gone = step_back_node(program, node, &request.arguments);
+    emit_rollback_with_retry(alloc, program, &before, request, &gone, "step", out)
 }
 
 /// Why a node that was rolled back is stopped there.
@@ -59,15 +59,15 @@ pub(crate) fn reverse(
     settings: &Configuration,
     request: &ClientRequest,
     out: &mut Outbox,
-) -> Result<(), Unanswered>
+) -> Result<(), NoResponse>
     requires { out.old.bytes ≡ [] }
     ensures { Carries result (λ messages. Reverses settings.now program.old request.now messages program.new) (program.new ≡ program.old) out.old out.new }
 {
-    let Some(node) = node_asked(&request.arguments) else {
+    let Some(node) = thread_argument(&request.arguments) else {
         return refuse(request, "reverseContinue: no such thread", out);
     };
     let before = shown_nodes(&program.lab, program.nodes.as_slice());
-    let gone = reverse_node(program, node, settings.points.points.as_slice());
+    let gone = reverse_continue_node(program, node, settings.points.points.as_slice());
     let reason = reason_behind(program, node);
-    tell_back_twice(alloc, program, &before, request, &gone, reason, out)
+    emit_rollback_with_retry(alloc, program, &before, request, &gone, reason, out)
 }

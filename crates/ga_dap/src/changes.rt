@@ -10,10 +10,12 @@ ghost use Rattle.ga_dap.specs.Telling.{ThreadsChanged, StandsThen, StopTold, Sli
 ghost use Rattle.ga_dap.specs.inner.Carrying.{Carries};
 
 use crate::evaluating::text_body;
-use crate::unanswered::Unanswered;
-use ga_dap_control::{Configuration, Gone, StopReason, gone_text, tell_stop};
+use crate::unanswered::NoResponse;
+use ga_dap_control::{
+    Configuration, RollbackSummary, StopReason, emit_run_end, rollback_summary_text,
+};
 use ga_dap_protocol::{ClientRequest, Outbox};
-use ga_dap_queries::{Debuggee, shown_nodes, tell_changed, tell_output, tell_stopped};
+use ga_dap_queries::{Debuggee, emit_output, emit_stopped, emit_thread_changes, shown_nodes};
 use ga_grid::NodeId;
 use std::alloc::{AllocError, Global};
 
@@ -28,7 +30,7 @@ fn tell_threads(
     ensures { OnOk result ((messages : Messages) × ThreadsChanged (is_marked before.now) program.now messages × SendsAll out.old messages out.new) }
 {
     let now = shown_nodes(&program.lab, program.nodes.as_slice());
-    tell_changed(alloc, before, &now, out)
+    emit_thread_changes(alloc, before, &now, out)
 }
 
 /// Sends which threads started and exited, and that the chip is stopped.
@@ -44,7 +46,7 @@ fn tell_standing(
     ensures { OnOk result ((messages : Messages) × StandsThen (is_marked before.now) program.now reason.now description.now node messages × SendsAll out.old messages out.new) }
 {
     tell_threads(alloc, program, before, out)?;
-    tell_stopped(alloc, reason, description, node, out)
+    emit_stopped(alloc, reason, description, node, out)
 }
 
 /// Sends why a run ended, if it did.
@@ -58,7 +60,7 @@ fn tell_end(
     ensures { OnOk result ((messages : Messages) × StopTold program.now settings.now stop messages × SendsAll out.old messages out.new) }
 {
     match stop {
-        Some(why) => tell_stop(alloc, program, settings, why, out),
+        Some(why) => emit_run_end(alloc, program, settings, why, out),
         None => Ok(()),
     }
 }
@@ -78,14 +80,14 @@ fn tell_slice(
 }
 
 /// Sends the messages of a slice of a run.
-pub(crate) fn tell_slice_twice(
+pub(crate) fn emit_slice_with_retry(
     alloc: Global,
     program: &Debuggee,
     settings: &Configuration,
     before: &[bool; 144],
     stop: &Option<StopReason>,
     out: &mut Outbox,
-) -> Result<(), Unanswered>
+) -> Result<(), NoResponse>
     requires { out.old.bytes ≡ [] }
     ensures { Carries result (λ messages. SliceTold (is_marked before.now) program.now settings.now stop.now messages) ⊥ out.old out.new }
 {
@@ -94,10 +96,10 @@ pub(crate) fn tell_slice_twice(
         Ok(()) => return Ok(()),
         Err(_) => {}
     }
-    out.take_back(seq);
+    out.discard_unsent(seq);
     match tell_slice(alloc, program, settings, before, *stop, out) {
         Ok(()) => Ok(()),
-        Err(_) => Err(Unanswered::Untold),
+        Err(_) => Err(NoResponse::Untold),
     }
 }
 
@@ -105,13 +107,13 @@ pub(crate) fn tell_slice_twice(
 fn tell_gone(
     alloc: Global,
     program: &Debuggee,
-    gone: &Gone,
+    gone: &RollbackSummary,
     out: &mut Outbox,
 ) -> Result<(), AllocError>
     ensures { OnOk result (Sends out.old (output_told (codes "console") (gone_words gone.now.node gone.now.before gone.now.removed program.now.lab)) out.new) }
 {
-    let text = gone_text(alloc, &program.lab, gone)?;
-    tell_output(alloc, "console", text.as_str(), out)
+    let text = rollback_summary_text(alloc, &program.lab, gone)?;
+    emit_output(alloc, "console", text.as_str(), out)
 }
 
 fn tell_back(
@@ -119,7 +121,7 @@ fn tell_back(
     program: &Debuggee,
     before: &[bool; 144],
     request: &ClientRequest,
-    gone: &Gone,
+    gone: &RollbackSummary,
     reason: &str,
     out: &mut Outbox,
 ) -> Result<(), AllocError>
@@ -131,15 +133,15 @@ fn tell_back(
 }
 
 /// Sends the messages of a move back that a request made.
-pub(crate) fn tell_back_twice(
+pub(crate) fn emit_rollback_with_retry(
     alloc: Global,
     program: &Debuggee,
     before: &[bool; 144],
     request: &ClientRequest,
-    gone: &Gone,
+    gone: &RollbackSummary,
     reason: &str,
     out: &mut Outbox,
-) -> Result<(), Unanswered>
+) -> Result<(), NoResponse>
     requires { out.old.bytes ≡ [] }
     ensures { Carries result (λ messages. BackTold (is_marked before.now) program.now request.now gone.now.node (gone_words gone.now.node gone.now.before gone.now.removed program.now.lab) reason.now messages) ⊥ out.old out.new }
 {
@@ -148,10 +150,10 @@ pub(crate) fn tell_back_twice(
         Ok(()) => return Ok(()),
         Err(_) => {}
     }
-    out.take_back(seq);
+    out.discard_unsent(seq);
     match tell_back(alloc, program, before, request, gone, reason, out) {
         Ok(()) => Ok(()),
-        Err(_) => Err(Unanswered::Untold),
+        Err(_) => Err(NoResponse::Untold),
     }
 }
 
@@ -191,7 +193,7 @@ fn tell_command(
 }
 
 /// Sends the answer to a command of exploring.
-pub(crate) fn tell_command_twice(
+pub(crate) fn emit_command_with_retry(
     alloc: Global,
     program: &Debuggee,
     before: &[bool; 144],
@@ -200,7 +202,7 @@ pub(crate) fn tell_command_twice(
     moved: bool,
     node: NodeId,
     out: &mut Outbox,
-) -> Result<(), Unanswered>
+) -> Result<(), NoResponse>
     requires { out.old.bytes ≡ [] }
     ensures { Carries result (λ messages. AnswerTold request.now answer.now moved (is_marked before.now) program.now node messages) ⊥ out.old out.new }
 {
@@ -209,9 +211,9 @@ pub(crate) fn tell_command_twice(
         Ok(()) => return Ok(()),
         Err(_) => {}
     }
-    out.take_back(seq);
+    out.discard_unsent(seq);
     match tell_command(alloc, program, before, request, answer, moved, node, out) {
         Ok(()) => Ok(()),
-        Err(_) => Err(Unanswered::Untold),
+        Err(_) => Err(NoResponse::Untold),
     }
 }

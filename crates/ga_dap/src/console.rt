@@ -11,9 +11,9 @@ ghost use Rattle.ga_dap.specs.Telling.{has_moved};
 ghost use Rattle.ga_dap.specs.inner.Carrying.{Carries};
 
 use crate::back::refuse;
-use crate::changes::tell_command_twice;
-use crate::evaluating::{command_text, node_meant, value_body};
-use crate::unanswered::Unanswered;
+use crate::changes::emit_command_with_retry;
+use crate::evaluating::{command_text, node_of_expression, value_body};
+use crate::unanswered::NoResponse;
 use ga_dap_protocol::{ClientRequest, Outbox, text_at};
 use ga_dap_queries::{Debuggee, asked_variable, shown_nodes};
 use ga_dap_views::Variable;
@@ -44,16 +44,16 @@ fn show_value(
     node: NodeId,
     variable: Variable,
     out: &mut Outbox,
-) -> Result<(), Unanswered>
+) -> Result<(), NoResponse>
     requires { IsVariable variable }
     ensures { Carries result (λ messages. ValueShown program.now request.now node variable messages) (Unit {0}) out.old out.new }
 {
     let Ok(body) = value_body(alloc, program, node, variable) else {
-        return Err(Unanswered::Memory);
+        return Err(NoResponse::Memory);
     };
     match out.respond(request, body) {
         Ok(()) => Ok(()),
-        Err(_) => Err(Unanswered::Memory),
+        Err(_) => Err(NoResponse::Memory),
     }
 }
 
@@ -65,7 +65,7 @@ fn obey(
     node: NodeId,
     line: &str,
     out: &mut Outbox,
-) -> Result<(), Unanswered>
+) -> Result<(), NoResponse>
     requires { out.old.bytes ≡ [] }
     ensures { Carries result (λ messages. Obeys program.old request.now node line.now messages program.new) (program.new ≡ program.old) out.old out.new }
 {
@@ -74,7 +74,7 @@ fn obey(
     match command_text(alloc, program, line.as_bytes()) {
         Ok(Some(answer)) => {
             let moved = has_moved(counts, &program.lab);
-            tell_command_twice(
+            emit_command_with_retry(
                 alloc,
                 program,
                 &before,
@@ -88,9 +88,9 @@ fn obey(
         Ok(None) => refuse(request, "evaluate: disconnect ends the session", out),
         Err(_) => {
             if has_moved(counts, &program.lab) {
-                Err(Unanswered::Untold)
+                Err(NoResponse::Untold)
             } else {
-                Err(Unanswered::Memory)
+                Err(NoResponse::Memory)
             }
         }
     }
@@ -104,7 +104,7 @@ fn obey_if(
     node: NodeId,
     line: &str,
     out: &mut Outbox,
-) -> Result<(), Unanswered>
+) -> Result<(), NoResponse>
     requires { out.old.bytes ≡ [] }
     ensures { Carries result (λ messages. ObeysIf (is_from_console request.now) program.old request.now node line.now messages program.new) (program.new ≡ program.old) out.old out.new }
 {
@@ -123,14 +123,14 @@ fn evaluate_in(
     node: NodeId,
     expression: &str,
     out: &mut Outbox,
-) -> Result<(), Unanswered>
+) -> Result<(), NoResponse>
     requires { out.old.bytes ≡ [] }
     ensures { Carries result (λ messages. EvaluatesIn program.old request.now node expression.now messages program.new) (program.new ≡ program.old) out.old out.new }
 {
     match asked_variable(alloc, expression) {
         Ok(Some(variable)) => show_value(alloc, program, request, node, variable, out),
         Ok(None) => obey_if(alloc, program, request, node, expression, out),
-        Err(_) => Err(Unanswered::Memory),
+        Err(_) => Err(NoResponse::Memory),
     }
 }
 
@@ -140,13 +140,13 @@ pub(crate) fn evaluate(
     program: &mut Debuggee,
     request: &ClientRequest,
     out: &mut Outbox,
-) -> Result<(), Unanswered>
+) -> Result<(), NoResponse>
     requires { out.old.bytes ≡ [] }
     ensures { Carries result (λ messages. Evaluates program.old request.now messages program.new) (program.new ≡ program.old) out.old out.new }
 {
     let Some(expression) = text_at(&request.arguments, "expression") else {
         return refuse(request, "evaluate: there is no expression", out);
     };
-    let node = node_meant(program, request);
+    let node = node_of_expression(program, request);
     evaluate_in(alloc, program, request, node, expression.trim_ascii(), out)
 }

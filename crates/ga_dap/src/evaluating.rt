@@ -12,13 +12,13 @@ ghost use Rattle.ga_dap_queries.specs.Readings.{TellsStuck};
 ghost use Rattle.ga_dap.specs.Evaluating.{IsNodeMeant, Commands, answer_object};
 ghost use Rattle.ga_dap.specs.Telling.{has_moved};
 
-use ga_console::Turn;
+use ga_console::LineAction;
 use ga_dap_protocol::ClientRequest;
-use ga_dap_queries::{Debuggee, evaluate, first_shown, framed_node_asked, is_stuck};
+use ga_dap_queries::{Debuggee, evaluate, first_shown, framed_node_asked, is_deadlocked};
 use ga_dap_views::Variable;
 use ga_explorer::answer_line;
 use ga_grid::NodeId;
-use ga_text::{PENDING_ROOM, Writer};
+use ga_text::{OUTPUT_CAPACITY, Writer};
 use serde_json::{Value, json};
 use std::alloc::{AllocError, Global};
 
@@ -26,7 +26,7 @@ use std::alloc::{AllocError, Global};
 const LOOKED_AT: usize = 201;
 
 /// The node of an expression: that of the frame, otherwise the first that has something to show.
-pub(crate) fn node_meant(program: &Debuggee, request: &ClientRequest) -> NodeId
+pub(crate) fn node_of_expression(program: &Debuggee, request: &ClientRequest) -> NodeId
     ensures { IsNodeMeant program.now request.now result }
 {
     match framed_node_asked(&request.arguments) {
@@ -45,7 +45,7 @@ pub(crate) fn value_body(
     requires { IsVariable variable }
     ensures { IfOk result (λ v. (stuck : Bool) × TellsStuck (chip_of program.now.lab) node.number stuck × (view v ≡ evaluated program.now.lab stuck node.number variable)) }
 {
-    let stuck = is_stuck(program.lab.chip(), node);
+    let stuck = is_deadlocked(program.lab.chip(), node);
     evaluate(alloc, &program.lab, stuck, node, variable)
 }
 
@@ -71,9 +71,9 @@ pub(crate) fn command_text(
     ensures unmoved { OnErr result (has_moved program.old.lab program.new.lab ≡ false → program.new ≡ program.old) }
 {
     let mut answer = Vec::new(alloc);
-    answer.reserve(PENDING_ROOM)?;
+    answer.reserve(OUTPUT_CAPACITY)?;
     let mut said = Writer::new(&mut answer);
-    let _is_replayed = program.lab.stands((NodeId::new(0), 0));
+    let _is_replayed = program.lab.has_step((NodeId::new(0), 0));
     match answer_line(
         alloc,
         &mut program.lab,
@@ -81,11 +81,11 @@ pub(crate) fn command_text(
         front_of_line(line),
         &mut said,
     ) {
-        Ok(Turn::Answered) => match said.send() {
+        Ok(LineAction::Answered) => match said.flush() {
             Ok(()) => Ok(Some(answer)),
             Err(_) => Err(AllocError),
         },
-        Ok(Turn::Quit) => Ok(None),
+        Ok(LineAction::Quit) => Ok(None),
         Err(_) => Err(AllocError),
     }
 }

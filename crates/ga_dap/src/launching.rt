@@ -3,16 +3,16 @@
 ghost use Rattle.std.specs.Prelude.{◌≡◌, [], ◌∷◌, ◌++◌, None, Some, Ok, Err, Result, codes, string_bytes, IfOk, OnOk, OnErr};
 ghost use Rattle.serde_json.specs.View.{view};
 ghost use Rattle.ga_text.specs.Lines.{Bytes, Text};
-ghost use Rattle.ga_dap_queries.specs.Launching.{limit_asked, schedule_asked};
+ghost use Rattle.ga_dap_queries.specs.Launching.{parse_limit, parse_schedule};
 ghost use Rattle.ga_dap.specs.declared.sources.SourceError.{SourceError as WhyUnread};
 ghost use Rattle.ga_dap.specs.Launches.{IsWarned, LaunchesText, ReadsFile, LaunchesAsked, LaunchesFirst, launch_told, unlaunched, event_alone};
 ghost use Rattle.ga_dap_queries.specs.Sending.{Sends, SendsAll, Messages, refused_response};
 
-use crate::opening::{LaunchError, Opened, open_program};
-use crate::sources::{ProgramFiles, SourceError, words_of};
+use crate::opening::{LaunchError, OpenedProgram, open_program};
+use crate::sources::{ProgramFiles, SourceError, source_error_text};
 use ga_dap_control::{Configuration, Execution, Launched};
 use ga_dap_protocol::{ClientRequest, Outbox, text_at};
-use ga_dap_queries::{limit_asked, schedule_asked, stops_on_entry, tell_output};
+use ga_dap_queries::{emit_output, parse_limit, parse_schedule, stops_on_entry};
 use ga_scheduler::Schedule;
 use std::alloc::{AllocError, Global};
 
@@ -50,7 +50,7 @@ fn tell_warnings(alloc: Global, warnings: &str, out: &mut Outbox) -> Result<(), 
     if warnings.is_empty() {
         Ok(())
     } else {
-        tell_output(alloc, "stderr", warnings, out)
+        emit_output(alloc, "stderr", warnings, out)
     }
 }
 
@@ -65,7 +65,7 @@ fn tell_launched(
 {
     out.acknowledge(request)?;
     tell_warnings(alloc, warnings, out)?;
-    out.tell_alone("initialized")
+    out.add_bare_event("initialized")
 }
 
 /// What is launched of a file's text.
@@ -82,7 +82,7 @@ fn launched_text(
 {
     match open_program(alloc, path, text, limit) {
         Ok(opened) => {
-            let Opened { program, warnings } = opened;
+            let OpenedProgram { program, warnings } = opened;
             tell_launched(alloc, warnings.as_str(), request, out)?;
             let execution = Execution {
                 schedule,
@@ -118,7 +118,7 @@ fn launched_file<S: ProgramFiles>(
 {
     match sources.read(alloc, path) {
         Ok(text) => launched_text(alloc, request, path, text, limit, schedule, out),
-        Err(why) => refuse_file(alloc, request, path, words_of(why), out),
+        Err(why) => refuse_file(alloc, request, path, source_error_text(why), out),
     }
 }
 
@@ -131,9 +131,9 @@ fn launched_limit<S: ProgramFiles>(
     limit: u32,
     out: &mut Outbox,
 ) -> Result<Option<Launched>, AllocError>
-    ensures { IfOk result (λ new. (messages : Messages) × LaunchesAsked S.gives sources.old request.now (Some path.now) (Some limit) (schedule_asked (view request.now.arguments)) messages sources.new new × SendsAll out.old messages out.new) }
+    ensures { IfOk result (λ new. (messages : Messages) × LaunchesAsked S.gives sources.old request.now (Some path.now) (Some limit) (parse_schedule (view request.now.arguments)) messages sources.new new × SendsAll out.old messages out.new) }
 {
-    match schedule_asked(&request.arguments) {
+    match parse_schedule(&request.arguments) {
         None => refuse_launch(
             request,
             "launch: the order is rounds, greedy, or random with a seed of 0 to 4294967295",
@@ -151,9 +151,9 @@ fn launched_path<S: ProgramFiles>(
     path: &str,
     out: &mut Outbox,
 ) -> Result<Option<Launched>, AllocError>
-    ensures { IfOk result (λ new. (messages : Messages) × LaunchesAsked S.gives sources.old request.now (Some path.now) (limit_asked (view request.now.arguments)) (schedule_asked (view request.now.arguments)) messages sources.new new × SendsAll out.old messages out.new) }
+    ensures { IfOk result (λ new. (messages : Messages) × LaunchesAsked S.gives sources.old request.now (Some path.now) (parse_limit (view request.now.arguments)) (parse_schedule (view request.now.arguments)) messages sources.new new × SendsAll out.old messages out.new) }
 {
-    match limit_asked(&request.arguments) {
+    match parse_limit(&request.arguments) {
         None => refuse_launch(request, "launch: the limit is 1 to 4000000", out),
         Some(limit) => launched_limit(alloc, sources, request, path, limit, out),
     }
@@ -163,7 +163,7 @@ fn launched_path<S: ProgramFiles>(
 ///
 /// # Errors
 /// Memory was refused.
-pub(crate) fn launched_first<S: ProgramFiles>(
+pub(crate) fn launch_program<S: ProgramFiles>(
     alloc: Global,
     sources: &mut S,
     request: &ClientRequest,

@@ -14,4 +14,4 @@ mod turn;
 mod unanswered;
 
 pub use serving::{SessionEnd, serve_client};
-pub use sources::{Arrivals, ProgramFiles, SourceError};
+pub use sources::{PendingInput, ProgramFiles, SourceError};

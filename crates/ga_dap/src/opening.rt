@@ -8,7 +8,7 @@ ghost use Rattle.ga_image.specs.declared.fault.ImageCause.TheVariants.{Memory as
 ghost use Rattle.ga_source.specs.Made.{IsSoundSource};
 ghost use Rattle.ga_parser.specs.declared.fault.SourceCause.TheVariants.{Memory as Wanting};
 ghost use Rattle.ga_text.specs.Lines.{lines_of};
-ghost use Rattle.ga_lab.specs.Machine.{first};
+ghost use Rattle.ga_lab.specs.Machine.{initial_state};
 ghost use Rattle.ga_console.specs.Run.{Opens as OpensImage};
 ghost use Rattle.ga_explorer.specs.Opening.{begins_as_image, OpensExploring, OpensSource};
 ghost use Rattle.ga_dap.specs.Opening.{OpensProgram, IsNoProgram, NodesShown, NodesOfSource, parts_explored};
@@ -16,7 +16,7 @@ ghost use Rattle.ga_dap.specs.inner.Unopened.{IfFault};
 
 use ga_console::{open_image, refuse};
 use ga_dap_queries::Debuggee;
-use ga_debug_info::{Notes, notes_of, push_fault};
+use ga_debug_info::{DebugInfo, debug_info_of, push_fault};
 use ga_grid::{Chip, NodeId};
 use ga_image::{ImageCause, ImageFault};
 use ga_lab::{Lab, LabFault};
@@ -48,7 +48,7 @@ impl From<AllocError> for LaunchError {
 
 /// A program, and what its source is warned of.
 #[derive(Drop)]
-pub struct Opened {
+pub struct OpenedProgram {
     pub program: Debuggee,
     pub warnings: String,
 }
@@ -57,7 +57,7 @@ pub struct Opened {
 #[derive(Drop)]
 struct Contents {
     lab: Lab,
-    source: Option<Notes>,
+    source: Option<DebugInfo>,
     nodes: Vec<NodeId>,
     warnings: String,
 }
@@ -79,7 +79,7 @@ pub fn open_program(
     path: &str,
     text: Vec<u8>,
     limit: u32,
-) -> Result<Opened, LaunchError>
+) -> Result<OpenedProgram, LaunchError>
     ensures ok { IfOk result (λ opened. OpensProgram text.items limit opened.program) }
     ensures path { IfOk result (λ opened. string_bytes opened.program.path ≡ path.now) }
     ensures nodes { IfOk result (λ opened. NodesShown text.items opened.program.nodes.items) }
@@ -96,7 +96,7 @@ pub fn open_program(
 }
 
 /// The program of a file that has this path.
-fn program_of(alloc: Global, path: &str, contents: Contents) -> Result<Opened, AllocError>
+fn program_of(alloc: Global, path: &str, contents: Contents) -> Result<OpenedProgram, AllocError>
     ensures lab { IfOk result (λ opened. opened.program.lab ≡ contents.lab) }
     ensures source { IfOk result (λ opened. opened.program.source ≡ contents.source) }
     ensures nodes { IfOk result (λ opened. opened.program.nodes ≡ contents.nodes) }
@@ -111,12 +111,12 @@ fn program_of(alloc: Global, path: &str, contents: Contents) -> Result<Opened, A
     let program = Debuggee {
         lab,
         source,
-        unsaid: Notes::none(alloc),
+        unsaid: DebugInfo::none(alloc),
         nodes,
         path: String::from_str(alloc, path)?,
         name: String::from_str(alloc, name_in(path))?,
     };
-    Ok(Opened { program, warnings })
+    Ok(OpenedProgram { program, warnings })
 }
 
 /// Whether a text is an image: its first line is that of a format. Otherwise it is source.
@@ -185,7 +185,7 @@ fn source_contents(alloc: Global, source: &[u8], limit: u32) -> Result<Contents,
             let programs = assembled.programs.as_slice();
             let warnings = warnings_of(alloc, programs)?;
             let nodes = nodes_of(alloc, programs)?;
-            let notes = notes_of(alloc, source, programs)?;
+            let notes = debug_info_of(alloc, source, programs)?;
             let lab = lab_of(alloc, assembled.chip, limit)?;
             Ok(Contents {
                 lab,
@@ -198,7 +198,7 @@ fn source_contents(alloc: Global, source: &[u8], limit: u32) -> Result<Contents,
 }
 
 fn lab_of(alloc: Global, chip: Chip, limit: u32) -> Result<Lab, AllocError>
-    ensures { IfOk result (λ lab. lab ≡ first (records_of chip) limit) }
+    ensures { IfOk result (λ lab. lab ≡ initial_state (records_of chip) limit) }
 {
     match Lab::new(alloc, chip, limit) {
         Ok(lab) => Ok(lab),

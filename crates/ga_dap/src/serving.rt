@@ -2,14 +2,14 @@
 
 ghost use Rattle.std.specs.Prelude.{◌≡◌, ◌++◌, [], Some, OnOk};
 ghost use Rattle.ga_text.specs.Lines.{Bytes};
-ghost use Rattle.ga_text.specs.Output.{IsSaid, IsSaidOrCut};
+ghost use Rattle.ga_text.specs.Output.{IsWritten, IsWrittenOrTruncated};
 ghost use Rattle.ga_dap.specs.Client.{ServesClient};
 
 use crate::session::Session;
-use crate::sources::{Arrivals, ProgramFiles};
+use crate::sources::{PendingInput, ProgramFiles};
 use crate::turn::{Progress, turn};
-use ga_dap_protocol::{Broken, Inbox, Outbox};
-use ga_text::{WriteFailed, write_all};
+use ga_dap_protocol::{FrameError, Inbox, Outbox};
+use ga_text::{WriteError, write_all};
 use std::alloc::Global;
 use std::io::{Read, Write};
 
@@ -22,15 +22,15 @@ pub enum SessionEnd {
     /// of a change.
     Memory,
     /// The session ended by something that is no message: no message can be found after it.
-    Broken(Broken),
+    Broken(FrameError),
     /// A stream failed.
     StreamFault,
 }
 
 /// Writes what is to be written.
-fn send<W: Write>(writer: &mut W, out: &mut Outbox) -> Result<(), WriteFailed>
-    ensures said { (before said : Bytes) → IsSaid (W.contents writer.old) before said out.old.bytes →
-        IsSaidOrCut result (W.contents writer.new) before said [] }
+fn send<W: Write>(writer: &mut W, out: &mut Outbox) -> Result<(), WriteError>
+    ensures said { (before said : Bytes) → IsWritten (W.contents writer.old) before said out.old.bytes →
+        IsWrittenOrTruncated result (W.contents writer.new) before said [] }
     ensures sent { OnOk result (out.new ≡ record { bytes = []; seq = out.old.seq }) }
 {
     write_all(writer, out.bytes())?;
@@ -41,7 +41,7 @@ fn send<W: Write>(writer: &mut W, out: &mut Outbox) -> Result<(), WriteFailed>
 /// Serves a client of the Debug Adapter Protocol: reads requests, answers each, and continues the run in progress, a slice at a
 /// time, while no request has come. Allocates one message at a time, the history and the source. A request whose allocation
 /// fails is refused and changes nothing.
-pub fn serve_client<S: ProgramFiles, A: Arrivals, R: Read, W: Write>(
+pub fn serve_client<S: ProgramFiles, A: PendingInput, R: Read, W: Write>(
     alloc: Global,
     sources: &mut S,
     arrivals: &mut A,

@@ -1,7 +1,7 @@
 //! A session: what was launched, and the requests of the client.
 
 ghost use Rattle.std.specs.Prelude.{◌≡◌, ◌&&◌, [], ◌∷◌, Option, Some, None, codes, string_bytes, is_some, option_map, OnOk, OnErr};
-ghost use Rattle.ga_dap_control.specs.Requests.{DoesInPlace};
+ghost use Rattle.ga_dap_control.specs.Requests.{AnswersAtOnce};
 ghost use Rattle.ga_dap_control.specs.declared.launched.Launched.{Launched as ALaunched};
 ghost use Rattle.ga_dap_queries.specs.Sending.{SendsAll, Messages, acknowledged};
 ghost use Rattle.ga_dap.specs.Answering.{AnswersRequest, AnswersKnown, DoesOfLaunched, DoesStanding, DoesIfLaunched, OfLaunch, Initializes, Disconnects, Terminates, ended_run, is_of_standing, begins_run, hindrance};
@@ -11,14 +11,14 @@ ghost use Rattle.ga_dap.specs.Launches.{Launches, event_alone};
 ghost use Rattle.ga_dap.specs.inner.Carrying.{Carries};
 
 use crate::back::{refuse, reverse, step_back};
-use crate::changes::tell_slice_twice;
+use crate::changes::emit_slice_with_retry;
 use crate::console::evaluate;
-use crate::launching::launched_first;
+use crate::launching::launch_program;
 use crate::sources::ProgramFiles;
-use crate::unanswered::Unanswered;
-use ga_dap_control::{Execution, Launched, answer_in_place, make_slice};
+use crate::unanswered::NoResponse;
+use ga_dap_control::{Execution, Launched, answer_at_once, make_slice};
 use ga_dap_protocol::{ClientRequest, Outbox};
-use ga_dap_queries::{RequestName, initialize, request_named, shown_nodes};
+use ga_dap_queries::{RequestName, initialize, parse_request_name, shown_nodes};
 use std::alloc::{AllocError, Global};
 
 /// A session.
@@ -58,11 +58,11 @@ impl Session {
         sources: &mut S,
         request: &ClientRequest,
         out: &mut Outbox,
-    ) -> Result<(), Unanswered>
+    ) -> Result<(), NoResponse>
         requires { out.old.bytes ≡ [] }
         ensures { Carries result (λ messages. AnswersRequest S.gives sources.old self.old request.now messages sources.new self.new) (self.new ≡ self.old) out.old out.new }
     {
-        match request_named(request.command.as_str()) {
+        match parse_request_name(request.command.as_str()) {
             Some(command) => self.answer_known(alloc, command, sources, request, out),
             None => refuse(request, "no such request", out),
         }
@@ -76,7 +76,7 @@ impl Session {
         sources: &mut S,
         request: &ClientRequest,
         out: &mut Outbox,
-    ) -> Result<(), Unanswered>
+    ) -> Result<(), NoResponse>
         requires { out.old.bytes ≡ [] }
         ensures { Carries result (λ messages. AnswersKnown S.gives sources.old self.old command request.now messages sources.new self.new) (self.new ≡ self.old) out.old out.new }
     {
@@ -95,12 +95,12 @@ impl Session {
         alloc: Global,
         request: &ClientRequest,
         out: &mut Outbox,
-    ) -> Result<(), Unanswered>
+    ) -> Result<(), NoResponse>
         ensures { Carries result (λ messages. Initializes self.old request.now messages self.new) (self.new ≡ self.old) out.old out.new }
     {
         match initialize(alloc, request, out) {
             Ok(()) => Ok(()),
-            Err(_) => Err(Unanswered::Memory),
+            Err(_) => Err(NoResponse::Memory),
         }
     }
 
@@ -111,23 +111,23 @@ impl Session {
         sources: &mut S,
         request: &ClientRequest,
         out: &mut Outbox,
-    ) -> Result<(), Unanswered>
+    ) -> Result<(), NoResponse>
         ensures { Carries result (λ messages. OfLaunch (λ m l. Launches S.gives sources.old self.old.launched request.now m sources.new l) self.old messages self.new) (self.new ≡ self.old) out.old out.new }
     {
         match &self.launched {
             Some(_) => refuse(request, "launch: a program is launched already", out),
-            None => match launched_first(alloc, sources, request, out) {
+            None => match launch_program(alloc, sources, request, out) {
                 Ok(launched) => {
                     self.launched = launched;
                     Ok(())
                 }
-                Err(_) => Err(Unanswered::Memory),
+                Err(_) => Err(NoResponse::Memory),
             },
         }
     }
 
     /// `disconnect`: the session ends.
-    fn disconnect(&mut self, request: &ClientRequest, out: &mut Outbox) -> Result<(), Unanswered>
+    fn disconnect(&mut self, request: &ClientRequest, out: &mut Outbox) -> Result<(), NoResponse>
         ensures { Carries result (λ messages. Disconnects self.old request.now messages self.new) (self.new ≡ self.old) out.old out.new }
     {
         match out.acknowledge(request) {
@@ -135,12 +135,12 @@ impl Session {
                 self.is_over = true;
                 Ok(())
             }
-            Err(_) => Err(Unanswered::Memory),
+            Err(_) => Err(NoResponse::Memory),
         }
     }
 
     /// `terminate`: the run ends.
-    fn terminate(&mut self, request: &ClientRequest, out: &mut Outbox) -> Result<(), Unanswered>
+    fn terminate(&mut self, request: &ClientRequest, out: &mut Outbox) -> Result<(), NoResponse>
         ensures { Carries result (λ messages. Terminates self.old request.now messages self.new) (self.new ≡ self.old) out.old out.new }
     {
         match tell_terminated(request, out) {
@@ -148,7 +148,7 @@ impl Session {
                 end_run(&mut self.launched);
                 Ok(())
             }
-            Err(_) => Err(Unanswered::Memory),
+            Err(_) => Err(NoResponse::Memory),
         }
     }
 
@@ -159,7 +159,7 @@ impl Session {
         command: RequestName,
         request: &ClientRequest,
         out: &mut Outbox,
-    ) -> Result<(), Unanswered>
+    ) -> Result<(), NoResponse>
         requires { out.old.bytes ≡ [] }
         ensures { Carries result (λ messages. OfLaunch (DoesIfLaunched command self.old.launched request.now) self.old messages self.new) (self.new ≡ self.old) out.old out.new }
     {
@@ -175,7 +175,7 @@ fn tell_terminated(request: &ClientRequest, out: &mut Outbox) -> Result<(), Allo
     ensures { OnOk result (SendsAll out.old (acknowledged request.now ∷ event_alone (codes "terminated") ∷ []) out.new) }
 {
     out.acknowledge(request)?;
-    out.tell_alone("terminated")
+    out.add_bare_event("terminated")
 }
 
 /// Ends the run under way.
@@ -237,7 +237,7 @@ fn answer_by(
     command: RequestName,
     request: &ClientRequest,
     out: &mut Outbox,
-) -> Result<(), Unanswered>
+) -> Result<(), NoResponse>
     requires { out.old.bytes ≡ [] }
     ensures { Carries result (λ messages. DoesOfLaunched command launched.old request.now messages launched.new) (launched.new ≡ launched.old) out.old out.new }
 {
@@ -254,7 +254,7 @@ fn answer_standing(
     command: RequestName,
     request: &ClientRequest,
     out: &mut Outbox,
-) -> Result<(), Unanswered>
+) -> Result<(), NoResponse>
     requires { out.old.bytes ≡ [] }
     ensures { Carries result (λ messages. DoesStanding command launched.old request.now messages launched.new) (launched.new ≡ launched.old) out.old out.new }
 {
@@ -279,12 +279,12 @@ fn in_place(
     command: RequestName,
     request: &ClientRequest,
     out: &mut Outbox,
-) -> Result<(), Unanswered>
-    ensures { Carries result (λ messages. DoesInPlace command launched.old request.now messages launched.new) (launched.new ≡ launched.old) out.old out.new }
+) -> Result<(), NoResponse>
+    ensures { Carries result (λ messages. AnswersAtOnce command launched.old request.now messages launched.new) (launched.new ≡ launched.old) out.old out.new }
 {
-    match answer_in_place(alloc, launched, command, request, out) {
+    match answer_at_once(alloc, launched, command, request, out) {
         Ok(()) => Ok(()),
-        Err(_) => Err(Unanswered::Memory),
+        Err(_) => Err(NoResponse::Memory),
     }
 }
 
@@ -294,7 +294,7 @@ pub(crate) fn go_on_launched(
     alloc: Global,
     launched: &mut Launched,
     out: &mut Outbox,
-) -> Result<(), Unanswered>
+) -> Result<(), NoResponse>
     requires { out.old.bytes ≡ [] }
     ensures { Carries result (λ messages. RunGoesOn launched.old messages launched.new) (Unit {0}) out.old out.new }
 {
@@ -305,5 +305,5 @@ pub(crate) fn go_on_launched(
         &mut launched.execution,
     );
     let (program, settings) = (&launched.program, &launched.settings);
-    tell_slice_twice(alloc, program, settings, &before, &stop, out)
+    emit_slice_with_retry(alloc, program, settings, &before, &stop, out)
 }

@@ -29,7 +29,7 @@ pub enum SourceError {
 }
 
 /// The text about a file that is not read.
-pub(crate) fn words_of(why: SourceError) -> &'static str
+pub(crate) fn source_error_text(why: SourceError) -> &'static str
     ensures { result.now ≡ unread_words why }
 {
     match why {
@@ -56,7 +56,7 @@ pub trait ProgramFiles {
 }
 
 /// Whether more of the client's requests have come.
-pub trait Arrivals {
+pub trait PendingInput {
     // The host before, what it says, and the host after.
     ghost tells: { Self → Bool → Self → Type 0 };
 

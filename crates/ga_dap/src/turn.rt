@@ -10,10 +10,10 @@ ghost use Rattle.ga_dap.specs.inner.Turning.{AnswersOrEnds, DeclinesOrEnds, Cont
 
 use crate::serving::SessionEnd;
 use crate::session::{Session, go_on_launched};
-use crate::sources::{Arrivals, ProgramFiles};
-use crate::unanswered::Unanswered;
+use crate::sources::{PendingInput, ProgramFiles};
+use crate::unanswered::NoResponse;
 use ga_dap_protocol::{ClientRequest, Inbox, Next, Outbox, RequestError, read_request};
-use ga_dap_queries::tell_output;
+use ga_dap_queries::emit_output;
 use std::alloc::{AllocError, Global};
 use std::io::Read;
 
@@ -50,7 +50,7 @@ fn request_in(alloc: Global, content: &[u8]) -> Result<ClientRequest, RequestErr
 }
 
 /// The text about a message that is no request.
-fn words_of(why: RequestError) -> &'static str
+fn request_error_text(why: RequestError) -> &'static str
     ensures { result.now ≡ request_words why }
 {
     match why {
@@ -67,9 +67,9 @@ fn tell_no_request(alloc: Global, why: RequestError, out: &mut Outbox) -> Result
     ensures sent { OnOk result (SendsAll out.old (no_request_told why) out.new) }
     ensures err { OnErr result (out.new ≡ out.old) }
 {
-    let words = words_of(why);
+    let words = request_error_text(why);
     let text = format!(in alloc; "ga144: {words}\n")?;
-    tell_output(alloc, "stderr", text.as_str(), out)
+    emit_output(alloc, "stderr", text.as_str(), out)
 }
 
 /// Sends that a message is no request, and once more if an allocation failed for that.
@@ -92,7 +92,7 @@ fn refusal_of(alloc: Global, request: &ClientRequest, seq: u64) -> Result<Outbox
     ensures { IfOk result (λ out. SendsAll (sent_from seq) (refused_for_memory request.now) out) }
 {
     let mut out = Outbox::new(alloc);
-    out.take_back(seq);
+    out.discard_unsent(seq);
     out.refuse(request, "out of memory")?;
     Ok(out)
 }
@@ -125,8 +125,8 @@ fn answer<S: ProgramFiles>(
     };
     match session.answer(alloc, sources, request, out) {
         Ok(()) => Progress::On,
-        Err(Unanswered::Untold) => Progress::End(SessionEnd::Memory),
-        Err(Unanswered::Memory) => {
+        Err(NoResponse::Untold) => Progress::End(SessionEnd::Memory),
+        Err(NoResponse::Memory) => {
             *out = refusal;
             Progress::On
         }
@@ -200,7 +200,7 @@ fn go_on(alloc: Global, session: &mut Session, out: &mut Outbox) -> Progress
 }
 
 /// Whether it is time for a request: no run is in progress, or what was read shows one, or more has come.
-fn is_time<A: Arrivals>(session: &Session, inbox: &Inbox, arrivals: &mut A) -> bool
+fn is_time<A: PendingInput>(session: &Session, inbox: &Inbox, arrivals: &mut A) -> bool
     ensures { IsTime A.tells (is_running session.now) inbox.now arrivals.old result arrivals.new }
 {
     if !session.is_running() {
@@ -214,7 +214,7 @@ fn is_time<A: Arrivals>(session: &Session, inbox: &Inbox, arrivals: &mut A) -> b
 
 /// One turn of a session.
 #[tactic(auto, using(crate::proofs::Turned::turned_so, crate::proofs::Turned::gone_on_so))]
-pub(crate) fn turn<S: ProgramFiles, A: Arrivals, R: Read>(
+pub(crate) fn turn<S: ProgramFiles, A: PendingInput, R: Read>(
     alloc: Global,
     session: &mut Session,
     sources: &mut S,

@@ -2,7 +2,7 @@
 
 /// Why a request is not answered.
 #[derive(Clone, Copy, PartialEq, Eq, Debug)]
-pub(crate) enum Unanswered {
+pub(crate) enum NoResponse {
     /// Memory was refused before anything changed.
     Memory,
     /// An allocation failed for what is to be reported of a change.

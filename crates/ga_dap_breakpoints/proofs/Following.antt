@@ -22,13 +22,13 @@ use Rattle.ga_event.specs.declared.event.Cause.{Cause}
 use Rattle.ga_event.specs.declared.made.Made.{Made}
 use Rattle.ga_event.specs.declared.made.Made.TheVariants as made
 use Rattle.ga_event.specs.Touches.{touches}
-use Rattle.ga_event.specs.Apply.{Told, apply, after, unless, cause_of, refusal_of, replay}
+use Rattle.ga_event.specs.Apply.{EventOutcome, apply, after, when_allowed, cause_of, refusal_of, replay}
 use Rattle.ga_event.specs.Told.{steps_of, made_after, mades_of}
 use Rattle.ga_event.proofs.Nexts.{next_can}
 use Rattle.ga_rollback.proofs.Rewinding.{run_snoc}
 use Rattle.ga_event.specs.Next.{next}
 use Rattle.ga_lab.specs.declared.fault.LabFault.{LabFault}
-use Rattle.ga_lab.specs.Machine.{State, chip_of, history_of, told_by, told_of_kept, told_next, step_answer, with_event, unless_refused, stepped}
+use Rattle.ga_lab.specs.Machine.{State, chip_of, history_of, told_by, outcomes_of_kept, made_next, step_answer, with_event, unless_refused, stepped}
 use Rattle.ga_lab.specs.Calls.{step as call_step}
 use Rattle.ga_lab.proofs.Called.{Runs, runs_of, runs_some, chip_is, told_is, call_runs}
 use Rattle.ga_lab.proofs.Stepping.{told_after}
@@ -46,12 +46,12 @@ use Rattle.ga_scheduler.specs.Running.{Running, told_by_step, moved_by}
 use Rattle.ga_scheduler.proofs.Newest.{of_made}
 use Rattle.ga_scheduler.proofs.Stepping.{StepIs, step_is, stepped_is}
 use Rattle.ga_scheduler.proofs.WordCounts.{last_of, history_behind, kept_told}
-use Rattle.ga_debug_info.specs.declared.notes.Notes.{Notes}
-use Rattle.ga_dap_views.specs.declared.spots.Spot.{Spot}
-use Rattle.ga_dap_views.specs.Spots.{spot_by, spot_behind}
-use Rattle.ga_dap_breakpoints.specs.declared.stepping.Grain.{Grain}
-use Rattle.ga_dap_breakpoints.specs.declared.stepping.Grain.TheVariants.{Instruction, Line}
-use Rattle.ga_dap_breakpoints.specs.declared.stepping.Stepping.{Stepping}
+use Rattle.ga_debug_info.specs.declared.notes.DebugInfo.{DebugInfo}
+use Rattle.ga_dap_views.specs.declared.spots.SlotAddress.{SlotAddress}
+use Rattle.ga_dap_views.specs.Spots.{spot_by, slot_address_after}
+use Rattle.ga_dap_breakpoints.specs.declared.stepping.Granularity.{Granularity}
+use Rattle.ga_dap_breakpoints.specs.declared.stepping.Granularity.TheVariants.{Instruction, Line}
+use Rattle.ga_dap_breakpoints.specs.declared.stepping.StepMove.{StepMove}
 use Rattle.ga_dap_breakpoints.specs.Stepping.{call_behind, reaches_end, is_moved}
 use Rattle.ga_dap_breakpoints.specs.Lines.{op_at, place_back, line_on_spot, comes_on, begins_behind}
 use Rattle.ga_dap_breakpoints.specs.inner.Words.{keeps_kind, awaits_code, keeps_word, word_after, word_seen, spot_before, begins_by, reaches_by, is_moved_by}
@@ -117,40 +117,40 @@ word_comes s node k place word found told before keeps at told_is before_is is o
 
 -- ---- where a line begins
 
-stood_before : (began : ℕ) (s : State) (node : NodeId) (k : ℕ) (word : Option ℕ) → word ≡ fetched_cell s node k → spot_before began s node k word ≡ spot_behind s node (place_back began s node k)
+stood_before : (began : ℕ) (s : State) (node : NodeId) (k : ℕ) (word : Option ℕ) → word ≡ fetched_cell s node k → spot_before began s node k word ≡ slot_address_after s node (place_back began s node k)
 stood_before began s node k word is =
     let p : ℕ = place_back began s node k in
     elim (eqb_tells p k) [
-      | inl same ↦ ap (λ (b : Bool). cond b (spot_by (node_after s node.number k) word) (spot_behind s node p)) same.0 ∙ ap (spot_by (node_after s node.number k)) is ∙ ap (spot_behind s node) (sym same.1)
-      | inr other ↦ ap (λ (b : Bool). cond b (spot_by (node_after s node.number k) word) (spot_behind s node p)) other.0
+      | inl same ↦ ap (λ (b : Bool). cond b (spot_by (node_after s node.number k) word) (slot_address_after s node p)) same.0 ∙ ap (spot_by (node_after s node.number k)) is ∙ ap (slot_address_after s node) (sym same.1)
+      | inr other ↦ ap (λ (b : Bool). cond b (spot_by (node_after s node.number k) word) (slot_address_after s node p)) other.0
     ]
 
-pub begins_alike : (began : ℕ) (notes : Notes) (s : State) (node : NodeId) (k : ℕ) (before behind : Option ℕ) → before ≡ fetched_cell s node k → behind ≡ fetched_cell s node (k + 1)
+pub begins_alike : (began : ℕ) (notes : DebugInfo) (s : State) (node : NodeId) (k : ℕ) (before behind : Option ℕ) → before ≡ fetched_cell s node k → behind ≡ fetched_cell s node (k + 1)
     → begins_by began notes s node k before behind ≡ begins_behind began notes s node k
 begins_alike began notes s node k before behind first then =
-    ap (λ (z : Option Spot). comes_on notes node z (spot_by (node_after s node.number (k + 1)) behind) (op_at s node k) (line_on_spot notes node (spot_by (node_after s node.number (k + 1)) behind))) (stood_before began s node k before first)
-    ∙ ap (λ (z : Option ℕ). comes_on notes node (spot_behind s node (place_back began s node k)) (spot_by (node_after s node.number (k + 1)) z) (op_at s node k) (line_on_spot notes node (spot_by (node_after s node.number (k + 1)) z))) then
+    ap (λ (z : Option SlotAddress). comes_on notes node z (spot_by (node_after s node.number (k + 1)) behind) (op_at s node k) (line_on_spot notes node (spot_by (node_after s node.number (k + 1)) behind))) (stood_before began s node k before first)
+    ∙ ap (λ (z : Option ℕ). comes_on notes node (slot_address_after s node (place_back began s node k)) (spot_by (node_after s node.number (k + 1)) z) (op_at s node k) (line_on_spot notes node (spot_by (node_after s node.number (k + 1)) z))) then
 
 -- as it is found
-pub stood_here : (began : ℕ) (s : State) (node : NodeId) (k before : ℕ) (word : Option ℕ) (stands : NodeRecord) (found : Option Spot) → before ≡ place_back began s node k → before ≡ k → stands ≡ node_after s node.number k
+pub stood_here : (began : ℕ) (s : State) (node : NodeId) (k before : ℕ) (word : Option ℕ) (stands : NodeRecord) (found : Option SlotAddress) → before ≡ place_back began s node k → before ≡ k → stands ≡ node_after s node.number k
     → found ≡ spot_by stands word → found ≡ spot_before began s node k word
 stood_here began s node k before word stands found is here at found_is =
     found_is ∙ ap (λ (z : NodeRecord). spot_by z word) at
-    ∙ sym (ap (λ (b : Bool). cond b (spot_by (node_after s node.number k) word) (spot_behind s node (place_back began s node k))) (eq-eqb (place_back began s node k) k (sym is ∙ here)))
+    ∙ sym (ap (λ (b : Bool). cond b (spot_by (node_after s node.number k) word) (slot_address_after s node (place_back began s node k))) (eq-eqb (place_back began s node k) k (sym is ∙ here)))
 
-pub stood_back : (began : ℕ) (s : State) (node : NodeId) (k before : ℕ) (word : Option ℕ) (found : Option Spot) → before ≡ place_back began s node k → before ≢ k → found ≡ spot_behind s node before
+pub stood_back : (began : ℕ) (s : State) (node : NodeId) (k before : ℕ) (word : Option ℕ) (found : Option SlotAddress) → before ≡ place_back began s node k → before ≢ k → found ≡ slot_address_after s node before
     → found ≡ spot_before began s node k word
 stood_back began s node k before word found is other found_is =
-    found_is ∙ ap (spot_behind s node) is
-    ∙ sym (ap (λ (b : Bool). cond b (spot_by (node_after s node.number k) word) (spot_behind s node (place_back began s node k))) (ne_eqb (place_back began s node k) k (λ h. other (is ∙ h))))
+    found_is ∙ ap (slot_address_after s node) is
+    ∙ sym (ap (λ (b : Bool). cond b (spot_by (node_after s node.number k) word) (slot_address_after s node (place_back began s node k))) (ne_eqb (place_back began s node k) k (λ h. other (is ∙ h))))
 
-pub begun_by : (began : ℕ) (notes : Notes) (s : State) (node : NodeId) (k : ℕ) (before behind : Option ℕ) (there spot : Option Spot) (stands : NodeRecord) (op : Option Op) (begins : Bool) → there ≡ spot_before began s node k before
+pub begun_by : (began : ℕ) (notes : DebugInfo) (s : State) (node : NodeId) (k : ℕ) (before behind : Option ℕ) (there spot : Option SlotAddress) (stands : NodeRecord) (op : Option Op) (begins : Bool) → there ≡ spot_before began s node k before
     → spot ≡ spot_by stands behind → stands ≡ node_after s node.number (k + 1) → op ≡ op_at s node k → begins ≡ comes_on notes node there spot op (line_on_spot notes node spot)
     → begins ≡ begins_by began notes s node k before behind
 begun_by began notes s node k before behind there spot stands op begins there_is spot_is at op_is comes =
     comes
-    ∙ ap (λ (z : Option Spot). comes_on notes node z spot op (line_on_spot notes node spot)) there_is
-    ∙ ap (λ (z : Option Spot). comes_on notes node (spot_before began s node k before) z op (line_on_spot notes node z)) (spot_is ∙ ap (λ (z : NodeRecord). spot_by z behind) at)
+    ∙ ap (λ (z : Option SlotAddress). comes_on notes node z spot op (line_on_spot notes node spot)) there_is
+    ∙ ap (λ (z : Option SlotAddress). comes_on notes node (spot_before began s node k before) z op (line_on_spot notes node z)) (spot_is ∙ ap (λ (z : NodeRecord). spot_by z behind) at)
     ∙ ap (λ (z : Option Op). comes_on notes node (spot_before began s node k before) (spot_by (node_after s node.number (k + 1)) behind) z (line_on_spot notes node (spot_by (node_after s node.number (k + 1)) behind))) op_is
 
 -- ---- a machine with one event more: what its nodes did before stays
@@ -159,7 +159,7 @@ pub record More (s t : State) : Type 0 where
   pub event : Event
   pub load : t.load ≡ s.load
   pub kept : t.kept ≡ s.kept ++ event ∷ []
-  pub told : (n : ℕ) → history_of t n ≡ history_of s n ++ cond (touches event n) (told_next s event ∷ []) []
+  pub told : (n : ℕ) → history_of t n ≡ history_of s n ++ cond (touches event n) (made_next s event ∷ []) []
 
 steps-cons : (n : ℕ) (e : Event) (es : List Event) → steps_of n (e ∷ es) ≡ cond (touches e n) 1 0 + steps_of n es
 steps-cons n e es = sum_by-cons (λ (x : Event). cond (touches x n) 1 0) e es
@@ -200,7 +200,7 @@ flow_stays : (s t : State) (more : More s t) (n k : ℕ) (at : Part) → IsCount
 flow_stays s t more n k at counted l =
     ap (λ (z : NodeRecord). flow_told (slice_get (history_of t n) k) z n at) (node_stays s t more n k (omega (arith, l)))
     ∙ ap (λ (o : Option Made). flow_told o (node_after s n k) n at)
-    (ap (λ (z : List Made). slice_get z k) (more.told n) ∙ told_stays (history_of s n) (cond (touches more.event n) (told_next s more.event ∷ []) []) k (omega (arith, l, counted)))
+    (ap (λ (z : List Made). slice_get z k) (more.told n) ∙ told_stays (history_of s n) (cond (touches more.event n) (made_next s more.event ∷ []) []) k (omega (arith, l, counted)))
 
 same_moved : (f g : Part → Value) (o : Option Part) → ((at : Part) → f at ≡ g at) → option_map f o ≡ option_map g o
 same_moved f g None same = refl
@@ -234,23 +234,23 @@ fetched_stays s t more node counted k l =
 -- ---- a step of the machine
 
 told_behind : (s : State) (e : Event) → IsSome (replay s.load s.kept) → refusal_of (chip_of s) e ≡ None
-    → told_of_kept (with_event s (Ok e)) ≡ told_of_kept s ++ (cause_of (chip_of s) e, (after (chip_of s) e).1) ∷ []
+    → outcomes_of_kept (with_event s (Ok e)) ≡ outcomes_of_kept s ++ (cause_of (chip_of s) e, (after (chip_of s) e).1) ∷ []
 told_behind s e some can =
     let r : Runs s = runs_of s some in
-    let done : apply r.last e ≡ Some ((after r.last e).0, (after r.last e).1) = ap (λ o. unless o (after r.last e)) (ap (λ z. refusal_of z e) (sym (chip_is s r)) ∙ can) in
+    let done : apply r.last e ≡ Some ((after r.last e).0, (after r.last e).1) = ap (λ o. when_allowed o (after r.last e)) (ap (λ z. refusal_of z e) (sym (chip_is s r)) ∙ can) in
     ap told_by (run_snoc s.load r.last (after r.last e).0 s.kept r.told e (after r.last e).1 r.run_is done)
     ∙ ap (λ z. z ++ (cause_of r.last e, (after r.last e).1) ∷ []) (sym (told_is s r))
-    ∙ ap (λ z. told_of_kept s ++ (cause_of z e, (after z e).1) ∷ []) (sym (chip_is s r))
+    ∙ ap (λ z. outcomes_of_kept s ++ (cause_of z e, (after z e).1) ∷ []) (sym (chip_is s r))
 
 event_of : (c : List NodeRecord) (e : Event) → (cause_of c e).event ≡ e
 event_of c e = refl
 
 history_with : (s : State) (e : Event) (n : ℕ) → IsSome (replay s.load s.kept) → refusal_of (chip_of s) e ≡ None
-    → history_of (with_event s (Ok e)) n ≡ history_of s n ++ cond (touches e n) (told_next s e ∷ []) []
+    → history_of (with_event s (Ok e)) n ≡ history_of s n ++ cond (touches e n) (made_next s e ∷ []) []
 history_with s e n some can =
-    let x : Cause × Told = (cause_of (chip_of s) e, (after (chip_of s) e).1) in
+    let x : Cause × EventOutcome = (cause_of (chip_of s) e, (after (chip_of s) e).1) in
     ap (λ z. mades_of z n) (told_behind s e some can)
-    ∙ history_behind [] (told_of_kept s) x n
+    ∙ history_behind [] (outcomes_of_kept s) x n
     ∙ ap (λ (z : List Event). history_of s n ++ last_of z x n) (kept_told s some)
     ∙ ap (λ (z : Event). history_of s n ++ cond (touches z n) (option_to_list (made_after s.kept z (after (chip_of s) e).1)) []) (event_of (chip_of s) e)
     ∙ ap (λ (o : Option Made). history_of s n ++ cond (touches e n) (option_to_list o) []) (told_after s e)
@@ -263,7 +263,7 @@ pub record IsWell (s : State) (n : ℕ) : Type 0 where
 -- and one after a step
 pub record Step (s : State) (m : NodeId) (told : Made) : Type 0 where
   pub more : More s (stepped s m)
-  pub same : told_next s more.event ≡ told
+  pub same : made_next s more.event ≡ told
   pub touch : (n : ℕ) → touches more.event n ≡ is_step_of n told
 
 pub step_of : (s : State) (m : NodeId) (told : Made) → IsSome (replay s.load s.kept) → step_answer s m ≡ Ok told → Step s m told
@@ -297,8 +297,8 @@ counted_more s m told by n counted =
     steps_more s m told by n
     ∙ ap (λ (z : ℕ). z + cond (is_step_of n told) 1 0) counted
     ∙ ap (λ (b : Bool). length (history_of s n) + cond b 1 0) (sym (by.touch n))
-    ∙ sym (ap length (by.more.told n) ∙ length-append (history_of s n) (cond (touches by.more.event n) (told_next s by.more.event ∷ []) [])
-    ∙ ap (λ (z : ℕ). length (history_of s n) + z) (one_told (touches by.more.event n) (told_next s by.more.event)))
+    ∙ sym (ap length (by.more.told n) ∙ length-append (history_of s n) (cond (touches by.more.event n) (made_next s by.more.event ∷ []) [])
+    ∙ ap (λ (z : ℕ). length (history_of s n) + z) (one_told (touches by.more.event n) (made_next s by.more.event)))
 
 pub well_more : (s : State) (m : NodeId) (told : Made) (n : ℕ) → step_answer s m ≡ Ok told → IsWell s n → IsWell (stepped s m) n
 well_more s m told n h well =
@@ -329,8 +329,8 @@ word_more s m told by node word counted is = go (is_step_of node.number told) (s
 
 -- ---- a move that is watched by the cell ends where it does by looking back
 
-reach_alike : (notes : Notes) (by : Stepping) (s : State) (m : NodeId) (told : Made) (step : Step s m told) (word : Option ℕ) → IsCounted s by.node.number → (by.grain ≡ Line → IsWord s by.node word)
-    → is_step_of by.node.number told ≡ true → (grain : Grain) → by.grain ≡ grain
+reach_alike : (notes : DebugInfo) (by : StepMove) (s : State) (m : NodeId) (told : Made) (step : Step s m told) (word : Option ℕ) → IsCounted s by.node.number → (by.grain ≡ Line → IsWord s by.node word)
+    → is_step_of by.node.number told ≡ true → (grain : Granularity) → by.grain ≡ grain
     → reaches_by grain by.began notes by.node (stepped s m) (steps_of by.node.number (stepped s m).kept - 1) word (word_seen by.node word told (stepped s m))
     ≡ reaches_end grain by.began notes by.node (stepped s m) (steps_of by.node.number (stepped s m).kept - 1)
 reach_alike notes by s m told step word counted right own Instruction is = refl
@@ -342,7 +342,7 @@ reach_alike notes by s m told step word counted right own Line is =
     (before_more s m told step by.node word counted (right is) ∙ ap (fetched_cell t by.node) (let e : steps_of n s.kept ≡ steps_of n t.kept - 1 = omega (arith, all) in e))
     (word_more s m told step by.node word counted (right is) ∙ ap (fetched_cell t by.node) (let e : steps_of n t.kept ≡ steps_of n t.kept - 1 + 1 = omega (arith, all) in e))
 
-moved_step : (notes : Notes) (by : Stepping) (s : State) (m : NodeId) (told : Made) (step : Step s m told) (word : Option ℕ) → IsCounted s by.node.number → (by.grain ≡ Line → IsWord s by.node word)
+moved_step : (notes : DebugInfo) (by : StepMove) (s : State) (m : NodeId) (told : Made) (step : Step s m told) (word : Option ℕ) → IsCounted s by.node.number → (by.grain ≡ Line → IsWord s by.node word)
     → is_moved_by notes by word told (stepped s m) ≡ is_moved notes by told (stepped s m)
 moved_step notes by s m told step word counted right = go (is_step_of by.node.number told) refl
   where
@@ -382,7 +382,7 @@ word_next r (Some m) node word well is = go (step_answer r.state m) refl
     go (Err why) at =
         ap (λ (z : Option Made). word_told node word z (stepped r.state m)) (ap result_ok at) ∙ subst (λ (z : State). IsWord z node word) (refused_stays r.state m why at) is
 
-pub moved_alike : (notes : Notes) (by : Stepping) (word : Option ℕ) (r : Running) (o : Option NodeId) (told : Made) → told_by_step r.state o ≡ Some told → IsWell r.state by.node.number
+pub moved_alike : (notes : DebugInfo) (by : StepMove) (word : Option ℕ) (r : Running) (o : Option NodeId) (told : Made) → told_by_step r.state o ≡ Some told → IsWell r.state by.node.number
     → (by.grain ≡ Line → IsWord r.state by.node word) → is_moved_by notes by word told (moved_by r o).state ≡ is_moved notes by told (moved_by r o).state
 moved_alike notes by word r None told h well right = absurd (cc)
 moved_alike notes by word r (Some m) told h well right = go (step_answer r.state m) refl h

@@ -12,15 +12,15 @@ use Rattle.ga_dap_breakpoints.specs.declared.breakpoint.Breakpoint.{Breakpoint}
 use Rattle.ga_dap_breakpoints.specs.declared.hits.HitTally.{HitTally}
 use Rattle.ga_dap_breakpoints.specs.declared.going.Halt.{Halt}
 use Rattle.ga_dap_breakpoints.specs.Breakpoints.{tally_behind, is_stopping, ends_early}
-use Rattle.ga_dap_breakpoints.specs.Going.{Course, tally_told, tally_on, halts_told, halts_behind, NeverHalts, IsFirst, HasGone, going_on, stepping_on}
-use Rattle.ga_dap_breakpoints.specs.inner.Cells.{halt_hit, halt_of, with_hits, Cells, ends_by}
+use Rattle.ga_dap_breakpoints.specs.Going.{Course, tally_told, tally_on, halts_told, halts_behind, NeverHalts, IsFirst, IsMoveResult, going_on, stepping_on}
+use Rattle.ga_dap_breakpoints.specs.inner.Cells.{halt_hit, halt_of, with_hits, InstructionCells, ends_by}
 use Rattle.ga_scheduler.specs.Conditions.{is_step_of}
 use Rattle.ga_event.specs.Apply.{replay}
 use Rattle.ga_dap_breakpoints.specs.declared.halts.Halts.{Halts}
-use Rattle.ga_dap_breakpoints.specs.declared.halts.Halting.{Halting}
+use Rattle.ga_dap_breakpoints.specs.declared.halts.HaltMonitor.{HaltMonitor}
 use Rattle.ga_dap_breakpoints.specs.declared.moves.Steps.{Steps}
-use Rattle.ga_dap_breakpoints.specs.declared.stepping.Stepping.{Stepping}
-use Rattle.ga_dap_breakpoints.specs.declared.stepping.Grain.TheVariants.{Line}
+use Rattle.ga_dap_breakpoints.specs.declared.stepping.StepMove.{StepMove}
+use Rattle.ga_dap_breakpoints.specs.declared.stepping.Granularity.TheVariants.{Line}
 use Rattle.ga_dap_breakpoints.specs.Stepping.{call_behind, step_seen, step_told, stepped_on}
 use Rattle.ga_dap_breakpoints.specs.inner.Words.{word_seen, is_moved_by}
 use Rattle.ga_dap_breakpoints.proofs.Following.{IsWell, IsWord, word_told, well_next, word_next, moved_alike}
@@ -43,7 +43,7 @@ or_right false false c h k is = is
 
 hit_so : (g : Course) (r : Running) (most n k : ℕ) (told : Made) (s : State) (hit : Option ℕ) (stopping : Bool) → s ≡ (first_moved g.node (after_first g.node r k)).state → IsFirst g r n k told
     → (tally_behind g.breakpoints told s (g.tally k)).hit ≡ hit → is_stopping g.stops g.node told ≡ stopping → ((is_some hit || stopping) || g.ends k told s) ≡ true
-    → HasGone g r most n (halt_hit stopping told hit)
+    → IsMoveResult g r most n (halt_hit stopping told hit)
 hit_so g r most n k told s (Some which) stopping at first is stop ends =
     (k, first, ap (λ (z : State). (tally_behind g.breakpoints told z (g.tally k)).hit) (sym at) ∙ is)
 hit_so g r most n k told s None true at first is stop ends =
@@ -68,7 +68,7 @@ IsNewestHit g r n hit = (k : ℕ) (told : Made) → n ≡ k + 1 → told_first g
 
 pub went_so : {W : Type 0} (ends : W → Made → State → Bool) (seen : W → Made → State → W) (w : W) (r now : Running) (g : Course) (most n : ℕ) (end : WatchedEnd) (halt : Halt) (hit : Option ℕ)
     → AreAlike (watching g.node ends seen) w r g → now ≡ after_first g.node r n → HasEndedWatched (watching g.node ends seen) w r most n end
-    → IsNewestHit g r n hit → halt ≡ halt_of hit g.stops g.node end → HasGone g r most n halt
+    → IsNewestHit g r n hit → halt ≡ halt_of hit g.stops g.node end → IsMoveResult g r most n halt
 went_so ends seen w r now g most n (the_end.Seen told) halt hit alike at h counted is =
     let by = watching g.node ends seen in
     let k : ℕ = h.0 in
@@ -79,15 +79,15 @@ went_so ends seen w r now g most n (the_end.Seen told) halt hit alike at h count
     ap (λ (z : Running). halts_told g k (Some told) z.state) here ∙ sym (ap (λ (o : Option Made). halts_told g k o next.state) h.3) ∙ says in
     let tallied : Option ℕ = (tally_behind g.breakpoints told now.state (g.tally k)).hit in
     let same : hit ≡ tallied = counted k told h.1 h.3 ∙ ap (λ (z : Running). (tally_behind g.breakpoints told z.state (g.tally k)).hit) (sym here) in
-    subst (HasGone g r most n) (sym (is ∙ ap (halt_hit (is_stopping g.stops g.node told) told) same))
+    subst (IsMoveResult g r most n) (sym (is ∙ ap (halt_hit (is_stopping g.stops g.node told) told) same))
     (hit_so g r most n k told now.state tallied (is_stopping g.stops g.node told) (ap (λ (z : Running). z.state) here)
     (record { last = h.1; before = never_so by w r g k alike h.2; made = h.3 }) refl refl ends_so)
 went_so ends seen w r now g most n the_end.Made halt hit alike at h counted is =
-    subst (HasGone g r most n) (sym is) (h.0, never_so (watching g.node ends seen) w r g n alike h.1)
+    subst (IsMoveResult g r most n) (sym is) (h.0, never_so (watching g.node ends seen) w r g n alike h.1)
 went_so ends seen w r now g most n the_end.Quiet halt hit alike at h counted is =
-    subst (HasGone g r most n) (sym is) (h.0, never_so (watching g.node ends seen) w r g n alike h.1, h.2)
+    subst (IsMoveResult g r most n) (sym is) (h.0, never_so (watching g.node ends seen) w r g n alike h.1, h.2)
 went_so ends seen w r now g most n (the_end.Refused why) halt hit alike at h counted is =
-    subst (HasGone g r most n) (sym is) (h.0, never_so (watching g.node ends seen) w r g n alike h.1, h.2)
+    subst (IsMoveResult g r most n) (sym is) (h.0, never_so (watching g.node ends seen) w r g n alike h.1, h.2)
 
 abbrev pub Replays : State → Type 0
 Replays s = IsSome (replay s.load s.kept)
@@ -95,7 +95,7 @@ Replays s = IsSome (replay s.load s.kept)
 -- ---- along a run, whichever node comes first
 
 -- the cells after `n` events
-abbrev pub cells_on : Option NodeId → List Breakpoint → Cells → Running → ℕ → Cells
+abbrev pub cells_on : Option NodeId → List Breakpoint → InstructionCells → Running → ℕ → InstructionCells
 cells_on first breakpoints cells r zero = cells
 cells_on first breakpoints cells r (suc k) =
     cells_told breakpoints (told_first first (after_first first r k)) (first_moved first (after_first first r k)).state (cells_on first breakpoints cells r k)
@@ -104,7 +104,7 @@ replays_on : (first : Option NodeId) (r : Running) (k : ℕ) → Replays r.state
 replays_on first r zero some = some
 replays_on first r (suc k) some = replays_next (after_first first r k) (chosen_first first (after_first first r k)) (replays_on first r k some)
 
-known_on : (first : Option NodeId) (breakpoints : List Breakpoint) (cells : Cells) (r : Running) (k : ℕ) → Replays r.state → IsKnown r.state cells
+known_on : (first : Option NodeId) (breakpoints : List Breakpoint) (cells : InstructionCells) (r : Running) (k : ℕ) → Replays r.state → IsKnown r.state cells
     → IsKnown (after_first first r k).state (cells_on first breakpoints cells r k)
 known_on first breakpoints cells r zero some known = known
 known_on first breakpoints cells r (suc k) some known =
@@ -112,14 +112,14 @@ known_on first breakpoints cells r (suc k) some known =
     (known_on first breakpoints cells r k some known)
 
 -- the hits by the cells, after the event with number `k`
-tally_alike : (first : Option NodeId) (breakpoints : List Breakpoint) (cells : Cells) (tally : HitTally) (r : Running) (k : ℕ) (o : Option Made) → Replays r.state → IsKnown r.state cells
+tally_alike : (first : Option NodeId) (breakpoints : List Breakpoint) (cells : InstructionCells) (tally : HitTally) (r : Running) (k : ℕ) (o : Option Made) → Replays r.state → IsKnown r.state cells
     → told_first first (after_first first r k) ≡ o
     → tally_told_by breakpoints tally (cells_on first breakpoints cells r k) o (first_moved first (after_first first r k)).state
     ≡ tally_told breakpoints tally o (first_moved first (after_first first r k)).state
 tally_alike first breakpoints cells tally r k o some known is =
     let at : Running = after_first first r k in
     let s : State = (first_moved first at).state in
-    let then : Cells = cells_on first breakpoints cells r k in
+    let then : InstructionCells = cells_on first breakpoints cells r k in
     sym (ap (λ (z : Option Made). tally_told_by breakpoints tally then z s) is)
     ∙ tally_next at (chosen_first first at) breakpoints then tally (replays_on first r k some) (known_on first breakpoints cells r k some known)
     ∙ ap (λ (z : Option Made). tally_told breakpoints tally z s) is
@@ -127,27 +127,27 @@ tally_alike first breakpoints cells tally r k o some known is =
 -- ---- `continue`
 
 -- no cell is known at first
-abbrev pub halting_by : Halts → Halting
+abbrev pub halting_by : Halts → HaltMonitor
 halting_by halts = record { halts = halts; cells = replicate 144 None }
 
-abbrev pub by_halts : Watching Halting
+abbrev pub by_halts : Watching HaltMonitor
 by_halts =
-    watching None (λ (w : Halting) (told : Made) (s : State). ends_by w.halts.breakpoints.now w.cells w.halts.tally w.halts.stops None told s)
-    (λ (w : Halting) (told : Made) (s : State). with_hits w told s)
+    watching None (λ (w : HaltMonitor) (told : Made) (s : State). ends_by w.halts.breakpoints.now w.cells w.halts.tally w.halts.stops None told s)
+    (λ (w : HaltMonitor) (told : Made) (s : State). with_hits w told s)
 
-abbrev pub with_found : Halting → HitTally → Cells → Halting
+abbrev pub with_found : HaltMonitor → HitTally → InstructionCells → HaltMonitor
 with_found w tally cells = record w { halts = record w.halts { tally = tally }; cells = cells }
 
 -- a watch that begins with cells that are known rightly
-abbrev pub BeginsKnown : Halting → Running → Type 0
+abbrev pub BeginsKnown : HaltMonitor → Running → Type 0
 BeginsKnown w r = Replays r.state × IsKnown r.state w.cells
 
-counts_told : (w : Halting) (tally : HitTally) (cells : Cells) (o : Option Made) (s : State)
+counts_told : (w : HaltMonitor) (tally : HitTally) (cells : InstructionCells) (o : Option Made) (s : State)
     → seen_told by_halts (with_found w tally cells) o s ≡ with_found w (tally_told_by w.halts.breakpoints.now tally cells o s) (cells_told w.halts.breakpoints.now o s cells)
 counts_told w tally cells None s = refl
 counts_told w tally cells (Some told) s = refl
 
-pub hits_after : (w : Halting) (r : Running) (k : ℕ) → BeginsKnown w r
+pub hits_after : (w : HaltMonitor) (r : Running) (k : ℕ) → BeginsKnown w r
     → watch_after by_halts w r k ≡ with_found w (tally_on None w.halts.breakpoints.now w.halts.tally r k) (cells_on None w.halts.breakpoints.now w.cells r k)
 hits_after w r zero begins = refl
 hits_after w r (suc k) begins =
@@ -155,8 +155,8 @@ hits_after w r (suc k) begins =
     let s : State = (first_moved None (after_first None r k)).state in
     let breakpoints : List Breakpoint = w.halts.breakpoints.now in
     let tally : HitTally = tally_on None breakpoints w.halts.tally r k in
-    let cells : Cells = cells_on None breakpoints w.cells r k in
-    ap (λ (z : Halting). seen_told by_halts z o s) (hits_after w r k begins)
+    let cells : InstructionCells = cells_on None breakpoints w.cells r k in
+    ap (λ (z : HaltMonitor). seen_told by_halts z o s) (hits_after w r k begins)
     ∙ counts_told w tally cells o s
     ∙ ap (λ (z : HitTally). with_found w z (cells_told breakpoints o s cells)) (tally_alike None breakpoints w.cells tally r k o begins.0 begins.1 refl)
 
@@ -164,7 +164,7 @@ or_false : (b : Bool) → b ≡ (b || false)
 or_false true = refl
 or_false false = refl
 
-told_alike : (w : Halting) (r : Running) (k : ℕ) → BeginsKnown w r → (o : Option Made) → told_first None (after_first None r k) ≡ o
+told_alike : (w : HaltMonitor) (r : Running) (k : ℕ) → BeginsKnown w r → (o : Option Made) → told_first None (after_first None r k) ≡ o
     → ends_told by_halts (with_found w (tally_on None w.halts.breakpoints.now w.halts.tally r k) (cells_on None w.halts.breakpoints.now w.cells r k)) o (first_moved None (after_first None r k)).state
     ≡ halts_told (going_on w.halts.breakpoints.now w.halts.tally w.halts.stops r) k o (first_moved None (after_first None r k)).state
 told_alike w r k begins None is = refl
@@ -175,11 +175,11 @@ told_alike w r k begins (Some told) is =
     ap (λ (z : HitTally). is_some z.hit || is_stopping w.halts.stops None told) (tally_alike None breakpoints w.cells tally r k (Some told) begins.0 begins.1 is)
     ∙ or_false (ends_early breakpoints tally w.halts.stops None told s)
 
-pub go_alike : (w : Halting) (r : Running) → BeginsKnown w r → AreAlike by_halts w r (going_on w.halts.breakpoints.now w.halts.tally w.halts.stops r)
+pub go_alike : (w : HaltMonitor) (r : Running) → BeginsKnown w r → AreAlike by_halts w r (going_on w.halts.breakpoints.now w.halts.tally w.halts.stops r)
 go_alike w r begins k =
     let o : Option Made = told_first None (after_first None r k) in
     let s : State = (first_moved None (after_first None r k)).state in
-    ap (λ (z : Halting). ends_told by_halts z o s) (hits_after w r k begins) ∙ told_alike w r k begins o refl
+    ap (λ (z : HaltMonitor). ends_told by_halts z o s) (hits_after w r k begins) ∙ told_alike w r k begins o refl
 
 -- ---- a move of a node
 
@@ -189,38 +189,38 @@ by_steps node =
     (λ (w : Steps) (told : Made) (s : State). ends_by w.halting.halts.breakpoints.now w.halting.cells w.halting.halts.tally w.halting.halts.stops (Some w.stepping.node) told s || is_moved_by w.notes.now w.stepping w.word told s)
     (λ (w : Steps) (told : Made) (s : State). record w { halting = with_hits w.halting told s; stepping = step_seen w.stepping told s; word = word_seen w.stepping.node w.word told s })
 
-abbrev pub with_parts : Steps → HitTally → Cells → Stepping → Option ℕ → Steps
+abbrev pub with_parts : Steps → HitTally → InstructionCells → StepMove → Option ℕ → Steps
 with_parts w tally cells by word = record w { halting = with_found w.halting tally cells; stepping = by; word = word }
 
-goes_told : (node : NodeId) (w : Steps) (tally : HitTally) (cells : Cells) (by : Stepping) (word : Option ℕ) (o : Option Made) (s : State)
+goes_told : (node : NodeId) (w : Steps) (tally : HitTally) (cells : InstructionCells) (by : StepMove) (word : Option ℕ) (o : Option Made) (s : State)
     → seen_told (by_steps node) (with_parts w tally cells by word) o s
     ≡ with_parts w (tally_told_by w.halting.halts.breakpoints.now tally cells o s) (cells_told w.halting.halts.breakpoints.now o s cells) (step_told by o s) (word_told by.node word o s)
 goes_told node w tally cells by word None s = refl
 goes_told node w tally cells by word (Some told) s = refl
 
-chosen_node : (b : Bool) (by : Stepping) (call : Option ℕ) → (cond {A = Stepping} b (record by { call = call }) by).node ≡ by.node
+chosen_node : (b : Bool) (by : StepMove) (call : Option ℕ) → (cond {A = StepMove} b (record by { call = call }) by).node ≡ by.node
 chosen_node true by call = refl
 chosen_node false by call = refl
 
-chosen_grain : (b : Bool) (by : Stepping) (call : Option ℕ) → (cond {A = Stepping} b (record by { call = call }) by).grain ≡ by.grain
+chosen_grain : (b : Bool) (by : StepMove) (call : Option ℕ) → (cond {A = StepMove} b (record by { call = call }) by).grain ≡ by.grain
 chosen_grain true by call = refl
 chosen_grain false by call = refl
 
-told_node : (by : Stepping) (o : Option Made) (s : State) → (step_told by o s).node ≡ by.node
+told_node : (by : StepMove) (o : Option Made) (s : State) → (step_told by o s).node ≡ by.node
 told_node by None s = refl
 told_node by (Some told) s = chosen_node (is_step_of by.node.number told) by (call_behind s by.node by.over by.call)
 
-told_grain : (by : Stepping) (o : Option Made) (s : State) → (step_told by o s).grain ≡ by.grain
+told_grain : (by : StepMove) (o : Option Made) (s : State) → (step_told by o s).grain ≡ by.grain
 told_grain by None s = refl
 told_grain by (Some told) s = chosen_grain (is_step_of by.node.number told) by (call_behind s by.node by.over by.call)
 
-same_node : (by : Stepping) (r : Running) (k : ℕ) → (stepped_on by r k).node ≡ by.node
+same_node : (by : StepMove) (r : Running) (k : ℕ) → (stepped_on by r k).node ≡ by.node
 same_node by r zero = refl
 same_node by r (suc k) =
     let first : Option NodeId = Some by.node in
     told_node (stepped_on by r k) (told_first first (after_first first r k)) (first_moved first (after_first first r k)).state ∙ same_node by r k
 
-same_grain : (by : Stepping) (r : Running) (k : ℕ) → (stepped_on by r k).grain ≡ by.grain
+same_grain : (by : StepMove) (r : Running) (k : ℕ) → (stepped_on by r k).grain ≡ by.grain
 same_grain by r zero = refl
 same_grain by r (suc k) =
     let first : Option NodeId = Some by.node in
@@ -243,8 +243,8 @@ goes_after w r (suc k) begins =
     let s : State = (first_moved first (after_first first r k)).state in
     let breakpoints : List Breakpoint = w.halting.halts.breakpoints.now in
     let tally : HitTally = tally_on first breakpoints w.halting.halts.tally r k in
-    let cells : Cells = cells_on first breakpoints w.halting.cells r k in
-    let by : Stepping = stepped_on w.stepping r k in
+    let cells : InstructionCells = cells_on first breakpoints w.halting.cells r k in
+    let by : StepMove = stepped_on w.stepping r k in
     let word : Option ℕ = word_on w.stepping.node w.word r k in
     ap (λ (z : Steps). seen_told (by_steps w.stepping.node) z o s) (goes_after w r k begins)
     ∙ goes_told w.stepping.node w tally cells by word o s
@@ -274,11 +274,11 @@ step_alike_told w r k begins (Some told) is =
     let node : NodeId = w.stepping.node in
     let at : Running = after_first (Some node) r k in
     let s : State = (first_moved (Some node) at).state in
-    let by : Stepping = stepped_on w.stepping r k in
+    let by : StepMove = stepped_on w.stepping r k in
     let breakpoints : List Breakpoint = w.halting.halts.breakpoints.now in
     let stops : Bool = w.halting.halts.stops in
     let tally : HitTally = tally_on (Some node) breakpoints w.halting.halts.tally r k in
-    let cells : Cells = cells_on (Some node) breakpoints w.halting.cells r k in
+    let cells : InstructionCells = cells_on (Some node) breakpoints w.halting.cells r k in
     let word : Option ℕ = word_on node w.word r k in
     let same : node ≡ by.node = sym (same_node w.stepping r k) in
     let well : IsWell r.state node.number = well_of r.state begins.0.0 node.number in

@@ -5,22 +5,22 @@ use Rattle.ga_node.specs.Record.{NodeRecord}
 use Rattle.ga_grid.specs.Chip.{record_at}
 use Rattle.ga_grid.specs.declared.node_id.NodeId.{NodeId}
 use Rattle.ga_event.specs.Told.{steps_of}
-use Rattle.ga_lab.specs.Machine.{State, Standing, standing, chip_of, earlier}
+use Rattle.ga_lab.specs.Machine.{State, NodeAtStep, node_at_step, chip_of, earlier}
 use Rattle.ga_provenance.specs.Origins.{node_after}
 use Rattle.ga_provenance.proofs.Made.{stood_of}
 use Rattle.ga_dap_breakpoints.specs.declared.breakpoint.Breakpoint.{Breakpoint}
 use Rattle.ga_dap_breakpoints.specs.declared.condition.HitCount.{HitCount}
-use Rattle.ga_dap_breakpoints.specs.Conditions.{is_hit_asked}
+use Rattle.ga_dap_breakpoints.specs.Conditions.{meets_hit_condition}
 use Rattle.ga_dap_breakpoints.specs.Reversing.{has_hit, hits_among, newest_asked}
 
 -- a node that was walked back
-pub stands_so : (s : State) (node : NodeId) (walk : Standing) (step reached : ℕ) (behind : NodeRecord) → walk ≡ standing s node step → reached ≡ walk.step
+pub stands_so : (s : State) (node : NodeId) (walk : NodeAtStep) (step reached : ℕ) (behind : NodeRecord) → walk ≡ node_at_step s node step → reached ≡ walk.step
     → reached ≤ steps_of walk.node.number walk.machine.kept
     → ((place : ℕ) → steps_of walk.node.number (take place walk.machine.kept) ≡ walk.step → behind ≡ record_at (chip_of (earlier walk.machine place)) walk.node.number)
     → behind ≡ node_after s node.number step
 stands_so s node walk step reached behind at is within h =
     let inside : step ≤ steps_of node.number s.kept =
-    subst (λ (z : Standing). z.step ≤ steps_of z.node.number z.machine.kept) at (subst (λ (z : ℕ). z ≤ steps_of walk.node.number walk.machine.kept) is within) in
+    subst (λ (z : NodeAtStep). z.step ≤ steps_of z.node.number z.machine.kept) at (subst (λ (z : ℕ). z ≤ steps_of walk.node.number walk.machine.kept) is within) in
     stood_of s node walk step behind at inside h
 
 -- ---- one step more
@@ -35,33 +35,33 @@ hit_more s node one step hit some is =
 pub no_hits : (s : State) (node : NodeId) (one : Breakpoint) (step : ℕ) → step ≡ 0 → hits_among s node one step ≡ 0
 no_hits s node one step first = ap (hits_among s node one) first
 
-asked_so : (hits : Option HitCount) (a b : ℕ) → ((h : HitCount) → hits ≡ Some h → a ≡ b) → is_hit_asked hits a ≡ is_hit_asked hits b
+asked_so : (hits : Option HitCount) (a b : ℕ) → ((h : HitCount) → hits ≡ Some h → a ≡ b) → meets_hit_condition hits a ≡ meets_hit_condition hits b
 asked_so None a b f = refl
-asked_so (Some h) a b f = ap (is_hit_asked (Some h)) (f h refl)
+asked_so (Some h) a b f = ap (meets_hit_condition (Some h)) (f h refl)
 
 newest_so : (s : State) (node : NodeId) (one : Breakpoint) (step number : ℕ) (hit asks : Bool) → 0 < step → hit ≡ has_hit s node one (step - 1)
-    → asks ≡ (hit && is_hit_asked one.hits number) → ((h : HitCount) → one.hits ≡ Some h → number ≡ hits_among s node one step)
+    → asks ≡ (hit && meets_hit_condition one.hits number) → ((h : HitCount) → one.hits ≡ Some h → number ≡ hits_among s node one step)
     → newest_asked s node one step ≡ cond asks (Some step) (newest_asked s node one (step - 1))
 newest_so s node one step number hit asks some is asked counted =
     let k : ℕ = step - 1 in
     let here : step ≡ suc k = omega arith in
     let e : k + 1 ≡ step = omega arith in
-    let counts : is_hit_asked one.hits (hits_among s node one (k + 1)) ≡ is_hit_asked one.hits number =
-    ap (λ (z : ℕ). is_hit_asked one.hits (hits_among s node one z)) e ∙ sym (asked_so one.hits number (hits_among s node one step) counted) in
+    let counts : meets_hit_condition one.hits (hits_among s node one (k + 1)) ≡ meets_hit_condition one.hits number =
+    ap (λ (z : ℕ). meets_hit_condition one.hits (hits_among s node one z)) e ∙ sym (asked_so one.hits number (hits_among s node one step) counted) in
     ap (newest_asked s node one) here
-    ∙ ap (λ (b : Bool). cond (b && is_hit_asked one.hits (hits_among s node one (k + 1))) (Some (k + 1)) (newest_asked s node one k)) (sym is)
+    ∙ ap (λ (b : Bool). cond (b && meets_hit_condition one.hits (hits_among s node one (k + 1))) (Some (k + 1)) (newest_asked s node one k)) (sym is)
     ∙ ap (λ (b : Bool). cond (hit && b) (Some (k + 1)) (newest_asked s node one k)) counts
     ∙ ap (λ (b : Bool). cond b (Some (k + 1)) (newest_asked s node one k)) (sym asked)
     ∙ ap (λ (z : ℕ). cond asks (Some z) (newest_asked s node one k)) e
 
 pub newest_here : (s : State) (node : NodeId) (one : Breakpoint) (step number : ℕ) (hit asks : Bool) → 0 < step → hit ≡ has_hit s node one (step - 1)
-    → asks ≡ (hit && is_hit_asked one.hits number) → ((h : HitCount) → one.hits ≡ Some h → number ≡ hits_among s node one step) → asks ≡ true
+    → asks ≡ (hit && meets_hit_condition one.hits number) → ((h : HitCount) → one.hits ≡ Some h → number ≡ hits_among s node one step) → asks ≡ true
     → newest_asked s node one step ≡ Some step
 newest_here s node one step number hit asks some is asked counted here =
     newest_so s node one step number hit asks some is asked counted ∙ ap (λ (b : Bool). cond b (Some step) (newest_asked s node one (step - 1))) here
 
 pub newest_before : (s : State) (node : NodeId) (one : Breakpoint) (step number : ℕ) (hit asks : Bool) → 0 < step → hit ≡ has_hit s node one (step - 1)
-    → asks ≡ (hit && is_hit_asked one.hits number) → ((h : HitCount) → one.hits ≡ Some h → number ≡ hits_among s node one step) → asks ≡ false
+    → asks ≡ (hit && meets_hit_condition one.hits number) → ((h : HitCount) → one.hits ≡ Some h → number ≡ hits_among s node one step) → asks ≡ false
     → newest_asked s node one step ≡ newest_asked s node one (step - 1)
 newest_before s node one step number hit asks some is asked counted here =
     newest_so s node one step number hit asks some is asked counted ∙ ap (λ (b : Bool). cond b (Some step) (newest_asked s node one (step - 1))) here

@@ -23,7 +23,7 @@ use Rattle.ga_event.specs.Apply.{replay}
 use Rattle.ga_event.specs.Told.{steps_of}
 use Rattle.ga_event.specs.Touches.{touches}
 use Rattle.ga_lab.specs.declared.fault.LabFault.{LabFault}
-use Rattle.ga_lab.specs.Machine.{State, chip_of, history_of, step_answer, stepped, told_next, undone}
+use Rattle.ga_lab.specs.Machine.{State, chip_of, history_of, step_answer, stepped, made_next, undone}
 use Rattle.ga_provenance.specs.Origins.{node_after}
 use Rattle.ga_provenance.specs.Fetched.{fetched_cell}
 use Rattle.ga_scheduler.specs.Conditions.{is_step_of, is_own_at, stores_in, node_before}
@@ -35,11 +35,11 @@ use Rattle.ga_dap_breakpoints.specs.declared.back.Watched.TheVariants.{Comes, Wr
 use Rattle.ga_dap_breakpoints.specs.declared.breakpoint.Breakpoint.{Breakpoint}
 use Rattle.ga_dap_breakpoints.specs.declared.condition.HitCount.{HitCount}
 use Rattle.ga_dap_breakpoints.specs.declared.hits.HitTally.{HitTally}
-use Rattle.ga_dap_breakpoints.specs.Back.{arrives, is_at_spot, comes_to}
+use Rattle.ga_dap_breakpoints.specs.Back.{can_reach_slot, is_at_spot, reaches_slot}
 use Rattle.ga_dap_breakpoints.specs.Breakpoints.{has_done, is_hit, counts_at, one_hit_more, hit_counted, one_counted, counted_from}
 use Rattle.ga_dap_breakpoints.specs.Conditions.{meets_test}
 use Rattle.ga_dap_breakpoints.specs.Going.{tally_told, tally_on}
-use Rattle.ga_dap_breakpoints.specs.Reversing.{stores_told, did, has_hit, hits_among, counted_by, counted_kept, with_count, hits_from, kept_tally}
+use Rattle.ga_dap_breakpoints.specs.Reversing.{stores_told, is_watched_step, has_hit, hits_among, counted_by, counted_kept, with_count, hits_from, kept_tally}
 use Rattle.ga_dap_breakpoints.proofs.Following.{IsCounted, More, Step, step_of, steps_more, well_more, told_stays, node_stays, fetched_stays, refused_stays}
 use Rattle.ga_dap_breakpoints.proofs.Cells.{node_now, well_of, newest_own, replays_next}
 
@@ -146,20 +146,20 @@ long_on first breakpoints tally r (suc k) =
 
 told_at_stays : (s t : State) (more : More s t) (n k : ℕ) → IsCounted s n → k < steps_of n s.kept → slice_get (history_of t n) k ≡ slice_get (history_of s n) k
 told_at_stays s t more n k counted l =
-    ap (λ (z : List Made). slice_get z k) (more.told n) ∙ told_stays (history_of s n) (cond (touches more.event n) (told_next s more.event ∷ []) []) k (omega (arith, l, counted))
+    ap (λ (z : List Made). slice_get z k) (more.told n) ∙ told_stays (history_of s n) (cond (touches more.event n) (made_next s more.event ∷ []) []) k (omega (arith, l, counted))
 
-did_stays : (s t : State) (more : More s t) (node : NodeId) (watched : Watched) (k : ℕ) → IsCounted s node.number → k < steps_of node.number s.kept → did t node watched k ≡ did s node watched k
+did_stays : (s t : State) (more : More s t) (node : NodeId) (watched : Watched) (k : ℕ) → IsCounted s node.number → k < steps_of node.number s.kept → is_watched_step t node watched k ≡ is_watched_step s node watched k
 did_stays s t more node (Comes at) k counted l =
-    ap (λ (o : Option Made). arrives o && is_at_spot at (spot_by (node_after t node.number (k + 1)) (fetched_cell t node (k + 1)))) (told_at_stays s t more node.number k counted l)
-    ∙ ap (λ (z : NodeRecord). arrives (slice_get (history_of s node.number) k) && is_at_spot at (spot_by z (fetched_cell t node (k + 1)))) (node_stays s t more node.number (k + 1) (omega (arith, l)))
-    ∙ ap (λ (z : Option ℕ). arrives (slice_get (history_of s node.number) k) && is_at_spot at (spot_by (node_after s node.number (k + 1)) z)) (fetched_stays s t more node counted (k + 1) (omega (arith, l)))
+    ap (λ (o : Option Made). can_reach_slot o && is_at_spot at (spot_by (node_after t node.number (k + 1)) (fetched_cell t node (k + 1)))) (told_at_stays s t more node.number k counted l)
+    ∙ ap (λ (z : NodeRecord). can_reach_slot (slice_get (history_of s node.number) k) && is_at_spot at (spot_by z (fetched_cell t node (k + 1)))) (node_stays s t more node.number (k + 1) (omega (arith, l)))
+    ∙ ap (λ (z : Option ℕ). can_reach_slot (slice_get (history_of s node.number) k) && is_at_spot at (spot_by (node_after s node.number (k + 1)) z)) (fetched_stays s t more node counted (k + 1) (omega (arith, l)))
 did_stays s t more node (Writes address) k counted l =
     ap (λ (z : NodeRecord). stores_told (address % 64) z (slice_get (history_of t node.number) k)) (node_stays s t more node.number k (omega (arith, l)))
     ∙ ap (stores_told (address % 64) (node_after s node.number k)) (told_at_stays s t more node.number k counted l)
 
 hit_stays : (s t : State) (more : More s t) (node : NodeId) (one : Breakpoint) (k : ℕ) → IsCounted s node.number → k < steps_of node.number s.kept → has_hit t node one k ≡ has_hit s node one k
 hit_stays s t more node one k counted l =
-    ap (λ (z : NodeRecord). meets_test one.condition z (k + 1) && did t node one.watched k) (node_stays s t more node.number (k + 1) (omega (arith, l)))
+    ap (λ (z : NodeRecord). meets_test one.condition z (k + 1) && is_watched_step t node one.watched k) (node_stays s t more node.number (k + 1) (omega (arith, l)))
     ∙ ap (λ (b : Bool). meets_test one.condition (node_after s node.number (k + 1)) (k + 1) && b) (did_stays s t more node one.watched k counted l)
 
 hits_stay : (s t : State) (more : More s t) (node : NodeId) (one : Breakpoint) (k : ℕ) → IsCounted s node.number → k ≤ steps_of node.number s.kept → hits_among t node one k ≡ hits_among s node one k
@@ -201,12 +201,12 @@ not_stored (made.Own x step kind) n cell test own = ap (λ (b : Bool). nat_lt ce
 not_stored (made.Pass writer i reader j word) n cell test own = none_stored (nat_lt cell 128)
 
 newest_did : (s : State) (m : NodeId) (told : Made) (by : Step s m told) (node : NodeId) (watched : Watched) → IsSome (replay s.load s.kept) → is_step_of node.number told ≡ true
-    → has_done watched node told (stepped s m) ≡ did (stepped s m) node watched (steps_of node.number s.kept)
+    → has_done watched node told (stepped s m) ≡ is_watched_step (stepped s m) node watched (steps_of node.number s.kept)
 newest_did s m told by node (Comes at) some own =
     let t : State = stepped s m in
     let more : steps_of node.number t.kept ≡ steps_of node.number s.kept + 1 = steps_more s m told by node.number ∙ ap (λ (b : Bool). steps_of node.number s.kept + cond b 1 0) own in
     let e : steps_of node.number t.kept - 1 ≡ steps_of node.number s.kept = omega (arith, more) in
-    ap (λ (b : Bool). b && comes_to t node at (steps_of node.number t.kept - 1)) own ∙ ap (comes_to t node at) e
+    ap (λ (b : Bool). b && reaches_slot t node at (steps_of node.number t.kept - 1)) own ∙ ap (reaches_slot t node at) e
 newest_did s m told by node (Writes address) some own =
     let t : State = stepped s m in
     let n : ℕ = node.number in
@@ -223,7 +223,7 @@ newest_did s m told by node (Writes address) some own =
     ∙ ap (stores_told cell (node_after t n k)) (sym (sym (ap (slice_get (history_of t n)) e) ∙ newest_own s m told by n counted own))
 
 not_done : (told : Made) (t : State) (node : NodeId) (watched : Watched) → is_step_of node.number told ≡ false → has_done watched node told t ≡ false
-not_done told t node (Comes at) own = ap (λ (b : Bool). b && comes_to t node at (steps_of node.number t.kept - 1)) own
+not_done told t node (Comes at) own = ap (λ (b : Bool). b && reaches_slot t node at (steps_of node.number t.kept - 1)) own
 not_done told t node (Writes address) own = not_stored told node.number (address % 64) (stores_in (address % 64 % 64) (node_before t node.number)) own
 
 newest_hit : (s : State) (m : NodeId) (told : Made) (by : Step s m told) (one : Breakpoint) → IsSome (replay s.load s.kept) → IsSome (replay (stepped s m).load (stepped s m).kept) → is_step_of one.node.number told ≡ true
@@ -232,7 +232,7 @@ newest_hit s m told by one some then own =
     let t : State = stepped s m in
     let n : ℕ = one.node.number in
     let k : ℕ = steps_of n s.kept in
-    let d : Bool = did t one.node one.watched k in
+    let d : Bool = is_watched_step t one.node one.watched k in
     let more : steps_of n t.kept ≡ k + 1 = steps_more s m told by n ∙ ap (λ (b : Bool). k + cond b 1 0) own in
     ap (λ (b : Bool). b && meets_test one.condition (record_at (chip_of t) n) (steps_of n t.kept)) (newest_did s m told by one.node one.watched some own)
     ∙ ap (λ (z : NodeRecord). d && meets_test one.condition z (steps_of n t.kept)) (sym (node_now t n then))

@@ -8,8 +8,8 @@ use Rattle.ga_event.specs.declared.made.Made.{Made}
 use Rattle.ga_event.specs.declared.made.Made.TheVariants as made
 use Rattle.ga_event.specs.Told.{steps_of}
 use Rattle.ga_lab.specs.Machine.{State, history_of, rewound}
-use Rattle.ga_dap_views.specs.declared.spots.Spot.{Spot}
-use Rattle.ga_dap_views.specs.Spots.{spot_behind}
+use Rattle.ga_dap_views.specs.declared.spots.SlotAddress.{SlotAddress}
+use Rattle.ga_dap_views.specs.Spots.{slot_address_after}
 
 -- The machine in which a node keeps `n` of its steps: the next one is rolled back with all its dependents, and nothing else.
 abbrev pub gone_back : State → NodeId → ℕ → State
@@ -29,15 +29,15 @@ arrives_by step (kind.Run code) = true
 arrives_by step kind.Fetch = step == 1
 arrives_by step _ = false
 
-abbrev pub arrives : Option Made → Bool
-arrives (Some (made.Own node step kind)) = arrives_by step kind
-arrives (Some (made.Pass writer i reader j word)) = true
-arrives None = false
+abbrev pub can_reach_slot : Option Made → Bool
+can_reach_slot (Some (made.Own node step kind)) = arrives_by step kind
+can_reach_slot (Some (made.Pass writer i reader j word)) = true
+can_reach_slot None = false
 
-abbrev pub is_at_spot : Spot → Option Spot → Bool
+abbrev pub is_at_spot : SlotAddress → Option SlotAddress → Bool
 is_at_spot at None = false
 is_at_spot at (Some found) = found.cell == at.cell && found.slot == at.slot
 
 -- the step after the node's first `n` steps arrives at the slot
-abbrev pub comes_to : State → NodeId → Spot → ℕ → Bool
-comes_to s node at k = arrives (slice_get (history_of s node.number) k) && is_at_spot at (spot_behind s node (k + 1))
+abbrev pub reaches_slot : State → NodeId → SlotAddress → ℕ → Bool
+reaches_slot s node at k = can_reach_slot (slice_get (history_of s node.number) k) && is_at_spot at (slot_address_after s node (k + 1))

@@ -7,7 +7,7 @@ use Rattle.ga_event.specs.declared.made.Made.{Made}
 use Rattle.ga_event.specs.Told.{steps_of}
 use Rattle.ga_grid.specs.Chip.{record_at}
 use Rattle.ga_lab.specs.Machine.{State, chip_of}
-use Rattle.ga_debug_info.specs.declared.notes.Notes.{Notes}
+use Rattle.ga_debug_info.specs.declared.notes.DebugInfo.{DebugInfo}
 use Rattle.ga_debug_info.specs.declared.wording.SlotWord.{SlotWord}
 use Rattle.ga_debug_info.specs.Notes.{worded_slot, nearest_word}
 use Rattle.ga_debug_info.specs.Source.{cell_of_address}
@@ -15,26 +15,26 @@ use Rattle.ga_scheduler.specs.declared.condition.Condition.TheVariants as condit
 use Rattle.ga_scheduler.specs.Conditions.{is_step_of, is_stop, is_own, is_own_at, holds}
 use Rattle.ga_dap_breakpoints.specs.declared.back.Watched.{Watched}
 use Rattle.ga_dap_breakpoints.specs.declared.back.Watched.TheVariants.{Comes, Writes}
-use Rattle.ga_dap_breakpoints.specs.Back.{comes_to}
-use Rattle.ga_dap_views.specs.Spots.{spot}
+use Rattle.ga_dap_breakpoints.specs.Back.{reaches_slot}
+use Rattle.ga_dap_views.specs.Spots.{slot_address}
 use Rattle.ga_dap_breakpoints.specs.declared.breakpoint.Breakpoint.{Breakpoint}
 use Rattle.ga_dap_breakpoints.specs.declared.breakpoint.LineBreakpoint.{LineBreakpoint}
 use Rattle.ga_dap_breakpoints.specs.declared.condition.HitCount.{HitCount}
 use Rattle.ga_dap_breakpoints.specs.declared.hits.HitTally.{HitTally}
-use Rattle.ga_dap_breakpoints.specs.Conditions.{meets_test, is_hit_asked}
+use Rattle.ga_dap_breakpoints.specs.Conditions.{meets_test, meets_hit_condition}
 
 -- ---- where a breakpoint is
 
 -- a breakpoint that a node hits by coming to a slot of a cell
 abbrev pub on_slot : NodeId → ℕ → ℕ → Breakpoint
-on_slot node cell slot = record { node = node; watched = Comes (spot slot cell); condition = None; hits = None }
+on_slot node cell slot = record { node = node; watched = Comes (slot_address slot cell); condition = None; hits = None }
 
 -- a breakpoint on the first slot of a word, with its line
 abbrev pub on_word : SlotWord → LineBreakpoint
 on_word word = record { breakpoint = on_slot word.node word.cell (worded_slot word.first); line = word.line }
 
 -- a breakpoint on the first word of a line, or of the next line that has one, from which a slot of an instruction word comes
-abbrev pub breakpoint_of_line : Notes → ℕ → Option LineBreakpoint
+abbrev pub breakpoint_of_line : DebugInfo → ℕ → Option LineBreakpoint
 breakpoint_of_line notes line = option_map on_word (nearest_word line None notes.words.items)
 
 -- a breakpoint on the first slot of the cell at an address
@@ -46,7 +46,7 @@ breakpoint_of_address node address = option_map (λ cell. on_slot node cell 0) (
 -- After this event, on the machine that it left: the node arrived at the slot by this step, or stored in the cell of RAM. Each
 -- cell of RAM has two addresses.
 abbrev pub has_done : Watched → NodeId → Made → State → Bool
-has_done (Comes at) node told s = is_step_of node.number told && comes_to s node at (steps_of node.number s.kept - 1)
+has_done (Comes at) node told s = is_step_of node.number told && reaches_slot s node at (steps_of node.number s.kept - 1)
 has_done (Writes address) node told s = holds (condition.Writes node (address % 64) None) told s
 
 -- after this event, a node did what the breakpoint watches for, and meets its condition
@@ -64,7 +64,7 @@ one_hit_more place counts = if nat_lt place 64 then slice_set counts place ((cou
 
 -- the place of a breakpoint, if this hit satisfies its hit condition
 abbrev pub asked_place : Option HitCount → ℕ → ℕ → Option ℕ
-asked_place hits place number = if is_hit_asked hits number then Some place else None
+asked_place hits place number = if meets_hit_condition hits number then Some place else None
 
 -- a breakpoint was hit at its place of the list
 abbrev pub hit_counted : Breakpoint → ℕ → HitTally → HitTally

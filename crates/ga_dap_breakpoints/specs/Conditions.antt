@@ -62,8 +62,8 @@ meets_test (Some test) n step = is_so test.comparison (held_value n step test.va
 
 -- ---- the hits, by their numbers from 1 on
 
-abbrev pub is_hit_asked : Option HitCount → ℕ → Bool
-is_hit_asked None number = true
-is_hit_asked (Some (Only asked)) number = number == asked
-is_hit_asked (Some (From first)) number = nat_le first number
-is_hit_asked (Some (Each step)) number = not (step == 0) && number % step == 0
+abbrev pub meets_hit_condition : Option HitCount → ℕ → Bool
+meets_hit_condition None number = true
+meets_hit_condition (Some (Only asked)) number = number == asked
+meets_hit_condition (Some (From first)) number = nat_le first number
+meets_hit_condition (Some (Each step)) number = not (step == 0) && number % step == 0

@@ -5,13 +5,13 @@ use Rattle.std.specs.Prelude.{◌≡◌, ℕ, zero, suc, ◌+◌, ◌<◌, Bool,
 use Rattle.ga_grid.specs.declared.node_id.NodeId.{NodeId}
 use Rattle.ga_event.specs.declared.made.Made.{Made}
 use Rattle.ga_lab.specs.Machine.{State}
-use Rattle.ga_debug_info.specs.declared.notes.Notes.{Notes}
+use Rattle.ga_debug_info.specs.declared.notes.DebugInfo.{DebugInfo}
 use Rattle.ga_scheduler.specs.declared.watched.WatchedEnd.TheVariants as the_end
 use Rattle.ga_scheduler.specs.Running.{Running}
 use Rattle.ga_scheduler.specs.Watched.{told_first, first_moved, after_first, IsHaltedFirst}
 use Rattle.ga_dap_breakpoints.specs.declared.breakpoint.Breakpoint.{Breakpoint}
 use Rattle.ga_dap_breakpoints.specs.declared.hits.HitTally.{HitTally}
-use Rattle.ga_dap_breakpoints.specs.declared.stepping.Stepping.{Stepping}
+use Rattle.ga_dap_breakpoints.specs.declared.stepping.StepMove.{StepMove}
 use Rattle.ga_dap_breakpoints.specs.declared.going.Halt.{Halt}
 use Rattle.ga_dap_breakpoints.specs.declared.going.Halt.TheVariants as the_halt
 use Rattle.ga_dap_breakpoints.specs.Breakpoints.{tally_behind, is_stopping, ends_early}
@@ -56,18 +56,18 @@ pub record IsFirst (by : Course) (r : Running) (events k : ℕ) (told : Made) : 
   pub made : told_first by.node (after_first by.node r k) ≡ Some told
 
 -- how a move ended after `k` of at most `events` events
-abbrev pub HasGone : Course → Running → ℕ → ℕ → Halt → Type 0
-HasGone by r most events (the_halt.Hit told which) =
+abbrev pub IsMoveResult : Course → Running → ℕ → ℕ → Halt → Type 0
+IsMoveResult by r most events (the_halt.Hit told which) =
     (k : ℕ) × IsFirst by r events k told × ((tally_behind by.breakpoints told (first_moved by.node (after_first by.node r k)).state (by.tally k)).hit ≡ Some which)
-HasGone by r most events (the_halt.Stopped told) =
+IsMoveResult by r most events (the_halt.Stopped told) =
     (k : ℕ) × IsFirst by r events k told × ((tally_behind by.breakpoints told (first_moved by.node (after_first by.node r k)).state (by.tally k)).hit ≡ None)
     × (is_stopping by.stops by.node told ≡ true)
-HasGone by r most events (the_halt.Moved told) =
+IsMoveResult by r most events (the_halt.Moved told) =
     (k : ℕ) × IsFirst by r events k told × ((tally_behind by.breakpoints told (first_moved by.node (after_first by.node r k)).state (by.tally k)).hit ≡ None)
     × (is_stopping by.stops by.node told ≡ false) × (by.ends k told (first_moved by.node (after_first by.node r k)).state ≡ true)
-HasGone by r most events the_halt.Cut = (events ≡ most) × NeverHalts by r events
-HasGone by r most events the_halt.Quiet = (events < most) × NeverHalts by r events × IsHaltedFirst by.node (after_first by.node r events) the_end.Quiet
-HasGone by r most events (the_halt.Refused why) =
+IsMoveResult by r most events the_halt.Cut = (events ≡ most) × NeverHalts by r events
+IsMoveResult by r most events the_halt.Quiet = (events < most) × NeverHalts by r events × IsHaltedFirst by.node (after_first by.node r events) the_end.Quiet
+IsMoveResult by r most events (the_halt.Refused why) =
     (events < most) × NeverHalts by r events × IsHaltedFirst by.node (after_first by.node r events) (the_end.Refused why)
 
 -- `continue`: a move that ends by breakpoints and stops alone
@@ -76,6 +76,6 @@ going_on breakpoints tally stops r =
     record { node = None; breakpoints = breakpoints; tally = tally_on None breakpoints tally r; stops = stops; ends = λ k told s. false }
 
 -- a move of a node, that is so when a run begins
-abbrev pub stepping_on : Notes → List Breakpoint → HitTally → Bool → Stepping → Running → Course
+abbrev pub stepping_on : DebugInfo → List Breakpoint → HitTally → Bool → StepMove → Running → Course
 stepping_on notes breakpoints tally stops by r =
     record { node = Some by.node; breakpoints = breakpoints; tally = tally_on (Some by.node) breakpoints tally r; stops = stops; ends = λ k told s. is_moved notes (stepped_on by r k) told s }

@@ -13,11 +13,11 @@ use Rattle.ga_provenance.specs.Origins.{node_after}
 use Rattle.ga_scheduler.specs.Conditions.{stores_in, is_step_of}
 use Rattle.ga_dap_breakpoints.specs.declared.back.Watched.{Watched}
 use Rattle.ga_dap_breakpoints.specs.declared.back.Watched.TheVariants.{Comes, Writes}
-use Rattle.ga_dap_breakpoints.specs.Back.{comes_to, gone_back}
+use Rattle.ga_dap_breakpoints.specs.Back.{reaches_slot, gone_back}
 use Rattle.ga_dap_breakpoints.specs.declared.breakpoint.Breakpoint.{Breakpoint}
 use Rattle.ga_dap_breakpoints.specs.declared.hits.HitTally.{HitTally}
 use Rattle.ga_dap_breakpoints.specs.declared.condition.HitCount.{HitCount}
-use Rattle.ga_dap_breakpoints.specs.Conditions.{meets_test, is_hit_asked}
+use Rattle.ga_dap_breakpoints.specs.Conditions.{meets_test, meets_hit_condition}
 
 -- ---- hits among the kept steps of a node
 
@@ -28,13 +28,13 @@ stores_told cell before (Some (made.Own node step kind)) = stores_in cell before
 stores_told cell before (Some (made.Pass writer i reader j word)) = false
 
 -- the step after the first `n` arrived at the slot, or stored in the cell of RAM, which has two addresses
-abbrev pub did : State → NodeId → Watched → ℕ → Bool
-did s node (Comes at) k = comes_to s node at k
-did s node (Writes address) k = stores_told (address % 64) (node_after s node.number k) (slice_get (history_of s node.number) k)
+abbrev pub is_watched_step : State → NodeId → Watched → ℕ → Bool
+is_watched_step s node (Comes at) k = reaches_slot s node at k
+is_watched_step s node (Writes address) k = stores_told (address % 64) (node_after s node.number k) (slice_get (history_of s node.number) k)
 
 -- the step after the first `n` hit the breakpoint: it did what is watched, and the node met the condition after it
 abbrev pub has_hit : State → NodeId → Breakpoint → ℕ → Bool
-has_hit s node one k = meets_test one.condition (node_after s node.number (k + 1)) (k + 1) && did s node one.watched k
+has_hit s node one k = meets_test one.condition (node_after s node.number (k + 1)) (k + 1) && is_watched_step s node one.watched k
 
 -- how many of the first `n` steps hit the breakpoint
 abbrev pub hits_among : State → NodeId → Breakpoint → ℕ → ℕ
@@ -64,7 +64,7 @@ kept_tally s breakpoints = record { counts = hits_from s 0 breakpoints (replicat
 
 -- the step after the first `n` of its node hit the breakpoint, which wants its newest hit
 abbrev pub is_asked_hit : State → Breakpoint → ℕ → Bool
-is_asked_hit s one k = has_hit s one.node one k && is_hit_asked one.hits (counted_kept s one)
+is_asked_hit s one k = has_hit s one.node one k && meets_hit_condition one.hits (counted_kept s one)
 
 -- the newest step of its node did
 abbrev pub is_newest_hit : State → Breakpoint → Bool
@@ -80,7 +80,7 @@ has_been_hit told s one = is_step_of one.node.number told && is_newest_hit s one
 abbrev pub newest_asked : State → NodeId → Breakpoint → ℕ → Option ℕ
 newest_asked s node one zero = None
 newest_asked s node one (suc k) =
-    if has_hit s node one k && is_hit_asked one.hits (hits_among s node one (k + 1)) then Some (k + 1) else newest_asked s node one k
+    if has_hit s node one k && meets_hit_condition one.hits (hits_among s node one (k + 1)) then Some (k + 1) else newest_asked s node one k
 
 -- How many steps remain if the node returns to the newest hit, by at least one step. A node is then after the step by which it
 -- arrived at a slot, and before the one by which it wrote a cell.

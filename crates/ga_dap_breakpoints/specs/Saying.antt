@@ -2,7 +2,7 @@
 -- SIGN NUMBER, one space between: NAME is that of a register or a word of a stack, as "VariablesRequest" shows them, or a cell in brackets.
 use Rattle.std.specs.Prelude.{ℕ, ◌+◌, ◌-◌, ◌*◌, ◌%◌, ◌==◌, nat_le, ◌&&◌, ◌||◌, if◌then◌else◌, [], ◌∷◌, take, drop, length, slice_index, slice_range, codes, bytes_eq, Option, Some, None, option_map, option_and_then}
 use Rattle.ga_text.specs.Lines.{Text}
-use Rattle.ga_text.specs.Parsing.{cut, number_in, fitting}
+use Rattle.ga_text.specs.Parsing.{split_at_space, parse_number, fitting}
 use Rattle.ga_ports.specs.Steps.{◌>>=◌}
 use Rattle.ga_text.specs.Digits.{byte_in}
 use Rattle.ga_dap_views.specs.declared.variable.Variable.{Variable}
@@ -88,7 +88,7 @@ hex_said (byte ∷ text) = do
   with_hexes digit text
 
 abbrev pub size_said : Text → Option ℕ
-size_said text = if bytes_eq (take 2 text) (codes "0x") then hex_said (drop 2 text) else number_in text
+size_said text = if bytes_eq (take 2 text) (codes "0x") then hex_said (drop 2 text) else parse_number text
 
 abbrev pub word_under : ℕ → Option ℕ
 word_under size = if nat_le size 131072 then Some ((262144 - size) % 262144) else None
@@ -98,10 +98,10 @@ number_said text = if bytes_eq (take 1 text) (codes "-") then option_and_then wo
 
 -- ---- a condition
 
-unfoldable pub condition_said : Text → Option ValueTest
-condition_said text = do
-  behind_name ← cut text
-  behind_sign ← cut behind_name.1
+unfoldable pub parse_condition : Text → Option ValueTest
+parse_condition text = do
+  behind_name ← split_at_space text
+  behind_sign ← split_at_space behind_name.1
   variable ← variable_said behind_name.0
   comparison ← comparison_said behind_sign.0
   number ← number_said behind_sign.1
@@ -113,7 +113,7 @@ abbrev pub from_one : ℕ → Option ℕ
 from_one number = if number == 0 then None else Some number
 
 abbrev pub hit_number : Text → Option ℕ
-hit_number text = option_and_then from_one (number_in text)
+hit_number text = option_and_then from_one (parse_number text)
 
 abbrev pub hits_by_sign : Text → ℕ → Option HitCount
 hits_by_sign sign number = if bytes_eq sign (codes ">=") then Some (From number) else if bytes_eq sign (codes "%") then Some (Each number) else None
@@ -122,5 +122,5 @@ abbrev pub hits_cut : Text → Option (Text × Text) → Option HitCount
 hits_cut text None = option_map (λ number. Only number) (hit_number text)
 hits_cut text (Some parts) = option_and_then (hits_by_sign parts.0) (hit_number parts.1)
 
-abbrev pub hits_said : Text → Option HitCount
-hits_said text = hits_cut text (cut text)
+abbrev pub parse_hit_condition : Text → Option HitCount
+parse_hit_condition text = hits_cut text (split_at_space text)

@@ -6,15 +6,15 @@ use Rattle.ga_grid.specs.declared.node_id.NodeId.{NodeId}
 use Rattle.ga_event.specs.declared.made.Made.{Made}
 use Rattle.ga_event.specs.Told.{steps_of}
 use Rattle.ga_lab.specs.Machine.{State}
-use Rattle.ga_debug_info.specs.declared.notes.Notes.{Notes}
+use Rattle.ga_debug_info.specs.declared.notes.DebugInfo.{DebugInfo}
 use Rattle.ga_scheduler.specs.Conditions.{is_step_of}
 use Rattle.ga_scheduler.specs.Running.{Running}
 use Rattle.ga_scheduler.specs.Watched.{told_first, first_moved, after_first}
-use Rattle.ga_dap_views.specs.Calls.{put_by, is_calling, entries_from}
+use Rattle.ga_dap_views.specs.Calls.{pushed_by_step, is_calling, return_entry_sources}
 use Rattle.ga_dap_breakpoints.specs.Lines.{begins_behind}
-use Rattle.ga_dap_breakpoints.specs.declared.stepping.Grain.{Grain}
-use Rattle.ga_dap_breakpoints.specs.declared.stepping.Grain.TheVariants.{Instruction, Line}
-use Rattle.ga_dap_breakpoints.specs.declared.stepping.Stepping.{Stepping}
+use Rattle.ga_dap_breakpoints.specs.declared.stepping.Granularity.{Granularity}
+use Rattle.ga_dap_breakpoints.specs.declared.stepping.Granularity.TheVariants.{Instruction, Line}
+use Rattle.ga_dap_breakpoints.specs.declared.stepping.StepMove.{StepMove}
 
 -- ---- the call from which the node is to return first, by the place of its entry on the return stack
 
@@ -25,58 +25,58 @@ is_from place (Some from) = from == place
 -- The place of the call from which the node is to return first, after its newest step. Its entry is followed; a call that the
 -- node makes is such a call if calls are stepped over.
 abbrev pub call_behind : State → NodeId → Bool → Option ℕ → Option ℕ
-call_behind s node over (Some place) = position (is_from place) (entries_from s node (steps_of node.number s.kept - 1))
+call_behind s node over (Some place) = position (is_from place) (return_entry_sources s node (steps_of node.number s.kept - 1))
 call_behind s node over None = if over && is_calling s node (steps_of node.number s.kept) then Some 0 else None
 
 -- ---- the moves
 
 -- a move of a node to its next step, or to where a line of its source begins
-abbrev pub step_in : State → NodeId → Grain → Stepping
+abbrev pub step_in : State → NodeId → Granularity → StepMove
 step_in s node grain = record { node = node; grain = grain; over = false; call = None; began = steps_of node.number s.kept }
 
 -- a move of a node to its next step, or to where a line of its source begins, over the calls that it makes
-abbrev pub step_over : State → NodeId → Grain → Stepping
+abbrev pub step_over : State → NodeId → Granularity → StepMove
 step_over s node grain = record { node = node; grain = grain; over = true; call = None; began = steps_of node.number s.kept }
 
 -- return from the newest open call: until its entry is no longer on the return stack
 abbrev pub is_open_at : State → NodeId → ℕ → Bool
-is_open_at s node place = is_calling s node (put_by s node (steps_of node.number s.kept) place)
+is_open_at s node place = is_calling s node (pushed_by_step s node (steps_of node.number s.kept) place)
 
 abbrev pub open_place : State → NodeId → Option ℕ
 open_place s node = position (is_open_at s node) (range_with_len 0 9)
 
-abbrev pub out_from : State → NodeId → ℕ → Stepping
+abbrev pub out_from : State → NodeId → ℕ → StepMove
 out_from s node newest = record { node = node; grain = Instruction; over = false; call = Some newest; began = steps_of node.number s.kept }
 
-abbrev pub step_out : State → NodeId → Option Stepping
+abbrev pub step_out : State → NodeId → Option StepMove
 step_out s node = option_map (out_from s node) (open_place s node)
 
 -- ---- one event
 
 -- the move after this event, on the machine that it left
-abbrev pub step_seen : Stepping → Made → State → Stepping
+abbrev pub step_seen : StepMove → Made → State → StepMove
 step_seen by told s = if is_step_of by.node.number told then record by { call = call_behind s by.node by.over by.call } else by
 
 -- The newest step of the node is one by which a move of this granularity, begun after `n` steps, can end. By lines, a call that
 -- the node made since then is stepped over; a return from another call brings the node to the rest of the calling line.
-abbrev pub reaches_end : Grain → ℕ → Notes → NodeId → State → ℕ → Bool
+abbrev pub reaches_end : Granularity → ℕ → DebugInfo → NodeId → State → ℕ → Bool
 reaches_end Instruction began notes node s k = true
 reaches_end Line began notes node s k = begins_behind began notes s node k
 
 -- the move came to its end: the node made a step, and no call is to come back
-abbrev pub is_moved : Notes → Stepping → Made → State → Bool
+abbrev pub is_moved : DebugInfo → StepMove → Made → State → Bool
 is_moved notes by told s =
     is_step_of by.node.number told
     && (is_none (call_behind s by.node by.over by.call) && reaches_end by.grain by.began notes by.node s (steps_of by.node.number s.kept - 1))
 
 -- ---- the node's events, and others while it has none
 
-abbrev pub step_told : Stepping → Option Made → State → Stepping
+abbrev pub step_told : StepMove → Option Made → State → StepMove
 step_told by None s = by
 step_told by (Some told) s = step_seen by told s
 
 -- the move after `n` events
-abbrev pub stepped_on : Stepping → Running → ℕ → Stepping
+abbrev pub stepped_on : StepMove → Running → ℕ → StepMove
 stepped_on by r zero = by
 stepped_on by r (suc events) =
     step_told (stepped_on by r events) (told_first (Some by.node) (after_first (Some by.node) r events)) (first_moved (Some by.node) (after_first (Some by.node) r events)).state

@@ -2,10 +2,10 @@
 
 ghost use Rattle.std.specs.Prelude.{◌≡◌, ◌<◌, ◌≤◌, ◌+◌, ℕ, Ok};
 ghost use Rattle.ga_event.specs.Told.{steps_of};
-ghost use Rattle.ga_lab.specs.Machine.{standing, rewind_answer};
-ghost use Rattle.ga_dap_breakpoints.specs.Back.{gone_back, stepped_back, arrives, is_at_spot, comes_to};
+ghost use Rattle.ga_lab.specs.Machine.{node_at_step, rewind_answer};
+ghost use Rattle.ga_dap_breakpoints.specs.Back.{gone_back, stepped_back, can_reach_slot, is_at_spot, reaches_slot};
 
-use ga_dap_views::{Spot, spot_back};
+use ga_dap_views::{SlotAddress, slot_address_at};
 use ga_grid::NodeId;
 use ga_lab::{Lab, Made, Walk};
 use ga_node::Kind;
@@ -14,14 +14,14 @@ use ga_node::Kind;
 #[derive(Clone, Copy, PartialEq, Eq, Debug)]
 pub enum Watched {
     /// The node comes to a slot.
-    Comes(Spot),
+    Comes(SlotAddress),
     /// The node writes the cell of RAM at an address.
     Writes(u8),
 }
 
 /// Rolls back what a node did after its first `keeps` steps, with all dependents and nothing else. Returns the number of
 /// removed events. The time is linear in that number.
-pub fn go_back(lab: &mut Lab, node: NodeId, keeps: u32) -> u32
+pub fn roll_back_past(lab: &mut Lab, node: NodeId, keeps: u32) -> u32
     ensures state { lab.new ≡ gone_back lab.old node keeps }
     ensures gone { (gone : ℕ) → keeps < steps_of node.number lab.old.kept → rewind_answer lab.old node.number (keeps + 1) ≡ Ok gone → result ≡ gone }
     ensures none { steps_of node.number lab.old.kept ≤ keeps → result ≡ 0 }
@@ -41,12 +41,12 @@ pub fn step_back(lab: &mut Lab, node: NodeId) -> u32
     ensures { lab.new ≡ stepped_back lab.old node }
 {
     let keeps = lab.steps(node).saturating_sub(1);
-    go_back(lab, node, keeps)
+    roll_back_past(lab, node, keeps)
 }
 
 /// Whether a node can arrive at a slot by the step with this event.
-pub(crate) fn arrives(told: &Option<Made>) -> bool
-    ensures { result ≡ arrives told.now }
+pub(crate) fn can_reach_slot(told: &Option<Made>) -> bool
+    ensures { result ≡ can_reach_slot told.now }
 {
     match told {
         Some(Made::Own { step, kind, .. }) => match kind {
@@ -60,7 +60,7 @@ pub(crate) fn arrives(told: &Option<Made>) -> bool
     }
 }
 
-pub(crate) fn is_at_spot(at: Spot, found: Option<Spot>) -> bool
+pub(crate) fn is_at_spot(at: SlotAddress, found: Option<SlotAddress>) -> bool
     ensures { result ≡ is_at_spot at found }
 {
     match found {
@@ -71,14 +71,20 @@ pub(crate) fn is_at_spot(at: Spot, found: Option<Spot>) -> bool
 
 /// Whether the step of a node after its first `place` steps is one by which it arrived at a slot. The node is walked back to
 /// just after it.
-pub fn comes_to(lab: &Lab, walk: &mut Walk<'_>, node: NodeId, at: Spot, place: u32) -> bool
-    requires walk { walk.old ≡ standing lab.now node walk.old.step }
+pub fn reaches_slot(
+    lab: &Lab,
+    walk: &mut Walk<'_>,
+    node: NodeId,
+    at: SlotAddress,
+    place: u32,
+) -> bool
+    requires walk { walk.old ≡ node_at_step lab.now node walk.old.step }
     requires order { place < walk.old.step }
-    ensures comes { result ≡ comes_to lab.now node at place }
-    ensures walk { walk.new ≡ standing lab.now node walk.new.step }
+    ensures comes { result ≡ reaches_slot lab.now node at place }
+    ensures walk { walk.new ≡ node_at_step lab.now node walk.new.step }
     ensures order { place < walk.new.step }
 {
     walk.step();
-    let found = spot_back(lab, walk, node, place + 1);
-    arrives(&lab.told(node, place)) && is_at_spot(at, found)
+    let found = slot_address_at(lab, walk, node, place + 1);
+    can_reach_slot(&lab.made_by_step(node, place)) && is_at_spot(at, found)
 }

@@ -6,8 +6,8 @@ ghost use Rattle.ga_dap_breakpoints.specs.Breakpoints.{on_slot, on_word, breakpo
 
 use crate::back::Watched;
 use crate::condition::{HitCount, ValueTest};
-use ga_dap_views::{Spot, memory_cell};
-use ga_debug_info::{Notes, SlotWord};
+use ga_dap_views::{SlotAddress, memory_cell};
+use ga_debug_info::{DebugInfo, SlotWord};
 use ga_grid::NodeId;
 
 /// What a node is watched for.
@@ -38,7 +38,7 @@ fn on_slot(node: NodeId, cell: u8, slot: u8) -> Breakpoint
 {
     Breakpoint {
         node,
-        watched: Watched::Comes(Spot { cell, slot }),
+        watched: Watched::Comes(SlotAddress { cell, slot }),
         condition: None,
         hits: None,
     }
@@ -63,7 +63,7 @@ fn on_word(word: SlotWord) -> LineBreakpoint
 
 /// The breakpoint of a line of the source (Debug Adapter Protocol, "SetBreakpointsRequest"): on the first slot of the line, or of the next line that has
 /// code in a node, with that line; none where no line from there on has. Takes time by the words of the source.
-pub fn breakpoint_of_line(notes: &Notes, line: u32) -> Option<LineBreakpoint>
+pub fn breakpoint_of_line(notes: &DebugInfo, line: u32) -> Option<LineBreakpoint>
     ensures { result ≡ breakpoint_of_line notes.now line }
 {
     match notes.first_word(line) {

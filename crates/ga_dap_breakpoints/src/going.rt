@@ -2,10 +2,10 @@
 
 ghost use Rattle.std.specs.Prelude.{◌≡◌, ◌≤◌, None};
 ghost use Rattle.ga_scheduler.specs.Running.{running, after_events};
-ghost use Rattle.ga_dap_breakpoints.specs.Going.{HasGone, tally_on, going_on};
+ghost use Rattle.ga_dap_breakpoints.specs.Going.{IsMoveResult, tally_on, going_on};
 ghost use Rattle.ga_dap_breakpoints.specs.inner.Cells.{halt_by, halt_of};
 
-use crate::halts::{Halting, Halts, is_stopping};
+use crate::halts::{HaltMonitor, Halts, is_stopping};
 use crate::hits::HitTally;
 use ga_grid::{NODES, NodeId};
 use ga_lab::{Lab, LabFault, Made};
@@ -30,7 +30,7 @@ pub enum Halt {
 
 /// The number of events, why the move ended, and the next schedule.
 #[derive(Clone, Copy)]
-pub struct Went {
+pub struct MoveResult {
     /// How many events were made.
     pub events: u64,
     /// Why no more events were made.
@@ -68,13 +68,13 @@ fn halt_of(halts: &Halts<'_>, node: Option<NodeId>, end: WatchedEnd) -> Halt
 }
 
 /// How a move went by a run that was watched so.
-pub(crate) fn went_by(run: WatchedRun, halts: &Halts<'_>, node: Option<NodeId>) -> Went
+pub(crate) fn move_result(run: WatchedRun, halts: &Halts<'_>, node: Option<NodeId>) -> MoveResult
     ensures events { result.events ≡ run.events }
     ensures halt { result.halt ≡ halt_of halts.now.tally.hit halts.now.stops node run.end }
     ensures schedule { result.schedule ≡ run.schedule }
     ensures tally { result.tally ≡ halts.now.tally }
 {
-    Went {
+    MoveResult {
         events: run.events,
         halt: halt_of(halts, node, run.end),
         schedule: run.schedule,
@@ -86,18 +86,18 @@ pub(crate) fn went_by(run: WatchedRun, halts: &Halts<'_>, node: Option<NodeId>) 
 /// one hits a breakpoint, or is a stop if stops end it. The returned schedule continues a slice that was cut. The time is
 /// linear in the number of events and in the number of breakpoints; in addition, for each node that arrives at the slot number
 /// of a breakpoint, once in a slice, in how long it is within its word.
-pub fn go_on(lab: &mut Lab, schedule: Schedule, halts: Halts<'_>, most: u64) -> Went
+pub fn continue_run(lab: &mut Lab, schedule: Schedule, halts: Halts<'_>, most: u64) -> MoveResult
     ensures state { running lab.new result.schedule ≡ after_events (running lab.old schedule) result.events }
     ensures hits { result.tally ≡ tally_on None halts.entry.breakpoints.now halts.entry.tally (running lab.old schedule) result.events }
     ensures most { result.events ≤ most }
-    ensures end { HasGone (going_on halts.entry.breakpoints.now halts.entry.tally halts.entry.stops (running lab.old schedule)) (running lab.old schedule) most result.events result.halt }
+    ensures end { IsMoveResult (going_on halts.entry.breakpoints.now halts.entry.tally halts.entry.stops (running lab.old schedule)) (running lab.old schedule) most result.events result.halt }
 {
     // It is called for its contract only: the history can be replayed.
     lab.chip();
-    let mut watch = Halting {
+    let mut watch = HaltMonitor {
         halts,
         cells: [None; NODES],
     };
     let run = run_watched(lab, schedule, None, most, &mut watch);
-    went_by(run, &watch.halts, None)
+    move_result(run, &watch.halts, None)
 }

@@ -14,7 +14,7 @@ ghost use Rattle.ga_dap_breakpoints.specs.Reversing.{kept_tally};
 
 /// Hits counted event by event equal those counted over the history: if a run begins with the latter, then, however it
 /// continues, the count of each of the first 64 breakpoints with a hit condition is that of the history at that moment.
-pub fn kept_hits_are_counted_on()
+pub fn incremental_hit_counts_agree()
     ensures { (first : Option NodeId) (breakpoints : List Breakpoint) (r : Running) (events place : ℕ) (one : Breakpoint) (hits : HitCount) →
         IsSome (replay r.state.load r.state.kept) → place < 64 → slice_get breakpoints place ≡ Some one → one.hits ≡ Some hits →
         counts_at (kept_tally (after_first first r events).state breakpoints).counts place < 2 ^ 32 →

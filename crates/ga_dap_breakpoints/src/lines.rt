@@ -2,14 +2,14 @@
 
 ghost use Rattle.std.specs.Prelude.{◌≡◌, ◌<◌, ◌≤◌};
 ghost use Rattle.ga_event.specs.Told.{steps_of};
-ghost use Rattle.ga_lab.specs.Machine.{standing};
+ghost use Rattle.ga_lab.specs.Machine.{node_at_step};
 ghost use Rattle.ga_dap_breakpoints.specs.inner.Words.{spot_before, begins_by};
 ghost use Rattle.ga_dap_breakpoints.specs.Lines.{op_told, is_return_op, is_jump, place_back, line_on_spot, begins_at, comes_on, beginning_from, stepped_back_line};
 
-use crate::back::go_back;
+use crate::back::roll_back_past;
 use crate::words::spot_by;
-use ga_dap_views::{Spot, is_calling, line_at, line_start, put_by, spot_back};
-use ga_debug_info::Notes;
+use ga_dap_views::{SlotAddress, is_calling, line_at, line_start, pushed_by_step, slot_address_at};
+use ga_debug_info::DebugInfo;
 use ga_grid::NodeId;
 use ga_lab::{Lab, Made, Walk};
 use ga_node::Kind;
@@ -57,10 +57,10 @@ fn place_back(lab: &Lab, node: NodeId, place: u32, began: u32) -> u32
     ensures value { result ≡ place_back began lab.now node place }
     ensures within { result ≤ place }
 {
-    if !is_return_op(op_told(&lab.told(node, place))) {
+    if !is_return_op(op_told(&lab.made_by_step(node, place))) {
         return place;
     }
-    let call = put_by(lab, node, place, 0);
+    let call = pushed_by_step(lab, node, place, 0);
     if began < call && is_calling(lab, node, call) {
         call.saturating_sub(1)
     } else {
@@ -69,14 +69,14 @@ fn place_back(lab: &Lab, node: NodeId, place: u32, began: u32) -> u32
 }
 
 /// The line of a node at a slot.
-fn line_on_spot(notes: &Notes, node: NodeId, spot: Option<Spot>) -> Option<u32>
+fn line_on_spot(notes: &DebugInfo, node: NodeId, spot: Option<SlotAddress>) -> Option<u32>
     ensures { result ≡ line_on_spot notes.now node spot }
 {
     line_at(notes, node, spot?)
 }
 
 /// Whether a slot is the first of a line.
-fn begins_at(notes: &Notes, node: NodeId, line: u32, spot: Spot) -> bool
+fn begins_at(notes: &DebugInfo, node: NodeId, line: u32, spot: SlotAddress) -> bool
     ensures { result ≡ begins_at notes.now node line spot }
 {
     match line_start(notes, node, line) {
@@ -87,10 +87,10 @@ fn begins_at(notes: &Notes, node: NodeId, line: u32, spot: Spot) -> bool
 
 /// Whether a node that is at a slot arrived at a line by this step: from another line, or by a jump to its first slot.
 fn comes_on(
-    notes: &Notes,
+    notes: &DebugInfo,
     node: NodeId,
-    before: Option<Spot>,
-    spot: Option<Spot>,
+    before: Option<SlotAddress>,
+    spot: Option<SlotAddress>,
     op: Option<Op>,
 ) -> bool
     ensures { result ≡ comes_on notes.now node before spot op (line_on_spot notes.now node spot) }
@@ -116,8 +116,8 @@ fn spot_before(
     place: u32,
     began: u32,
     word: Option<u8>,
-) -> Option<Spot>
-    requires walk { walk.old ≡ standing lab.now node walk.old.step }
+) -> Option<SlotAddress>
+    requires walk { walk.old ≡ node_at_step lab.now node walk.old.step }
     requires order { place ≤ walk.old.step }
     requires within { place ≤ steps_of node.number lab.now.kept }
     ensures { result ≡ spot_before began lab.now node place word }
@@ -127,7 +127,7 @@ fn spot_before(
         walk.back_to(place);
         spot_by(walk.node(), word)
     } else {
-        spot_back(lab, walk, node, before)
+        slot_address_at(lab, walk, node, before)
     }
 }
 
@@ -137,7 +137,7 @@ fn spot_before(
 /// that call, and otherwise independent of the history.
 pub(crate) fn begins_by(
     lab: &Lab,
-    notes: &Notes,
+    notes: &DebugInfo,
     node: NodeId,
     step: u32,
     began: u32,
@@ -153,17 +153,17 @@ pub(crate) fn begins_by(
     let mut walk = lab.walk(node, step + 1);
     let spot = spot_by(walk.node(), behind);
     let there = spot_before(lab, &mut walk, node, step, began, before);
-    let told = lab.told(node, step);
+    let told = lab.made_by_step(node, step);
     comes_on(notes, node, there, spot, op_told(&told))
 }
 
 /// The nearest beginning of a line at a place or before it, among at most `most` places.
-fn beginning_from(lab: &Lab, notes: &Notes, node: NodeId, from: u32, most: u32) -> u32
+fn beginning_from(lab: &Lab, notes: &DebugInfo, node: NodeId, from: u32, most: u32) -> u32
     requires { from ≤ steps_of node.number lab.now.kept }
     ensures { result ≡ beginning_from notes.now lab.now node from most }
 {
     let mut walk = lab.walk(node, from);
-    let mut spot = spot_back(lab, &mut walk, node, from);
+    let mut spot = slot_address_at(lab, &mut walk, node, from);
     let mut place = from;
     let mut left = most;
     'going: while left > 0 {
@@ -171,8 +171,8 @@ fn beginning_from(lab: &Lab, notes: &Notes, node: NodeId, from: u32, most: u32) 
             return 0;
         }
         let before = place_back(lab, node, place - 1, 0);
-        let there = spot_back(lab, &mut walk, node, before);
-        let told = lab.told(node, place - 1);
+        let there = slot_address_at(lab, &mut walk, node, before);
+        let told = lab.made_by_step(node, place - 1);
         let op = op_told(&told);
         if comes_on(notes, node, there, spot, op) {
             return place;
@@ -187,7 +187,7 @@ fn beginning_from(lab: &Lab, notes: &Notes, node: NodeId, from: u32, most: u32) 
 /// `stepBack` by a line (Debug Adapter Protocol, "SteppingGranularity"): rolls a node back to the beginning of its line, or, if
 /// it is at the beginning of one, to that of the line before; steps over calls, and removes all dependents. Returns the number
 /// of removed events.
-pub fn step_back_line(lab: &mut Lab, notes: &Notes, node: NodeId) -> u32
+pub fn step_back_line(lab: &mut Lab, notes: &DebugInfo, node: NodeId) -> u32
     ensures { lab.new ≡ stepped_back_line notes.now lab.old node }
 {
     let steps = lab.steps(node);
@@ -196,5 +196,5 @@ pub fn step_back_line(lab: &mut Lab, notes: &Notes, node: NodeId) -> u32
     }
     let from = place_back(lab, node, steps - 1, 0);
     let keeps = beginning_from(lab, notes, node, from, steps);
-    go_back(lab, node, keeps)
+    roll_back_past(lab, node, keeps)
 }

@@ -5,31 +5,31 @@ ghost use Rattle.ga_event.specs.Told.{steps_of};
 ghost use Rattle.ga_scheduler.specs.Conditions.{is_step_of};
 ghost use Rattle.ga_scheduler.specs.Running.{running};
 ghost use Rattle.ga_scheduler.specs.Watched.{IsNewestMade, after_first};
-ghost use Rattle.ga_dap_views.specs.Calls.{is_calling, entries_from};
+ghost use Rattle.ga_dap_views.specs.Calls.{is_calling, return_entry_sources};
 ghost use Rattle.ga_provenance.specs.Fetched.{fetched_cell};
-ghost use Rattle.ga_dap_breakpoints.specs.declared.stepping.Grain.TheVariants.{Line};
+ghost use Rattle.ga_dap_breakpoints.specs.declared.stepping.Granularity.TheVariants.{Line};
 ghost use Rattle.ga_dap_breakpoints.specs.Stepping.{is_from, call_behind, step_seen, stepped_on};
 ghost use Rattle.ga_dap_breakpoints.specs.inner.Words.{word_seen, reaches_by, is_moved_by};
-ghost use Rattle.ga_dap_breakpoints.specs.Going.{HasGone, tally_on, stepping_on};
+ghost use Rattle.ga_dap_breakpoints.specs.Going.{IsMoveResult, tally_on, stepping_on};
 
-use crate::going::{Went, went_by};
-use crate::halts::{Halting, Halts, see_halt};
+use crate::going::{MoveResult, move_result};
+use crate::halts::{HaltMonitor, Halts, check_halt};
 use crate::hits::is_step_of;
 use crate::lines::begins_by;
-use crate::stepping::{Grain, Stepping};
-use crate::words::{word_after, word_behind};
-use ga_dap_views::{entries_from, is_calling};
-use ga_debug_info::Notes;
+use crate::stepping::{Granularity, StepMove};
+use crate::words::{instruction_cell_after, word_after};
+use ga_dap_views::{is_calling, return_entry_sources};
+use ga_debug_info::DebugInfo;
 use ga_grid::{NODES, NodeId};
 use ga_lab::{Lab, Made};
-use ga_scheduler::{Schedule, Watch, run_watched};
+use ga_scheduler::{Schedule, StopCondition, run_watched};
 
 /// What watches a move.
 #[derive(Clone, Copy)]
 struct Steps<'a> {
-    notes: &'a Notes,
-    halting: Halting<'a>,
-    stepping: Stepping,
+    notes: &'a DebugInfo,
+    halting: HaltMonitor<'a>,
+    stepping: StepMove,
     // The cell from which the node's word came, where the move is by lines.
     word: Option<u8>,
 }
@@ -46,10 +46,10 @@ fn is_from(from: Option<u8>, place: usize) -> bool
 
 /// The place of the entry after the node's newest step, if it was at `place` before.
 fn place_behind(lab: &Lab, node: NodeId, place: usize) -> Option<usize>
-    ensures { result ≡ position (is_from place) (entries_from lab.now node (steps_of node.number lab.now.kept - 1)) }
+    ensures { result ≡ position (is_from place) (return_entry_sources lab.now node (steps_of node.number lab.now.kept - 1)) }
 {
     let steps = lab.steps(node);
-    let entries = entries_from(lab, node, steps.saturating_sub(1));
+    let entries = return_entry_sources(lab, node, steps.saturating_sub(1));
     entries.iter().position(|from| is_from(*from, place))
 }
 
@@ -89,14 +89,14 @@ fn newest_step(lab: &Lab, made: &Made, node: NodeId) -> u32
 }
 
 /// A move after the newest event.
-fn step_seen(lab: &Lab, by: Stepping, made: &Made) -> Stepping
+fn step_seen(lab: &Lab, by: StepMove, made: &Made) -> StepMove
     ensures { result ≡ step_seen by made.now lab.now }
 {
     if !is_step_of(made, by.node) {
         return by;
     }
     let call = call_behind(lab, by.node, by.over, by.call);
-    Stepping { call, ..by }
+    StepMove { call, ..by }
 }
 
 /// The cell from which a node's word came, after the newest event, if the word before it came from `word`.
@@ -115,9 +115,9 @@ fn word_seen(lab: &Lab, node: NodeId, word: Option<u8>, made: &Made) -> Option<u
 /// Whether a move of this granularity can end by a step of a node, by the cells of the words before and after it.
 fn reaches_by(
     lab: &Lab,
-    notes: &Notes,
+    notes: &DebugInfo,
     node: NodeId,
-    grain: Grain,
+    grain: Granularity,
     began: u32,
     step: u32,
     before: Option<u8>,
@@ -127,8 +127,8 @@ fn reaches_by(
     ensures { result ≡ reaches_by grain began notes.now node lab.now step before behind }
 {
     match grain {
-        Grain::Instruction => true,
-        Grain::Line => begins_by(lab, notes, node, step, began, before, behind),
+        Granularity::Instruction => true,
+        Granularity::Line => begins_by(lab, notes, node, step, began, before, behind),
     }
 }
 
@@ -136,8 +136,8 @@ fn reaches_by(
 /// words before and after the event.
 fn is_moved_by(
     lab: &Lab,
-    notes: &Notes,
-    by: &Stepping,
+    notes: &DebugInfo,
+    by: &StepMove,
     call: Option<usize>,
     before: Option<u8>,
     behind: Option<u8>,
@@ -160,7 +160,7 @@ fn is_moved_by(
     )
 }
 
-impl<'a> Watch for Steps<'a> {
+impl<'a> StopCondition for Steps<'a> {
     ghost use Rattle.std.specs.Prelude.{Some, ◌||◌};
     ghost use Rattle.ga_dap_breakpoints.specs.inner.Cells.{ends_by, with_hits};
     ghost use Rattle.ga_dap_breakpoints.specs.Stepping.{step_seen};
@@ -177,18 +177,18 @@ impl<'a> Watch for Steps<'a> {
         let behind = word_seen(lab, by.node, before, made);
         self.stepping = next;
         self.word = behind;
-        see_halt(&mut self.halting, Some(by.node), made, lab)
+        check_halt(&mut self.halting, Some(by.node), made, lab)
             || is_moved_by(lab, self.notes, &by, next.call, before, behind, made)
     }
 }
 
 /// The cell from which the word of a node came, where a move of it is by lines.
-fn word_begun(lab: &Lab, by: &Stepping) -> Option<u8>
+fn word_begun(lab: &Lab, by: &StepMove) -> Option<u8>
     ensures { by.now.grain ≡ Line → result ≡ fetched_cell lab.now by.now.node (steps_of by.now.node.number lab.now.kept) }
 {
     match by.grain {
-        Grain::Instruction => None,
-        Grain::Line => word_behind(lab, by.node, lab.steps(by.node)),
+        Granularity::Instruction => None,
+        Granularity::Line => instruction_cell_after(lab, by.node, lab.steps(by.node)),
     }
 }
 
@@ -197,26 +197,26 @@ fn word_begun(lab: &Lab, by: &Stepping) -> Option<u8>
 /// or a stop ends it. The same move and the returned schedule continue a slice that was cut. The time is linear in the number
 /// of events and of breakpoints; in addition in how long each node that arrives at the slot number of a breakpoint is within
 /// its word, and for a move by lines, once in a slice, in how long the node is within its word and in the length of its calls.
-pub fn step_on(
+pub fn continue_step(
     lab: &mut Lab,
     schedule: Schedule,
-    stepping: &mut Stepping,
-    notes: &Notes,
+    stepping: &mut StepMove,
+    notes: &DebugInfo,
     halts: Halts<'_>,
     most: u64,
-) -> Went
+) -> MoveResult
     ensures state { running lab.new result.schedule ≡ after_first (Some stepping.old.node) (running lab.old schedule) result.events }
     ensures stepping { stepping.new ≡ stepped_on stepping.old (running lab.old schedule) result.events }
     ensures hits { result.tally ≡ tally_on (Some stepping.old.node) halts.entry.breakpoints.now halts.entry.tally (running lab.old schedule) result.events }
     ensures most { result.events ≤ most }
-    ensures end { HasGone (stepping_on notes.now halts.entry.breakpoints.now halts.entry.tally halts.entry.stops stepping.old (running lab.old schedule)) (running lab.old schedule) most result.events result.halt }
+    ensures end { IsMoveResult (stepping_on notes.now halts.entry.breakpoints.now halts.entry.tally halts.entry.stops stepping.old (running lab.old schedule)) (running lab.old schedule) most result.events result.halt }
 {
     let node = stepping.node;
     // It is called for its contract only: the history can be replayed.
     lab.chip();
     let mut watch = Steps {
         notes,
-        halting: Halting {
+        halting: HaltMonitor {
             halts,
             cells: [None; NODES],
         },
@@ -225,5 +225,5 @@ pub fn step_on(
     };
     let run = run_watched(lab, schedule, Some(node), most, &mut watch);
     *stepping = watch.stepping;
-    went_by(run, &watch.halting.halts, Some(node))
+    move_result(run, &watch.halting.halts, Some(node))
 }

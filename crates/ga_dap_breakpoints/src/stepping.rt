@@ -5,13 +5,13 @@ ghost use Rattle.std.specs.List.{range_with_len};
 ghost use Rattle.ga_event.specs.Told.{steps_of};
 ghost use Rattle.ga_dap_breakpoints.specs.Stepping.{is_open_at, open_place};
 
-use ga_dap_views::{is_calling, put_by};
+use ga_dap_views::{is_calling, pushed_by_step};
 use ga_grid::NodeId;
 use ga_lab::Lab;
 
 /// The granularity of a step (Debug Adapter Protocol, "SteppingGranularity").
 #[derive(Clone, Copy, PartialEq, Eq, Debug)]
-pub enum Grain {
+pub enum Granularity {
     /// To the node's next step.
     Instruction,
     /// To the beginning of a line of its source: another line, or the same one after a jump.
@@ -20,11 +20,11 @@ pub enum Grain {
 
 /// A move of a node that is under way. It is kept from one slice of it to the next.
 #[derive(Clone, Copy, PartialEq, Eq, Debug)]
-pub struct Stepping {
+pub struct StepMove {
     /// The node.
     pub node: NodeId,
     /// The granularity of the move.
-    pub grain: Grain,
+    pub grain: Granularity,
     /// Whether the calls that the node makes are stepped over.
     pub over: bool,
     /// The place on the return stack, from 0 on, of the entry of the call from which the node is to return first.
@@ -39,7 +39,7 @@ fn is_open_at(lab: &Lab, node: NodeId, place: u8) -> bool
     requires { place < 9 }
     ensures { result ≡ is_open_at lab.now node place }
 {
-    let step = put_by(lab, node, lab.steps(node), place);
+    let step = pushed_by_step(lab, node, lab.steps(node), place);
     is_calling(lab, node, step)
 }
 
@@ -50,15 +50,15 @@ fn open_place(lab: &Lab, node: NodeId) -> Option<usize>
     (0..9).position(|place| is_open_at(lab, node, place))
 }
 
-impl Stepping {
+impl StepMove {
     ghost use Rattle.std.specs.Prelude.{◌≡◌};
     ghost use Rattle.ga_dap_breakpoints.specs.Stepping.{step_in, step_over, out_from, step_out};
 
     /// `stepIn` (Debug Adapter Protocol, "StepInRequest").
-    pub fn step_in(lab: &Lab, node: NodeId, grain: Grain) -> Self
+    pub fn step_in(lab: &Lab, node: NodeId, grain: Granularity) -> Self
         ensures { result ≡ step_in lab.now node grain }
     {
-        Stepping {
+        StepMove {
             node,
             grain,
             over: false,
@@ -68,10 +68,10 @@ impl Stepping {
     }
 
     /// `next` (Debug Adapter Protocol, "NextRequest"): a move of a node over the calls that it makes.
-    pub fn next(lab: &Lab, node: NodeId, grain: Grain) -> Self
+    pub fn next(lab: &Lab, node: NodeId, grain: Granularity) -> Self
         ensures { result ≡ step_over lab.now node grain }
     {
-        Stepping {
+        StepMove {
             node,
             grain,
             over: true,
@@ -84,9 +84,9 @@ impl Stepping {
     fn out_from(lab: &Lab, node: NodeId, newest: usize) -> Self
         ensures { result ≡ out_from lab.now node newest }
     {
-        Stepping {
+        StepMove {
             node,
-            grain: Grain::Instruction,
+            grain: Granularity::Instruction,
             over: false,
             call: Some(newest),
             began: lab.steps(node),
@@ -99,7 +99,7 @@ impl Stepping {
         ensures { result ≡ step_out lab.now node }
     {
         match open_place(lab, node) {
-            Some(newest) => Some(Stepping::out_from(lab, node, newest)),
+            Some(newest) => Some(StepMove::out_from(lab, node, newest)),
             None => None,
         }
     }

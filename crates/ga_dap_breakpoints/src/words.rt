@@ -4,7 +4,7 @@
 ghost use Rattle.std.specs.Prelude.{◌≡◌, ◌<◌, ◌≤◌, ◌+◌, true};
 ghost use Rattle.ga_node.specs.Record.{record_of};
 ghost use Rattle.ga_event.specs.Told.{steps_of};
-ghost use Rattle.ga_lab.specs.Machine.{standing};
+ghost use Rattle.ga_lab.specs.Machine.{node_at_step};
 ghost use Rattle.ga_provenance.specs.Fetched.{fetched_cell};
 ghost use Rattle.ga_dap_views.specs.Spots.{spot_by};
 ghost use Rattle.ga_grid.specs.Chip.{record_at};
@@ -12,11 +12,11 @@ ghost use Rattle.ga_lab.specs.Machine.{chip_of};
 ghost use Rattle.ga_dap_breakpoints.specs.inner.Words.{keeps_kind, awaits_code, keeps_word, word_after};
 ghost use Rattle.ga_dap_breakpoints.specs.inner.Cells.{cells_left, cell_known, cell_in, asks_word, cells_with, cells_asked};
 
-use ga_dap_views::{Spot, memory_cell, slot_and_p};
+use ga_dap_views::{SlotAddress, memory_cell, slot_and_p};
 use ga_grid::{NODES, NodeId};
 use ga_lab::{Lab, Made, Walk};
 use ga_node::{Kind, Node, Wait};
-use ga_provenance::fetched_near;
+use ga_provenance::fetched_cell_at;
 
 /// Whether an event of a node's own leaves its word.
 fn keeps_kind(kind: Kind) -> bool
@@ -60,17 +60,17 @@ fn keeps_word(told: &Option<Made>, before: &Node, node: NodeId) -> bool
 
 /// The cell from which the word of a node came, after its first `step` steps. The time is linear in the number of steps since
 /// the fetch.
-pub(crate) fn word_behind(lab: &Lab, node: NodeId, step: u32) -> Option<u8>
+pub(crate) fn instruction_cell_after(lab: &Lab, node: NodeId, step: u32) -> Option<u8>
     requires { step ≤ steps_of node.number lab.now.kept }
     ensures { result ≡ fetched_cell lab.now node step }
 {
-    fetched_near(lab, &lab.walk(node, step), node, node, step)
+    fetched_cell_at(lab, &lab.walk(node, step), node, node, step)
 }
 
 /// The cell of a node's word after the step at which a walk of the node is, if the word before it came from this cell. Constant
 /// time.
 pub(crate) fn word_after(lab: &Lab, walk: &Walk<'_>, node: NodeId, word: Option<u8>) -> Option<u8>
-    requires walk { walk.now ≡ standing lab.now node walk.now.step }
+    requires walk { walk.now ≡ node_at_step lab.now node walk.now.step }
     requires within { walk.now.step < steps_of node.number lab.now.kept }
     ensures { result ≡ word_after lab.now node walk.now.step word }
 {
@@ -78,37 +78,37 @@ pub(crate) fn word_after(lab: &Lab, walk: &Walk<'_>, node: NodeId, word: Option<
     let steps = lab.steps(node);
     let place = walk.step();
     prove!(place < steps);
-    if keeps_word(&lab.told(node, place), walk.node(), node) {
+    if keeps_word(&lab.made_by_step(node, place), walk.node(), node) {
         word
     } else {
-        word_behind(lab, node, place + 1)
+        instruction_cell_after(lab, node, place + 1)
     }
 }
 
 /// The slot of a node whose word came from this cell.
-pub(crate) fn spot_by(node: &Node, word: Option<u8>) -> Option<Spot>
+pub(crate) fn spot_by(node: &Node, word: Option<u8>) -> Option<SlotAddress>
     ensures { result ≡ spot_by (record_of node.now) word }
 {
     let (slot, p) = slot_and_p(node);
     if slot == 4 {
         return match memory_cell(p) {
-            Some(cell) => Some(Spot { cell, slot: 0 }),
+            Some(cell) => Some(SlotAddress { cell, slot: 0 }),
             None => None,
         };
     }
     match word {
-        Some(cell) => Some(Spot { cell, slot }),
+        Some(cell) => Some(SlotAddress { cell, slot }),
         None => None,
     }
 }
 
 /// The cells from which the words of the nodes came, as far as they were looked back for, by the numbers of the nodes; and none where a word came from no
 /// memory.
-pub(crate) type Cells = [Option<Option<u8>>; NODES];
+pub(crate) type InstructionCells = [Option<Option<u8>>; NODES];
 
 /// Forgets the cell of a node that may have taken another word by an event.
 #[inline(always)]
-pub(crate) fn forget(cells: &mut Cells, made: &Made)
+pub(crate) fn forget(cells: &mut InstructionCells, made: &Made)
     ensures { cells.new ≡ cells_left made.now cells.old }
 {
     match made {
@@ -129,12 +129,12 @@ fn cell_known(lab: &Lab, node: NodeId, known: Option<Option<u8>>) -> Option<u8>
 {
     match known {
         Some(cell) => cell,
-        None => word_behind(lab, node, lab.steps(node)),
+        None => instruction_cell_after(lab, node, lab.steps(node)),
     }
 }
 
 /// The cell of a node's word, which is known from then on.
-fn cell_found(lab: &Lab, cells: &mut Cells, node: NodeId) -> Option<u8>
+fn cell_found(lab: &Lab, cells: &mut InstructionCells, node: NodeId) -> Option<u8>
     ensures cell { result ≡ cell_in lab.now cells.old node }
     ensures cells { cells.new ≡ cells_with node.number (cell_in lab.now cells.old node) cells.old }
 {
@@ -144,7 +144,7 @@ fn cell_found(lab: &Lab, cells: &mut Cells, node: NodeId) -> Option<u8>
 }
 
 /// Whether a node is at this slot of its word, so that the word's cell is needed.
-fn asks_word(at: Spot, node: &Node) -> bool
+fn asks_word(at: SlotAddress, node: &Node) -> bool
     ensures { result ≡ asks_word at (record_of node.now) }
 {
     let (slot, _) = slot_and_p(node);
@@ -152,7 +152,12 @@ fn asks_word(at: Spot, node: &Node) -> bool
 }
 
 /// The cell of a node's word, if the node is in it at this slot; it is known from then on.
-pub(crate) fn cell_at(lab: &Lab, cells: &mut Cells, node: NodeId, at: Spot) -> Option<u8>
+pub(crate) fn cell_at(
+    lab: &Lab,
+    cells: &mut InstructionCells,
+    node: NodeId,
+    at: SlotAddress,
+) -> Option<u8>
     ensures cell { asks_word at (record_at (chip_of lab.now) node.number) ≡ true → result ≡ cell_in lab.now cells.old node }
     ensures cells { cells.new ≡ cells_asked (asks_word at (record_at (chip_of lab.now) node.number)) lab.now node cells.old }
 {

@@ -3,16 +3,16 @@ use Rattle.std.proofs.Common.{◌≡◌, ◌∙◌, ◌++◌, ◌<◌, ◌+◌, 
 use Rattle.std.specs.Prelude.{OnOk}
 use Rattle.std.specs.List.{list_all, list_any}
 use Rattle.std.proofs.lemmas.Bool.{cases_eq}
-use Rattle.ga_debug_info.specs.declared.notes.Notes.{Notes}
+use Rattle.ga_debug_info.specs.declared.notes.DebugInfo.{DebugInfo}
 use Rattle.ga_scheduler.specs.Running.{Running}
 use Rattle.ga_dap_breakpoints.specs.declared.breakpoint.Breakpoint.{Breakpoint}
 use Rattle.ga_grid.specs.declared.node_id.NodeId.{NodeId}
 use Rattle.ga_dap_breakpoints.specs.declared.going.Halt.{Halt}
 use Rattle.ga_dap_breakpoints.specs.declared.hits.HitTally.{HitTally}
-use Rattle.ga_dap_breakpoints.specs.Going.{HasGone, tally_on, going_on, stepping_on}
+use Rattle.ga_dap_breakpoints.specs.Going.{IsMoveResult, tally_on, going_on, stepping_on}
 use Rattle.ga_dap_protocol.specs.Sent.{SentMessages}
 use Rattle.ga_dap_protocol.specs.declared.request.ClientRequest.{ClientRequest}
-use Rattle.ga_dap_breakpoints.specs.declared.stepping.Stepping.{Stepping}
+use Rattle.ga_dap_breakpoints.specs.declared.stepping.StepMove.{StepMove}
 use Rattle.ga_dap_queries.specs.Events.{changed_messages, changed_below}
 use Rattle.ga_dap_queries.specs.Sending.{Message, Messages, Sends, SendsAll}
 use Rattle.ga_dap_queries.specs.declared.request_name.RequestName.{RequestName}
@@ -21,10 +21,10 @@ use Rattle.ga_dap_queries.proofs.Sent.{sent_one}
 use Rattle.ga_dap_control.specs.declared.configuration.Configuration.{Configuration}
 use Rattle.ga_dap_control.specs.declared.execution.Execution.{Execution}
 use Rattle.ga_dap_control.specs.declared.launched.Launched.{Launched}
-use Rattle.ga_dap_control.specs.declared.moving.StepKind.{StepKind}
+use Rattle.ga_dap_control.specs.declared.moving.DapStepKind.{DapStepKind}
 use Rattle.ga_dap_control.specs.Breakpoints.{SetsLinesIf, SetsFiltersIf}
 use Rattle.ga_dap_control.specs.Moving.{BeginsStep, BeginsStepping, BeginsUnless}
-use Rattle.ga_dap_control.specs.Requests.{OnlyAnswers, Moves, Steps, Sets, DoesInPlace}
+use Rattle.ga_dap_control.specs.Requests.{OnlyAnswers, Moves, Steps, Sets, AnswersAtOnce}
 
 pub only_answers : {T E : Type 0} → (Answers : Message → Type 0) (r : Result T E) (l new : Launched) (old out : SentMessages)
     → OnOk r ((message : Message) × Answers message × Sends old message out) → new ≡ l → OnOk r ((messages : Messages) × OnlyAnswers Answers l messages new × SendsAll old messages out)
@@ -37,7 +37,7 @@ pub moves_so : {T E : Type 0} → (Begins : Messages → Execution → Type 0) (
 moves_so Begins (Ok x) l new execution old out p same = (p.0, (execution, p.1, same), p.2)
 moves_so Begins (Err e) l new execution old out p same = tt
 
-pub steps_so : {T E : Type 0} → (kind : StepKind) (r : Result T E) (l new : Launched) (request : ClientRequest) (execution : Execution) (old out : SentMessages)
+pub steps_so : {T E : Type 0} → (kind : DapStepKind) (r : Result T E) (l new : Launched) (request : ClientRequest) (execution : Execution) (old out : SentMessages)
     → OnOk r ((message : Message) × BeginsStep l.program kind l.execution request message execution × Sends old message out) → new ≡ record l { execution = execution }
     → OnOk r ((messages : Messages) × Steps kind l request messages new × SendsAll old messages out)
 steps_so kind (Ok x) l new request execution old out p same = (p.0 ∷ [], (p.0, execution, p.1, refl, same), sent_one old p.0 out p.2)
@@ -53,16 +53,16 @@ pub sets_so : (Becomes : Message → Configuration → Type 0) (l : Launched) (s
 sets_so Becomes l settings old out p = (p.0 ∷ [], (p.0, settings, p.1, refl, refl), sent_one old p.0 out p.2)
 
 pub with_command : {T E : Type 0} → (r : Result T E) (a b : RequestName) (l : Launched) (request : ClientRequest) (new : Launched) (old out : SentMessages) → b ≡ a
-    → OnOk r ((messages : Messages) × DoesInPlace a l request messages new × SendsAll old messages out)
-    → OnOk r ((messages : Messages) × DoesInPlace b l request messages new × SendsAll old messages out)
+    → OnOk r ((messages : Messages) × AnswersAtOnce a l request messages new × SendsAll old messages out)
+    → OnOk r ((messages : Messages) × AnswersAtOnce b l request messages new × SendsAll old messages out)
 with_command r a b l request new old out e p =
-    subst (λ (z : RequestName). OnOk r ((messages : Messages) × DoesInPlace z l request messages new × SendsAll old messages out)) (sym e) p
+    subst (λ (z : RequestName). OnOk r ((messages : Messages) × AnswersAtOnce z l request messages new × SendsAll old messages out)) (sym e) p
 
-pub begins_unless : (b can : Bool) (kind : StepKind) (r : Execution) (request : ClientRequest) (stepping : Option Stepping) (message : Message) (new : Execution) → can ≡ b
+pub begins_unless : (b can : Bool) (kind : DapStepKind) (r : Execution) (request : ClientRequest) (stepping : Option StepMove) (message : Message) (new : Execution) → can ≡ b
     → can ≡ true → BeginsStepping r request stepping message new → BeginsUnless b kind r request stepping message new
 begins_unless b can kind r request stepping message new e is p = subst (λ (z : Bool). BeginsUnless z kind r request stepping message new) (sym is ∙ e) p
 
-pub stopped_unless : (b can : Bool) (kind : StepKind) (r : Execution) (request : ClientRequest) (stepping : Option Stepping) (message : Message) (new : Execution) → can ≡ b
+pub stopped_unless : (b can : Bool) (kind : DapStepKind) (r : Execution) (request : ClientRequest) (stepping : Option StepMove) (message : Message) (new : Execution) → can ≡ b
     → can ≡ false → BeginsUnless false kind r request stepping message new → BeginsUnless b kind r request stepping message new
 stopped_unless b can kind r request stepping message new e is p = subst (λ (z : Bool). BeginsUnless z kind r request stepping message new) (sym is ∙ e) p
 
@@ -79,17 +79,17 @@ changed_alike f g now same (suc n) =
     ∙ ap (λ (z : Bool). changed_below g now n ++ changed_messages z (now n) n) (same n)
 
 pub gone_by : (a b : List Breakpoint) (u v : HitTally) (s t : Bool) (r : Running) (most events : ℕ) (halt : Halt) → a ≡ b → u ≡ v → s ≡ t
-    → HasGone (going_on a u s r) r most events halt → HasGone (going_on b v t r) r most events halt
+    → IsMoveResult (going_on a u s r) r most events halt → IsMoveResult (going_on b v t r) r most events halt
 gone_by a b u v s t r most events halt e g f p =
-    subst (λ (z : List Breakpoint). HasGone (going_on z v t r) r most events halt) e
-    (subst (λ (z : HitTally). HasGone (going_on a z t r) r most events halt) g (subst (λ (z : Bool). HasGone (going_on a u z r) r most events halt) f p))
+    subst (λ (z : List Breakpoint). IsMoveResult (going_on z v t r) r most events halt) e
+    (subst (λ (z : HitTally). IsMoveResult (going_on a z t r) r most events halt) g (subst (λ (z : Bool). IsMoveResult (going_on a u z r) r most events halt) f p))
 
-pub stepped_so : (notes : Notes) (a b : List Breakpoint) (u v : HitTally) (s t : Bool) (by : Stepping) (r : Running) (most events : ℕ) (halt : Halt) → a ≡ b → u ≡ v → s ≡ t
-    → HasGone (stepping_on notes a u s by r) r most events halt → HasGone (stepping_on notes b v t by r) r most events halt
+pub stepped_so : (notes : DebugInfo) (a b : List Breakpoint) (u v : HitTally) (s t : Bool) (by : StepMove) (r : Running) (most events : ℕ) (halt : Halt) → a ≡ b → u ≡ v → s ≡ t
+    → IsMoveResult (stepping_on notes a u s by r) r most events halt → IsMoveResult (stepping_on notes b v t by r) r most events halt
 stepped_so notes a b u v s t by r most events halt e g f p =
-    subst (λ (z : List Breakpoint). HasGone (stepping_on notes z v t by r) r most events halt) e
-    (subst (λ (z : HitTally). HasGone (stepping_on notes a z t by r) r most events halt) g
-    (subst (λ (z : Bool). HasGone (stepping_on notes a u z by r) r most events halt) f p))
+    subst (λ (z : List Breakpoint). IsMoveResult (stepping_on notes z v t by r) r most events halt) e
+    (subst (λ (z : HitTally). IsMoveResult (stepping_on notes a z t by r) r most events halt) g
+    (subst (λ (z : Bool). IsMoveResult (stepping_on notes a u z by r) r most events halt) f p))
 
 -- what was hit so often, by what counted it
 pub hits_so : (first : Option NodeId) (a b : List Breakpoint) (u v : HitTally) (r : Running) (events : ℕ) (tally : HitTally) → a ≡ b → u ≡ v

@@ -10,11 +10,11 @@ use Rattle.ga_dap_queries.specs.declared.debuggee.Debuggee.{Debuggee}
 use Rattle.ga_dap_queries.specs.Sending.{Message}
 use Rattle.ga_dap_control.specs.Breakpoints.{is_filter, SetsFiltersIf}
 use Rattle.ga_dap_control.specs.declared.configuration.Configuration.{Configuration}
-use Rattle.ga_dap_control.specs.declared.configuration.SetBy.{SetBy}
-use Rattle.ga_dap_control.specs.declared.configuration.Family.{Family}
+use Rattle.ga_dap_control.specs.declared.configuration.PlacedBreakpoint.{PlacedBreakpoint}
+use Rattle.ga_dap_control.specs.declared.configuration.BreakpointKind.{BreakpointKind}
 use Rattle.ga_dap_control.specs.Placing.{Placement, PlacesOne, Places}
 
-pub places_on : (p : Debuggee) (kind : Family) (asked : List Value) (k : ℕ) (value : Value) (first old between : Placement) → drop k asked ≡ value ∷ drop (k + 1) asked
+pub places_on : (p : Debuggee) (kind : BreakpointKind) (asked : List Value) (k : ℕ) (value : Value) (first old between : Placement) → drop k asked ≡ value ∷ drop (k + 1) asked
     → ((new : Placement) → Places p kind (map view (drop k asked)) old new → Places p kind (map view asked) first new) → PlacesOne p kind (view value) old between
     → (new : Placement) → Places p kind (map view (drop (k + 1) asked)) between new → Places p kind (map view asked) first new
 places_on p kind asked k value first old between e all one new rest =
@@ -23,11 +23,11 @@ places_on p kind asked k value first old between e all one new rest =
 pub counted : {A B : Type 0} (f : A → B) (xs : List A) (ys : List B) → map f xs ≡ ys → length xs ≡ length ys
 counted f xs ys e = sym (length-map xs f) ∙ ap length e
 
-pub placed_so : (p : Debuggee) (kind : Family) (xs ys : List Data) (start : Placement) (placed kept : List SetBy) (next : ℕ) (final : Placement) → xs ≡ ys
+pub placed_so : (p : Debuggee) (kind : BreakpointKind) (xs ys : List Data) (start : Placement) (placed kept : List PlacedBreakpoint) (next : ℕ) (final : Placement) → xs ≡ ys
     → start ≡ record { told = []; placed = placed; next = next } → placed ≡ kept → Places p kind xs start final
     → Places p kind ys (record { told = []; placed = kept; next = next }) final
 placed_so p kind xs ys start placed kept next final e begun same places =
-    let from : start ≡ record { told = []; placed = kept; next = next } = begun ∙ ap (λ (z : List SetBy). record { told = []; placed = z; next = next }) same in
+    let from : start ≡ record { told = []; placed = kept; next = next } = begun ∙ ap (λ (z : List PlacedBreakpoint). record { told = []; placed = z; next = next }) same in
     subst (λ (z : Placement). Places p kind ys z final) from (subst (λ (z : List Data). Places p kind z start final) e places)
 
 pub filters_so : (a b : List Data) (known : Bool) (set : Configuration) (request : ClientRequest) (message : Message) (new : Configuration) → a ≡ b

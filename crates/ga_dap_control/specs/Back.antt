@@ -7,31 +7,31 @@ use Rattle.ga_event.specs.Told.{steps_of}
 use Rattle.ga_grid.specs.Grid.{yxx_of}
 use Rattle.ga_lab.specs.Machine.{State}
 use Rattle.ga_grid.specs.declared.node_id.NodeId.{NodeId}
-use Rattle.ga_debug_info.specs.declared.notes.Notes.{Notes}
+use Rattle.ga_debug_info.specs.declared.notes.DebugInfo.{DebugInfo}
 use Rattle.ga_dap_protocol.specs.Messages.{member_text}
 use Rattle.ga_dap_breakpoints.specs.Back.{stepped_back}
 use Rattle.ga_dap_breakpoints.specs.Lines.{stepped_back_line}
 use Rattle.ga_dap_breakpoints.specs.declared.breakpoint.Breakpoint.{Breakpoint}
 use Rattle.ga_dap_breakpoints.specs.Reversing.{reversed_to}
-use Rattle.ga_dap_breakpoints.specs.declared.stepping.Grain.{Grain}
-use Rattle.ga_dap_breakpoints.specs.declared.stepping.Grain.TheVariants.{Instruction, Line}
+use Rattle.ga_dap_breakpoints.specs.declared.stepping.Granularity.{Granularity}
+use Rattle.ga_dap_breakpoints.specs.declared.stepping.Granularity.TheVariants.{Instruction, Line}
 use Rattle.ga_dap_queries.specs.declared.debuggee.Debuggee.{Debuggee}
 use Rattle.ga_dap_queries.specs.Disassembling.{program_notes}
 
 -- the granularity of one step: lines if there is source and the client doesn't request an instruction
-abbrev pub grain_named : Option Text → Grain
+abbrev pub grain_named : Option Text → Granularity
 grain_named None = Line
 grain_named (Some name) = if bytes_eq name (codes "instruction") then Instruction else Line
 
-abbrev pub grain_by : Option Notes → Option Text → Grain
+abbrev pub grain_by : Option DebugInfo → Option Text → Granularity
 grain_by None name = Instruction
 grain_by (Some notes) name = grain_named name
 
-abbrev pub grain_asked : Debuggee → Data → Grain
-grain_asked p d = grain_by p.source (member_text (codes "granularity") d)
+abbrev pub requested_granularity : Debuggee → Data → Granularity
+requested_granularity p d = grain_by p.source (member_text (codes "granularity") d)
 
 -- `stepBack`: the node is rolled back, with all dependents, and nothing else changes
-abbrev pub stepped_by : Grain → Debuggee → NodeId → Debuggee
+abbrev pub stepped_by : Granularity → Debuggee → NodeId → Debuggee
 stepped_by Instruction p node = record p { lab = stepped_back p.lab node }
 stepped_by Line p node = record p { lab = stepped_back_line (program_notes p) p.lab node }
 
@@ -71,6 +71,6 @@ abbrev pub gone_words : NodeId → List ℕ → ℕ → State → Text
 gone_words node before removed s = gone_head node removed s ++ gone_below node.number before s 144
 
 -- what went where a node was gone back: between these two machines
-pub record WentBack (old new : State) (before : List ℕ) (removed : ℕ) : Type 0 where
+pub record RollsBackNode (old new : State) (before : List ℕ) (removed : ℕ) : Type 0 where
   pub steps : AreStepsOf old before
   pub count : removed ≡ length old.kept - length new.kept

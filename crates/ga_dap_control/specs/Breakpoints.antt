@@ -12,9 +12,9 @@ use Rattle.ga_dap_protocol.specs.Messages.{member_text}
 use Rattle.ga_dap_protocol.specs.declared.request.ClientRequest.{ClientRequest}
 use Rattle.ga_dap_queries.specs.declared.debuggee.Debuggee.{Debuggee}
 use Rattle.ga_dap_control.specs.declared.configuration.Configuration.{Configuration}
-use Rattle.ga_dap_control.specs.declared.configuration.Family.{Family}
-use Rattle.ga_dap_control.specs.declared.configuration.Family.TheVariants as family
-use Rattle.ga_dap_control.specs.declared.configuration.SetBy.{SetBy}
+use Rattle.ga_dap_control.specs.declared.configuration.BreakpointKind.{BreakpointKind}
+use Rattle.ga_dap_control.specs.declared.configuration.BreakpointKind.TheVariants as family
+use Rattle.ga_dap_control.specs.declared.configuration.PlacedBreakpoint.{PlacedBreakpoint}
 use Rattle.ga_dap_control.specs.Placing.{Placement, Places}
 use Rattle.ga_dap_queries.specs.Arguments.{member_values}
 use Rattle.ga_dap_queries.specs.Sending.{Message, answered, acknowledged, refused_response}
@@ -22,32 +22,32 @@ use Rattle.ga_dap_queries.specs.Sending.{Message, answered, acknowledged, refuse
 -- ---- breakpoints
 
 -- a request that sets breakpoints, by a number; and another request set a breakpoint
-abbrev pub family_number : Family → ℕ
+abbrev pub family_number : BreakpointKind → ℕ
 family_number family.Source = 0
 family_number family.Function = 1
 family_number family.Instruction = 2
 family_number family.Data = 3
 
-abbrev pub is_of_another : Family → SetBy → Bool
+abbrev pub is_of_another : BreakpointKind → PlacedBreakpoint → Bool
 is_of_another kind one = not (family_number one.family == family_number kind)
 
 -- the breakpoints that other requests set remain, and the requested ones follow them
-abbrev pub left_by : Family → Configuration → Placement
-left_by kind set = record { told = []; placed = filter (is_of_another kind) set.points.placed.items; next = set.points.next_id }
+abbrev pub without_family : BreakpointKind → Configuration → Placement
+without_family kind set = record { told = []; placed = filter (is_of_another kind) set.points.placed.items; next = set.points.next_id }
 
 -- these breakpoints are set now, and what else the client set stays
 pub record IsSetTo (placement : Placement) (set new : Configuration) : Type 0 where
   pub placed : new.points.placed.items ≡ placement.placed
-  pub points : new.points.points.items ≡ map (λ (one : SetBy). one.breakpoint) placement.placed
+  pub points : new.points.points.items ≡ map (λ (one : PlacedBreakpoint). one.breakpoint) placement.placed
   pub next : new.points.next_id ≡ placement.next
   pub others : new ≡ record set { points = new.points }
 
 abbrev pub breakpoints_body : List Data → Data
 breakpoints_body told = object_of (codes "breakpoints") (array (items_of told))
 
-abbrev pub SetsPoints : Debuggee → Family → Configuration → ClientRequest → Message → Configuration → Type 0
+abbrev pub SetsPoints : Debuggee → BreakpointKind → Configuration → ClientRequest → Message → Configuration → Type 0
 SetsPoints p kind set request message new =
-    (placement : Placement) × Places p kind (member_values (codes "breakpoints") (view request.arguments)) (left_by kind set) placement
+    (placement : Placement) × Places p kind (member_values (codes "breakpoints") (view request.arguments)) (without_family kind set) placement
     × (message ≡ answered request (breakpoints_body placement.told)) × IsSetTo placement set new
 
 -- `setBreakpoints`, for the program's own file; in another no breakpoint can stand

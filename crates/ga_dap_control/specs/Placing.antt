@@ -4,10 +4,10 @@ use Rattle.std.specs.Prelude.{◌≡◌, ℕ, ◌+◌, ◌%◌, ◌^◌, ◌==�
 use Rattle.std.specs.List.{slice_get}
 use Rattle.serde_json.specs.Data.{Data, string, boolean, object, no_members, member}
 use Rattle.ga_text.specs.Lines.{Text}
-use Rattle.ga_text.specs.Parsing.{node_in, fitting}
+use Rattle.ga_text.specs.Parsing.{parse_node, fitting}
 use Rattle.ga_grid.specs.declared.node_id.NodeId.{NodeId}
-use Rattle.ga_debug_info.specs.declared.notes.Name.{Name}
-use Rattle.ga_debug_info.specs.declared.notes.Notes.{Notes}
+use Rattle.ga_debug_info.specs.declared.notes.LabelAddress.{LabelAddress}
+use Rattle.ga_debug_info.specs.declared.notes.DebugInfo.{DebugInfo}
 use Rattle.ga_debug_info.specs.Notes.{address_of}
 use Rattle.ga_dap_views.specs.Json.{whole_number}
 use Rattle.ga_dap_breakpoints.specs.declared.back.Watched.TheVariants.{Writes}
@@ -17,58 +17,58 @@ use Rattle.ga_dap_breakpoints.specs.declared.condition.ValueTest.{ValueTest}
 use Rattle.ga_dap_breakpoints.specs.Conditions.{is_step_number}
 use Rattle.serde_json.specs.Find.{get, as_str, as_null}
 use Rattle.ga_dap_breakpoints.specs.declared.condition.HitCount.{HitCount}
-use Rattle.ga_dap_breakpoints.specs.Saying.{condition_said, hits_said}
+use Rattle.ga_dap_breakpoints.specs.Saying.{parse_condition, parse_hit_condition}
 use Rattle.ga_dap_breakpoints.specs.Breakpoints.{breakpoint_of_line, breakpoint_of_address}
 use Rattle.ga_dap_protocol.specs.Messages.{member_text, member_number}
 use Rattle.ga_dap_queries.specs.declared.debuggee.Debuggee.{Debuggee}
-use Rattle.ga_dap_queries.specs.Disassembling.{RefersTo, offset_given, cells_on, program_notes}
-use Rattle.ga_dap_control.specs.declared.configuration.Family.{Family}
-use Rattle.ga_dap_control.specs.declared.configuration.Family.TheVariants as family
-use Rattle.ga_dap_control.specs.declared.configuration.SetBy.{SetBy}
-use Rattle.ga_dap_control.specs.declared.finding.FoundPlace.{FoundPlace}
-use Rattle.ga_dap_control.specs.declared.finding.Unplaced.{Unplaced}
-use Rattle.ga_dap_control.specs.declared.finding.Unplaced.TheVariants.{Nowhere, Condition, Range, Hits, Uncounted}
+use Rattle.ga_dap_queries.specs.Disassembling.{RefersTo, offset_given, addresses_after, program_notes}
+use Rattle.ga_dap_control.specs.declared.configuration.BreakpointKind.{BreakpointKind}
+use Rattle.ga_dap_control.specs.declared.configuration.BreakpointKind.TheVariants as family
+use Rattle.ga_dap_control.specs.declared.configuration.PlacedBreakpoint.{PlacedBreakpoint}
+use Rattle.ga_dap_control.specs.declared.finding.BreakpointLocation.{BreakpointLocation}
+use Rattle.ga_dap_control.specs.declared.finding.PlacementError.{PlacementError}
+use Rattle.ga_dap_control.specs.declared.finding.PlacementError.TheVariants.{Nowhere, Condition, Range, Hits, Uncounted}
 
 -- ---- on a line of the source
 
 abbrev pub line_asked : Data → Option ℕ
 line_asked d = option_and_then fitting (member_number (codes "line") d)
 
-abbrev pub on_line : LineBreakpoint → FoundPlace
+abbrev pub on_line : LineBreakpoint → BreakpointLocation
 on_line found = record { breakpoint = found.breakpoint; line = Some found.line }
 
-abbrev pub on_no_line : Breakpoint → FoundPlace
+abbrev pub on_no_line : Breakpoint → BreakpointLocation
 on_no_line point = record { breakpoint = point; line = None }
 
-abbrev pub found_on_line : Notes → Data → Option FoundPlace
+abbrev pub found_on_line : DebugInfo → Data → Option BreakpointLocation
 found_on_line notes d = option_map on_line (option_and_then (breakpoint_of_line notes) (line_asked d))
 
 -- ---- at a label: LABEL, or that of one node: NNN LABEL or NNN:LABEL
 
-abbrev pub is_label : Text → Name → Bool
+abbrev pub is_label : Text → LabelAddress → Bool
 is_label label name = bytes_eq name.text.items label
 
-abbrev pub at_name : Name → Option Breakpoint
+abbrev pub at_name : LabelAddress → Option Breakpoint
 at_name name = breakpoint_of_address name.node name.address
 
 -- a breakpoint at the label of the first node that has it
-abbrev pub at_any_label : List Name → Text → Option Breakpoint
+abbrev pub at_any_label : List LabelAddress → Text → Option Breakpoint
 at_any_label names label = option_and_then at_name (option_and_then (slice_get names) (position (is_label label) names))
 
-abbrev pub at_label_of : List Name → NodeId → Text → Option Breakpoint
+abbrev pub at_label_of : List LabelAddress → NodeId → Text → Option Breakpoint
 at_label_of names node label = option_and_then (breakpoint_of_address node) (address_of names node label)
 
 abbrev pub names_node : Text → Bool
 names_node text = nat_lt 3 (length text) && (slice_index text 3 == 58 || slice_index text 3 == 32)
 
 abbrev pub node_named_before : Text → Option NodeId
-node_named_before text = if names_node text then node_in (take 3 text) else None
+node_named_before text = if names_node text then parse_node (take 3 text) else None
 
-abbrev pub at_label_behind : List Name → Text → Option NodeId → Option Breakpoint
+abbrev pub at_label_behind : List LabelAddress → Text → Option NodeId → Option Breakpoint
 at_label_behind names text None = at_any_label names text
 at_label_behind names text (Some node) = at_label_of names node (drop 4 text)
 
-abbrev pub at_label : List Name → Text → Option Breakpoint
+abbrev pub at_label : List LabelAddress → Text → Option Breakpoint
 at_label names text = at_label_behind names text (node_named_before text)
 
 -- ---- at an address, and of a cell of RAM
@@ -85,12 +85,12 @@ IsReferredBy place (Some text) point = (at : Option (NodeId × ℕ)) × RefersTo
 
 -- ---- the place of one; none if there is no such place
 
-abbrev pub IsPlaceOf : Debuggee → Family → Data → Option FoundPlace → Type 0
+abbrev pub IsPlaceOf : Debuggee → BreakpointKind → Data → Option BreakpointLocation → Type 0
 IsPlaceOf p family.Source d found = found ≡ found_on_line (program_notes p) d
 IsPlaceOf p family.Function d found =
     found ≡ option_map on_no_line (option_and_then (at_label (program_notes p).names.items) (member_text (codes "name") d))
 IsPlaceOf p family.Instruction d found =
-    (point : Option Breakpoint) × IsReferredBy (at_cell_on (cells_on (offset_given (codes "offset") d))) (member_text (codes "instructionReference") d) point
+    (point : Option Breakpoint) × IsReferredBy (at_cell_on (addresses_after (offset_given (codes "offset") d))) (member_text (codes "instructionReference") d) point
     × (found ≡ option_map on_no_line point)
 IsPlaceOf p family.Data d found =
     (point : Option Breakpoint) × IsReferredBy on_writes (member_text (codes "dataId") d) point × (found ≡ option_map on_no_line point)
@@ -109,48 +109,48 @@ is_no_text name d = is_other_kind (get name d)
 abbrev pub can_be : ValueTest → Bool
 can_be test = nat_lt test.number 262144 || is_step_number test.variable
 
-abbrev pub on_condition : FoundPlace → Option ValueTest → Result FoundPlace Unplaced
+abbrev pub on_condition : BreakpointLocation → Option ValueTest → Result BreakpointLocation PlacementError
 on_condition place None = Err Condition
 on_condition place (Some test) =
     if can_be test then Ok (record place { breakpoint = record place.breakpoint { condition = Some test } }) else Err Range
 
-abbrev pub with_condition : FoundPlace → Bool → Option Text → Result FoundPlace Unplaced
+abbrev pub with_condition : BreakpointLocation → Bool → Option Text → Result BreakpointLocation PlacementError
 with_condition place true text = Err Condition
 with_condition place false None = Ok place
-with_condition place false (Some text) = on_condition place (condition_said text)
+with_condition place false (Some text) = on_condition place (parse_condition text)
 
 -- hits are counted of the first 64 breakpoints
-abbrev pub on_hits : FoundPlace → ℕ → Option HitCount → Result FoundPlace Unplaced
+abbrev pub on_hits : BreakpointLocation → ℕ → Option HitCount → Result BreakpointLocation PlacementError
 on_hits place before None = Err Hits
 on_hits place before (Some hits) =
     if nat_lt before 64 then Ok (record place { breakpoint = record place.breakpoint { hits = Some hits } }) else Err Uncounted
 
-abbrev pub with_hits : FoundPlace → ℕ → Bool → Option Text → Result FoundPlace Unplaced
+abbrev pub with_hits : BreakpointLocation → ℕ → Bool → Option Text → Result BreakpointLocation PlacementError
 with_hits place before true text = Err Hits
 with_hits place before false None = Ok place
-with_hits place before false (Some text) = on_hits place before (hits_said text)
+with_hits place before false (Some text) = on_hits place before (parse_hit_condition text)
 
-abbrev pub then_hits : ℕ → Data → Result FoundPlace Unplaced → Result FoundPlace Unplaced
+abbrev pub then_hits : ℕ → Data → Result BreakpointLocation PlacementError → Result BreakpointLocation PlacementError
 then_hits before d (Err why) = Err why
 then_hits before d (Ok place) = with_hits place before (is_no_text (codes "hitCondition") d) (member_text (codes "hitCondition") d)
 
-abbrev pub asked_there : FoundPlace → ℕ → Data → Result FoundPlace Unplaced
+abbrev pub asked_there : BreakpointLocation → ℕ → Data → Result BreakpointLocation PlacementError
 asked_there place before d = then_hits before d (with_condition place (is_no_text (codes "condition") d) (member_text (codes "condition") d))
 
 -- the requested breakpoint, given the number of breakpoints before it; else why it is not set
-abbrev pub asked_at : Option FoundPlace → ℕ → Data → Result FoundPlace Unplaced
-asked_at None before d = Err Nowhere
-asked_at (Some place) before d = asked_there place before d
+abbrev pub requested_breakpoint : Option BreakpointLocation → ℕ → Data → Result BreakpointLocation PlacementError
+requested_breakpoint None before d = Err Nowhere
+requested_breakpoint (Some place) before d = asked_there place before d
 
 -- ---- what is sent for one, by its number
 
-abbrev pub unfound_words : Family → Text
+abbrev pub unfound_words : BreakpointKind → Text
 unfound_words family.Source = codes "no code stands on this line or behind it"
 unfound_words family.Function = codes "no node has this label"
 unfound_words family.Instruction = codes "no such memory"
 unfound_words family.Data = codes "no such cell of RAM"
 
-abbrev pub unplaced_words : Family → Unplaced → Text
+abbrev pub unplaced_words : BreakpointKind → PlacementError → Text
 unplaced_words kind Nowhere = unfound_words kind
 unplaced_words kind Condition = codes "condition: a register or [HH], then = != < <= > or >=, then a number"
 unplaced_words kind Range = codes "condition: the number is past 0x3ffff, the last word"
@@ -174,7 +174,7 @@ abbrev pub verified_on : Debuggee → ℕ → Option ℕ → Data
 verified_on p id None = verified_object id
 verified_on p id (Some line) = lined_object (string_bytes p.name) (string_bytes p.path) id line
 
-abbrev pub told_placed : Debuggee → Family → ℕ → Result FoundPlace Unplaced → Data
+abbrev pub told_placed : Debuggee → BreakpointKind → ℕ → Result BreakpointLocation PlacementError → Data
 told_placed p kind id (Err why) = unverified_object id (unplaced_words kind why)
 told_placed p kind id (Ok found) = verified_on p id found.line
 
@@ -183,20 +183,20 @@ told_placed p kind id (Ok found) = verified_on p id found.line
 
 pub record Placement : Type 0 where
   pub told : List Data
-  pub placed : List SetBy
+  pub placed : List PlacedBreakpoint
   pub next : ℕ
 
-abbrev pub set_by : Family → ℕ → Result FoundPlace Unplaced → List SetBy
+abbrev pub set_by : BreakpointKind → ℕ → Result BreakpointLocation PlacementError → List PlacedBreakpoint
 set_by kind id (Err why) = []
 set_by kind id (Ok found) = record { breakpoint = found.breakpoint; family = kind; id = id } ∷ []
 
-abbrev pub placed_next : Debuggee → Family → Result FoundPlace Unplaced → Placement → Placement
+abbrev pub placed_next : Debuggee → BreakpointKind → Result BreakpointLocation PlacementError → Placement → Placement
 placed_next p kind found old =
     record { told = old.told ++ told_placed p kind old.next found ∷ []; placed = old.placed ++ set_by kind old.next found; next = (old.next + 1) % 2 ^ 64 }
 
-abbrev pub PlacesOne : Debuggee → Family → Data → Placement → Placement → Type 0
-PlacesOne p kind d old new = (found : Option FoundPlace) × IsPlaceOf p kind d found × (new ≡ placed_next p kind (asked_at found (length old.placed) d) old)
+abbrev pub PlacesOne : Debuggee → BreakpointKind → Data → Placement → Placement → Type 0
+PlacesOne p kind d old new = (found : Option BreakpointLocation) × IsPlaceOf p kind d found × (new ≡ placed_next p kind (requested_breakpoint found (length old.placed) d) old)
 
-abbrev pub Places : Debuggee → Family → List Data → Placement → Placement → Type 0
+abbrev pub Places : Debuggee → BreakpointKind → List Data → Placement → Placement → Type 0
 Places p kind [] old new = new ≡ old
 Places p kind (d ∷ rest) old new = (between : Placement) × PlacesOne p kind d old between × Places p kind rest between new

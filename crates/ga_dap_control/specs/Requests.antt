@@ -4,12 +4,12 @@ use Rattle.std.specs.Prelude.{◌≡◌, List, [], ◌∷◌, codes, None}
 use Rattle.ga_dap_protocol.specs.declared.request.ClientRequest.{ClientRequest}
 use Rattle.ga_dap_queries.specs.declared.request_name.RequestName.{RequestName}
 use Rattle.ga_dap_queries.specs.declared.request_name.RequestName.TheVariants as the
-use Rattle.ga_dap_control.specs.declared.moving.StepKind.{StepKind}
-use Rattle.ga_dap_control.specs.declared.moving.StepKind.TheVariants.{Over, In, Out}
+use Rattle.ga_dap_control.specs.declared.moving.DapStepKind.{DapStepKind}
+use Rattle.ga_dap_control.specs.declared.moving.DapStepKind.TheVariants.{Over, In, Out}
 use Rattle.ga_dap_control.specs.declared.execution.Execution.{Execution}
 use Rattle.ga_dap_control.specs.declared.launched.Launched.{Launched}
 use Rattle.ga_dap_control.specs.declared.configuration.Configuration.{Configuration}
-use Rattle.ga_dap_control.specs.declared.configuration.Family.TheVariants as family
+use Rattle.ga_dap_control.specs.declared.configuration.BreakpointKind.TheVariants as family
 use Rattle.ga_dap_control.specs.Breakpoints.{SetsFilters, SetsLines, SetsPoints}
 use Rattle.ga_dap_control.specs.Configuring.{Configures}
 use Rattle.ga_dap_control.specs.Moving.{Continues, BeginsStep, Pauses}
@@ -26,7 +26,7 @@ OnlyAnswers Answers l messages new = (message : Message) × Answers message × (
 abbrev pub Moves : (Messages → Execution → Type 0) → Launched → Messages → Launched → Type 0
 Moves Begins l messages new = (execution : Execution) × Begins messages execution × (new ≡ record l { execution = execution })
 
-abbrev pub Steps : StepKind → Launched → ClientRequest → Messages → Launched → Type 0
+abbrev pub Steps : DapStepKind → Launched → ClientRequest → Messages → Launched → Type 0
 Steps kind l request messages new = (message : Message) × (execution : Execution) × BeginsStep l.program kind l.execution request message execution
     × (messages ≡ message ∷ []) × (new ≡ record l { execution = execution })
 
@@ -35,23 +35,23 @@ abbrev pub Sets : (Message → Configuration → Type 0) → Launched → Messag
 Sets Becomes l messages new = (message : Message) × (settings : Configuration) × Becomes message settings × (messages ≡ message ∷ [])
     × (new ≡ record l { settings = settings; execution = record l.execution { tally = None } })
 
-abbrev pub DoesInPlace : RequestName → Launched → ClientRequest → Messages → Launched → Type 0
-DoesInPlace the.Threads l request messages new = OnlyAnswers (AnswersThreads l.program request) l messages new
-DoesInPlace the.StackTrace l request messages new = OnlyAnswers (AnswersStack l.program request) l messages new
-DoesInPlace the.Scopes l request messages new = OnlyAnswers (AnswersScopes request) l messages new
-DoesInPlace the.Variables l request messages new = OnlyAnswers (AnswersVariables l.program request) l messages new
-DoesInPlace the.ExceptionInfo l request messages new = OnlyAnswers (AnswersException l.program request) l messages new
-DoesInPlace the.ConfigurationDone l request messages new = Moves (Configures l.program l.execution request) l messages new
-DoesInPlace the.Continue l request messages new = Moves (Continues l.execution request) l messages new
-DoesInPlace the.Pause l request messages new = Moves (Pauses l.program l.execution request) l messages new
-DoesInPlace the.Next l request messages new = Steps Over l request messages new
-DoesInPlace the.StepIn l request messages new = Steps In l request messages new
-DoesInPlace the.StepOut l request messages new = Steps Out l request messages new
-DoesInPlace the.SetBreakpoints l request messages new = Sets (SetsLines l.program l.settings request) l messages new
-DoesInPlace the.SetFunctionBreakpoints l request messages new = Sets (SetsPoints l.program family.Function l.settings request) l messages new
-DoesInPlace the.SetInstructionBreakpoints l request messages new = Sets (SetsPoints l.program family.Instruction l.settings request) l messages new
-DoesInPlace the.SetDataBreakpoints l request messages new = Sets (SetsPoints l.program family.Data l.settings request) l messages new
-DoesInPlace the.DataBreakpointInfo l request messages new = OnlyAnswers (AnswersDataInfo request) l messages new
-DoesInPlace the.SetExceptionBreakpoints l request messages new = Sets (SetsFilters l.settings request) l messages new
-DoesInPlace the.Disassemble l request messages new = OnlyAnswers (AnswersInstructions l.program request) l messages new
-DoesInPlace other l request messages new = (messages ≡ refused_response request (codes "no such request") ∷ []) × (new ≡ l)
+abbrev pub AnswersAtOnce : RequestName → Launched → ClientRequest → Messages → Launched → Type 0
+AnswersAtOnce the.Threads l request messages new = OnlyAnswers (AnswersThreads l.program request) l messages new
+AnswersAtOnce the.StackTrace l request messages new = OnlyAnswers (AnswersStack l.program request) l messages new
+AnswersAtOnce the.Scopes l request messages new = OnlyAnswers (AnswersScopes request) l messages new
+AnswersAtOnce the.Variables l request messages new = OnlyAnswers (AnswersVariables l.program request) l messages new
+AnswersAtOnce the.ExceptionInfo l request messages new = OnlyAnswers (AnswersException l.program request) l messages new
+AnswersAtOnce the.ConfigurationDone l request messages new = Moves (Configures l.program l.execution request) l messages new
+AnswersAtOnce the.Continue l request messages new = Moves (Continues l.execution request) l messages new
+AnswersAtOnce the.Pause l request messages new = Moves (Pauses l.program l.execution request) l messages new
+AnswersAtOnce the.Next l request messages new = Steps Over l request messages new
+AnswersAtOnce the.StepIn l request messages new = Steps In l request messages new
+AnswersAtOnce the.StepOut l request messages new = Steps Out l request messages new
+AnswersAtOnce the.SetBreakpoints l request messages new = Sets (SetsLines l.program l.settings request) l messages new
+AnswersAtOnce the.SetFunctionBreakpoints l request messages new = Sets (SetsPoints l.program family.Function l.settings request) l messages new
+AnswersAtOnce the.SetInstructionBreakpoints l request messages new = Sets (SetsPoints l.program family.Instruction l.settings request) l messages new
+AnswersAtOnce the.SetDataBreakpoints l request messages new = Sets (SetsPoints l.program family.Data l.settings request) l messages new
+AnswersAtOnce the.DataBreakpointInfo l request messages new = OnlyAnswers (AnswersDataInfo request) l messages new
+AnswersAtOnce the.SetExceptionBreakpoints l request messages new = Sets (SetsFilters l.settings request) l messages new
+AnswersAtOnce the.Disassemble l request messages new = OnlyAnswers (AnswersInstructions l.program request) l messages new
+AnswersAtOnce other l request messages new = (messages ≡ refused_response request (codes "no such request") ∷ []) × (new ≡ l)

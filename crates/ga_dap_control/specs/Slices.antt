@@ -3,7 +3,7 @@
 -- slices is one run, however it is cut.
 use Rattle.std.specs.Prelude.{◌≡◌, ◌≤◌, ◌<◌, ◌⊎◌, ℕ, Bool, true, false, ◌&&◌, not, ◌==◌, if◌then◌else◌, List, replicate, Option, Some, None}
 use Rattle.std.specs.List.{slice_get}
-use Rattle.ga_races.specs.Acts.{IsSubset, AreStuck}
+use Rattle.ga_races.specs.Acts.{IsSubset, AreDeadlocked}
 use Rattle.ga_causal.specs.Dependence.{is_marked}
 use Rattle.ga_node.specs.Record.{NodeRecord}
 use Rattle.ga_grid.specs.Chip.{record_at}
@@ -19,9 +19,9 @@ use Rattle.ga_dap_views.specs.Threads.{has_thread}
 use Rattle.ga_dap_breakpoints.specs.declared.breakpoint.Breakpoint.{Breakpoint}
 use Rattle.ga_dap_breakpoints.specs.declared.going.Halt.{Halt}
 use Rattle.ga_dap_breakpoints.specs.declared.going.Halt.TheVariants as halt
-use Rattle.ga_dap_breakpoints.specs.declared.going.Went.{Went}
-use Rattle.ga_dap_breakpoints.specs.declared.stepping.Stepping.{Stepping}
-use Rattle.ga_dap_breakpoints.specs.Going.{HasGone, tally_on, going_on, stepping_on}
+use Rattle.ga_dap_breakpoints.specs.declared.going.MoveResult.{MoveResult}
+use Rattle.ga_dap_breakpoints.specs.declared.stepping.StepMove.{StepMove}
+use Rattle.ga_dap_breakpoints.specs.Going.{IsMoveResult, tally_on, going_on, stepping_on}
 use Rattle.ga_dap_breakpoints.specs.Stepping.{stepped_on}
 use Rattle.ga_dap_breakpoints.specs.declared.hits.HitTally.{HitTally}
 use Rattle.ga_dap_breakpoints.specs.Reversing.{kept_tally}
@@ -46,23 +46,23 @@ tally_begun s set None = kept_tally s set.points.points.items
 tally_begun s set (Some tally) = tally
 
 -- a slice of the events of `continue`
-abbrev pub GoesOn : Debuggee → Configuration → Execution → Debuggee → Execution → Went → Type 0
+abbrev pub GoesOn : Debuggee → Configuration → Execution → Debuggee → Execution → MoveResult → Type 0
 GoesOn p set r new next went =
     (running new.lab went.schedule ≡ after_events (running p.lab r.schedule) went.events) × (went.events ≤ slice_limit)
     × (went.tally ≡ tally_on None set.points.points.items (tally_begun p.lab set r.tally) (running p.lab r.schedule) went.events)
-    × HasGone (going_on set.points.points.items (tally_begun p.lab set r.tally) set.stops (running p.lab r.schedule)) (running p.lab r.schedule) slice_limit went.events went.halt
+    × IsMoveResult (going_on set.points.points.items (tally_begun p.lab set r.tally) set.stops (running p.lab r.schedule)) (running p.lab r.schedule) slice_limit went.events went.halt
     × (new ≡ record p { lab = new.lab }) × (next ≡ record r { schedule = went.schedule; tally = Some went.tally })
 
 -- a slice of the events of a step of one node
-abbrev pub StepsOn : Stepping → Debuggee → Configuration → Execution → Debuggee → Execution → Went → Type 0
+abbrev pub StepsOn : StepMove → Debuggee → Configuration → Execution → Debuggee → Execution → MoveResult → Type 0
 StepsOn by p set r new next went =
     (running new.lab went.schedule ≡ after_first (Some by.node) (running p.lab r.schedule) went.events) × (went.events ≤ slice_limit)
     × (went.tally ≡ tally_on (Some by.node) set.points.points.items (tally_begun p.lab set r.tally) (running p.lab r.schedule) went.events)
-    × HasGone (stepping_on (program_notes p) set.points.points.items (tally_begun p.lab set r.tally) set.stops by (running p.lab r.schedule)) (running p.lab r.schedule) slice_limit went.events went.halt
+    × IsMoveResult (stepping_on (program_notes p) set.points.points.items (tally_begun p.lab set r.tally) set.stops by (running p.lab r.schedule)) (running p.lab r.schedule) slice_limit went.events went.halt
     × (new ≡ record p { lab = new.lab })
     × (next ≡ record r { schedule = went.schedule; tally = Some went.tally; goal = Some (Step (stepped_on by (running p.lab r.schedule) went.events)) })
 
-abbrev pub Advances : Goal → Debuggee → Configuration → Execution → Debuggee → Execution → Went → Type 0
+abbrev pub Advances : Goal → Debuggee → Configuration → Execution → Debuggee → Execution → MoveResult → Type 0
 Advances Continue p set r new next went = GoesOn p set r new next went
 Advances (Step by) p set r new next went = StepsOn by p set r new next went
 
@@ -107,7 +107,7 @@ stop_by set goal stuck halt.Quiet = ended_stuck set.stuck stuck (Some stop.Quiet
 
 -- the greatest set of nodes that can never go on
 abbrev pub MarksStuck : List NodeRecord → (ℕ → Bool) → Type 0
-MarksStuck chip marks = AreStuck chip marks × ((others : ℕ → Bool) → AreStuck chip others → IsSubset others marks)
+MarksStuck chip marks = AreDeadlocked chip marks × ((others : ℕ → Bool) → AreDeadlocked chip others → IsSubset others marks)
 
 -- a node that has something to show, and isn't stopped, can never go on, and is not among those that are known
 abbrev pub is_newly_by : Bool → Bool → Debuggee → ℕ → Bool
@@ -146,7 +146,7 @@ goal_behind r (Some why) = record r { goal = None }
 -- the events of a slice, before which these nodes are stuck
 abbrev pub MakesEvents : Goal → List Bool → Debuggee → Configuration → Execution → Debuggee → Execution → Option StopReason → Type 0
 MakesEvents goal before p set r new next result =
-    (went : Went) × (between : Execution) × (now : List Bool) × (stuck : Option NodeId) × Advances goal p set r new between went
+    (went : MoveResult) × (between : Execution) × (now : List Bool) × (stuck : Option NodeId) × Advances goal p set r new between went
     × MarksStuck (chip_of new.lab) (is_marked now) × IsFirstNewly (is_marked before) (is_marked now) new stuck
     × (result ≡ stop_by set goal stuck went.halt)
     × (next ≡ goal_behind (record between { reported = reported_behind set.stuck result before now }) result)

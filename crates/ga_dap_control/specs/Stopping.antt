@@ -5,11 +5,11 @@ use Rattle.ga_event.specs.declared.made.Made.{Made}
 use Rattle.ga_lab.specs.Machine.{State, chip_of}
 use Rattle.ga_lab.specs.declared.fault.LabFault.{LabFault}
 use Rattle.ga_lab.specs.declared.fault.LabFault.TheVariants as fault
-use Rattle.ga_dap_views.specs.Doing.{named_activity}
+use Rattle.ga_dap_views.specs.Activity.{named_activity}
 use Rattle.ga_dap_breakpoints.specs.Reversing.{has_been_hit}
 use Rattle.ga_dap_queries.specs.declared.debuggee.Debuggee.{Debuggee}
 use Rattle.ga_dap_control.specs.declared.configuration.Configuration.{Configuration}
-use Rattle.ga_dap_control.specs.declared.configuration.SetBy.{SetBy}
+use Rattle.ga_dap_control.specs.declared.configuration.PlacedBreakpoint.{PlacedBreakpoint}
 use Rattle.ga_dap_control.specs.declared.execution.StopReason.{StopReason}
 use Rattle.ga_dap_control.specs.declared.execution.StopReason.TheVariants as stop
 use Rattle.ga_dap_queries.specs.Events.{stopped_body, hit_body, IsFirstShown}
@@ -32,18 +32,18 @@ abbrev pub hit : Text → Text → ℕ → List ℕ → Message
 hit reason description n ids = event_told (codes "stopped") (hit_body reason description n ids)
 
 -- the numbers of those breakpoints that what was made hit as they are asked for
-unfoldable pub is_one_hit : Made → State → SetBy → Bool
+unfoldable pub is_one_hit : Made → State → PlacedBreakpoint → Bool
 is_one_hit told s one = has_been_hit told s one.breakpoint
 
-abbrev pub ids_hit : Made → State → List SetBy → List ℕ
-ids_hit told s placed = map (λ (one : SetBy). one.id) (filter (is_one_hit told s) placed)
+abbrev pub ids_hit : Made → State → List PlacedBreakpoint → List ℕ
+ids_hit told s placed = map (λ (one : PlacedBreakpoint). one.id) (filter (is_one_hit told s) placed)
 
 -- a node that can't go on, and why
 abbrev pub fault_message : Debuggee → ℕ → Text → Message
 fault_message p n behind = stopped (codes "exception") (codes "node " ++ named_activity (chip_of p.lab) n ++ behind) n
 
 -- `stopped` if a run ended for this reason; if it ended at no node, the message names the first node that has something to show
-abbrev pub stop_message : Debuggee → List SetBy → ℕ → StopReason → Message
+abbrev pub stop_message : Debuggee → List PlacedBreakpoint → ℕ → StopReason → Message
 stop_message p placed first (stop.Step node) = stopped (codes "step") (codes "step") node.number
 stop_message p placed first (stop.Breakpoint node told) = hit (codes "breakpoint") (codes "breakpoint") node.number (ids_hit told p.lab placed)
 stop_message p placed first (stop.Write node told) = hit (codes "data breakpoint") (codes "a watched cell was written") node.number (ids_hit told p.lab placed)

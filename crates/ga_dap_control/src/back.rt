@@ -3,10 +3,10 @@
 ghost use Rattle.std.specs.Prelude.{◌≡◌, ◌++◌, length, string_bytes, slice_index_or, IfOk, OnOk};
 ghost use Rattle.serde_json.specs.View.{view};
 ghost use Rattle.ga_event.specs.Told.{steps_of};
-ghost use Rattle.ga_dap_control.specs.Back.{grain_asked, stepped_by, reversed_by, AreStepsOf, WentBack, gone_line, gone_with_it, gone_of, gone_below, gone_head, gone_words};
+ghost use Rattle.ga_dap_control.specs.Back.{requested_granularity, stepped_by, reversed_by, AreStepsOf, RollsBackNode, gone_line, gone_with_it, gone_of, gone_below, gone_head, gone_words};
 
-use crate::moving::grain_asked;
-use ga_dap_breakpoints::{Breakpoint, Grain, reverse_to, step_back, step_back_line};
+use crate::moving::requested_granularity;
+use ga_dap_breakpoints::{Breakpoint, Granularity, reverse_to, step_back, step_back_line};
 use ga_dap_queries::{Debuggee, add_name};
 use ga_grid::NodeId;
 use ga_lab::Lab;
@@ -15,7 +15,7 @@ use std::alloc::{AllocError, Global};
 
 /// What went where a node was gone back: how many steps of each node were kept before, and how many events went.
 #[derive(Drop)]
-pub struct Gone {
+pub struct RollbackSummary {
     pub node: NodeId,
     pub before: [u32; 144],
     pub removed: u32,
@@ -35,20 +35,20 @@ fn steps_kept(lab: &Lab) -> [u32; 144]
 }
 
 /// Rolls a node back by a line or a step.
-fn step_by(program: &mut Debuggee, node: NodeId, grain: Grain)
+fn step_by(program: &mut Debuggee, node: NodeId, grain: Granularity)
     ensures { program.new ≡ stepped_by grain program.old node }
 {
     match grain {
-        Grain::Instruction => {
+        Granularity::Instruction => {
             step_back(&mut program.lab, node);
         }
-        Grain::Line => step_line(program, node),
+        Granularity::Line => step_line(program, node),
     }
 }
 
 /// Rolls a node back by a line.
 fn step_line(program: &mut Debuggee, node: NodeId)
-    ensures { program.new ≡ stepped_by Grain.Line program.old node }
+    ensures { program.new ≡ stepped_by Granularity.Line program.old node }
 {
     match &program.source {
         Some(notes) => {
@@ -61,17 +61,17 @@ fn step_line(program: &mut Debuggee, node: NodeId)
 }
 
 /// Rolls a node back by a line or a step, and returns what was removed.
-pub fn step_node_back(program: &mut Debuggee, node: NodeId, arguments: &Value) -> Gone
-    ensures program { program.new ≡ stepped_by (grain_asked program.old (view arguments.now)) program.old node }
+pub fn step_back_node(program: &mut Debuggee, node: NodeId, arguments: &Value) -> RollbackSummary
+    ensures program { program.new ≡ stepped_by (requested_granularity program.old (view arguments.now)) program.old node }
     ensures node { result.node ≡ node }
-    ensures went { WentBack program.old.lab program.new.lab result.before result.removed }
+    ensures went { RollsBackNode program.old.lab program.new.lab result.before result.removed }
 {
     let before = steps_kept(&program.lab);
     let kept = program.lab.counts().kept;
-    let grain = grain_asked(program, arguments);
+    let grain = requested_granularity(program, arguments);
     step_by(program, node, grain);
     let removed = kept.saturating_sub(program.lab.counts().kept);
-    Gone {
+    RollbackSummary {
         node,
         before,
         removed,
@@ -79,16 +79,20 @@ pub fn step_node_back(program: &mut Debuggee, node: NodeId, arguments: &Value) -
 }
 
 /// Rolls a node back to the newest step that hit one of its breakpoints, and returns what was removed.
-pub fn reverse_node(program: &mut Debuggee, node: NodeId, points: &[Breakpoint]) -> Gone
+pub fn reverse_continue_node(
+    program: &mut Debuggee,
+    node: NodeId,
+    points: &[Breakpoint],
+) -> RollbackSummary
     ensures program { program.new ≡ reversed_by program.old node points.now }
     ensures node { result.node ≡ node }
-    ensures went { WentBack program.old.lab program.new.lab result.before result.removed }
+    ensures went { RollsBackNode program.old.lab program.new.lab result.before result.removed }
 {
     let before = steps_kept(&program.lab);
     let kept = program.lab.counts().kept;
     reverse_to(&mut program.lab, node, points);
     let removed = kept.saturating_sub(program.lab.counts().kept);
-    Gone {
+    RollbackSummary {
         node,
         before,
         removed,
@@ -96,7 +100,7 @@ pub fn reverse_node(program: &mut Debuggee, node: NodeId, points: &[Breakpoint])
 }
 
 /// The line about the node that was rolled back.
-fn gone_head(alloc: Global, lab: &Lab, gone: &Gone) -> Result<String, AllocError>
+fn gone_head(alloc: Global, lab: &Lab, gone: &RollbackSummary) -> Result<String, AllocError>
     ensures { IfOk result (λ text. string_bytes text ≡ gone_head gone.now.node gone.now.removed lab.now) }
 {
     let kept = lab.counts().kept;
@@ -109,7 +113,11 @@ fn gone_head(alloc: Global, lab: &Lab, gone: &Gone) -> Result<String, AllocError
 }
 
 /// The lines that tell what went.
-pub fn gone_text(alloc: Global, lab: &Lab, gone: &Gone) -> Result<String, AllocError>
+pub fn rollback_summary_text(
+    alloc: Global,
+    lab: &Lab,
+    gone: &RollbackSummary,
+) -> Result<String, AllocError>
     ensures { IfOk result (λ text. string_bytes text ≡ gone_words gone.now.node gone.now.before gone.now.removed lab.now) }
 {
     let mut text = gone_head(alloc, lab, gone)?;
@@ -118,7 +126,12 @@ pub fn gone_text(alloc: Global, lab: &Lab, gone: &Gone) -> Result<String, AllocE
 }
 
 /// Adds a line for each other node of which steps went.
-fn add_others(alloc: Global, text: &mut String, lab: &Lab, gone: &Gone) -> Result<(), AllocError>
+fn add_others(
+    alloc: Global,
+    text: &mut String,
+    lab: &Lab,
+    gone: &RollbackSummary,
+) -> Result<(), AllocError>
     ensures { OnOk result (string_bytes text.new ≡ string_bytes text.old ++ gone_below gone.now.node.number gone.now.before lab.now 144) }
 {
     'nodes: for number in 0..144u8 {
@@ -133,7 +146,7 @@ fn add_gone(
     alloc: Global,
     text: &mut String,
     lab: &Lab,
-    gone: &Gone,
+    gone: &RollbackSummary,
     node: NodeId,
 ) -> Result<(), AllocError>
     ensures { OnOk result (string_bytes text.new ≡ string_bytes text.old ++ gone_of gone.now.node.number gone.now.before lab.now node.number) }

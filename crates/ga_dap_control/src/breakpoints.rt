@@ -5,12 +5,14 @@ ghost use Rattle.std.specs.List.{list_all, list_any};
 ghost use Rattle.serde_json.specs.View.{view};
 ghost use Rattle.serde_json.specs.declared.value.Value.{Value as AValue};
 ghost use Rattle.ga_dap_control.specs.Placing.{Places};
-ghost use Rattle.ga_dap_control.specs.Breakpoints.{left_by, breakpoints_body, elsewhere, is_own_file, is_text, is_filter, IsSetTo, SetsFiltersIf, SetsFilters, SetsLines, SetsPoints};
+ghost use Rattle.ga_dap_control.specs.Breakpoints.{without_family, breakpoints_body, elsewhere, is_own_file, is_text, is_filter, IsSetTo, SetsFiltersIf, SetsFilters, SetsLines, SetsPoints};
 ghost use Rattle.ga_dap_control.specs.inner.{placement_of};
 ghost use Rattle.ga_dap_queries.specs.Arguments.{member_values};
 ghost use Rattle.ga_dap_queries.specs.Sending.{Sends, Message, answered};
 
-use crate::configuration::{Configuration, Family, Points, SetBy, breakpoints_of};
+use crate::configuration::{
+    BreakpointKind, BreakpointSet, Configuration, PlacedBreakpoint, breakpoints_of,
+};
 use crate::placing::{Placing, place_all};
 use ga_dap_protocol::{ClientRequest, Outbox, text_at};
 use ga_dap_queries::{Debuggee, values_at};
@@ -60,7 +62,7 @@ fn breakpoints_body(alloc: Global, list: Vec<Value>) -> Result<Value, AllocError
 }
 
 /// `setBreakpoints`: the breakpoints on lines of the file are replaced.
-pub fn set_lines(
+pub fn set_line_breakpoints(
     alloc: Global,
     program: &Debuggee,
     settings: &mut Configuration,
@@ -71,7 +73,14 @@ pub fn set_lines(
     ensures kept { OnErr result (settings.new ≡ settings.old) }
 {
     if is_own_file(program, &request.arguments) {
-        set_points(alloc, program, settings, Family::Source, request, out)
+        replace_breakpoints(
+            alloc,
+            program,
+            settings,
+            BreakpointKind::Source,
+            request,
+            out,
+        )
     } else {
         tell_nowhere(alloc, request, out)
     }
@@ -97,7 +106,7 @@ fn tell_nowhere(alloc: Global, request: &ClientRequest, out: &mut Outbox) -> Res
 }
 
 /// No breakpoint is placed yet after those that other requests set.
-fn placing_new(alloc: Global, placed: Vec<SetBy>, next: u64) -> Placing
+fn placing_new(alloc: Global, placed: Vec<PlacedBreakpoint>, next: u64) -> Placing
     ensures { placement_of result ≡ record { told = []; placed = placed.items; next = next } }
 {
     Placing {
@@ -113,12 +122,12 @@ fn placing_of(
     alloc: Global,
     program: &Debuggee,
     settings: &Configuration,
-    family: Family,
+    family: BreakpointKind,
     request: &ClientRequest,
 ) -> Result<Placing, AllocError>
-    ensures { IfOk result (λ placing. Places program.now family (member_values (codes "breakpoints") (view request.now.arguments)) (left_by family settings.now) (placement_of placing)) }
+    ensures { IfOk result (λ placing. Places program.now family (member_values (codes "breakpoints") (view request.now.arguments)) (without_family family settings.now) (placement_of placing)) }
 {
-    let placed = settings.points.left_by(alloc, family)?;
+    let placed = settings.points.without_family(alloc, family)?;
     let mut placing = placing_new(alloc, placed, settings.points.next_id);
     let asked = values_at(&request.arguments, "breakpoints");
     place_all(alloc, program, family, asked, &mut placing)?;
@@ -140,7 +149,7 @@ fn set_placing(
     let Placing { told, placed, next } = placing;
     let body = breakpoints_body(alloc, told)?;
     out.respond(request, body)?;
-    settings.points = Points {
+    settings.points = BreakpointSet {
         points,
         placed,
         next_id: next,
@@ -150,11 +159,11 @@ fn set_placing(
 
 /// The breakpoints that one request set are replaced by those that are asked for.
 #[tactic(auto, using(ga_dap_queries::proofs::Sent::ok_then))]
-pub fn set_points(
+pub fn replace_breakpoints(
     alloc: Global,
     program: &Debuggee,
     settings: &mut Configuration,
-    family: Family,
+    family: BreakpointKind,
     request: &ClientRequest,
     out: &mut Outbox,
 ) -> Result<(), AllocError>
@@ -235,7 +244,7 @@ fn set_filters_if(
 
 /// `setExceptionBreakpoints`.
 #[tactic(auto, using(ga_dap_queries::proofs::Sent::ok_then, crate::proofs::Placed::filters_so))]
-pub fn set_filters(
+pub fn set_exception_filters(
     settings: &mut Configuration,
     request: &ClientRequest,
     out: &mut Outbox,

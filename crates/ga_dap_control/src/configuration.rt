@@ -1,7 +1,7 @@
 //! What the client set: breakpoints, and which faults end a run.
 
 ghost use Rattle.std.specs.Prelude.{◌≡◌, map, IfOk};
-ghost use Rattle.ga_dap_control.specs.declared.configuration.SetBy.{SetBy as ASetBy};
+ghost use Rattle.ga_dap_control.specs.declared.configuration.PlacedBreakpoint.{PlacedBreakpoint as ASetBy};
 ghost use Rattle.ga_dap_control.specs.Breakpoints.{family_number, is_of_another};
 ghost use Rattle.ga_dap_control.specs.Stopping.{is_one_hit};
 
@@ -11,7 +11,7 @@ use std::alloc::{AllocError, Global};
 
 /// Which request set a breakpoint.
 #[derive(Clone, Copy, PartialEq, Eq, Debug)]
-pub enum Family {
+pub enum BreakpointKind {
     /// `setBreakpoints`.
     Source,
     /// `setFunctionBreakpoints`.
@@ -24,18 +24,18 @@ pub enum Family {
 
 /// A breakpoint, with the request that set it, and the number by which the client knows it.
 #[derive(Clone, Copy, PartialEq, Eq, Debug)]
-pub struct SetBy {
+pub struct PlacedBreakpoint {
     pub breakpoint: Breakpoint,
-    pub family: Family,
+    pub family: BreakpointKind,
     pub id: u64,
 }
 
 /// The breakpoints that are set.
 #[derive(Drop)]
-pub struct Points {
+pub struct BreakpointSet {
     pub points: Vec<Breakpoint>,
     /// The breakpoints that are set, with who set them.
-    pub placed: Vec<SetBy>,
+    pub placed: Vec<PlacedBreakpoint>,
     /// The number of the next breakpoint.
     pub next_id: u64,
 }
@@ -44,33 +44,36 @@ pub struct Points {
 #[derive(Drop)]
 pub struct Configuration {
     /// The breakpoints.
-    pub points: Points,
+    pub points: BreakpointSet,
     /// Filter `stop`: a node that stops ends a run.
     pub stops: bool,
     /// Filter `stuck`: a node that can never go on ends a run.
     pub stuck: bool,
 }
 
-fn family_number(family: Family) -> u8
+fn family_number(family: BreakpointKind) -> u8
     ensures { result ≡ family_number family }
 {
     match family {
-        Family::Source => 0,
-        Family::Function => 1,
-        Family::Instruction => 2,
-        Family::Data => 3,
+        BreakpointKind::Source => 0,
+        BreakpointKind::Function => 1,
+        BreakpointKind::Instruction => 2,
+        BreakpointKind::Data => 3,
     }
 }
 
 /// Whether another request set a breakpoint.
-fn is_of_another(family: Family, one: SetBy) -> bool
+fn is_of_another(family: BreakpointKind, one: PlacedBreakpoint) -> bool
     ensures { result ≡ is_of_another family one }
 {
     family_number(one.family) != family_number(family)
 }
 
 /// The breakpoints of a list, without who set them.
-pub(crate) fn breakpoints_of(alloc: Global, placed: &[SetBy]) -> Result<Vec<Breakpoint>, AllocError>
+pub(crate) fn breakpoints_of(
+    alloc: Global,
+    placed: &[PlacedBreakpoint],
+) -> Result<Vec<Breakpoint>, AllocError>
     ensures { IfOk result (λ list. list.items ≡ map (λ (one : ASetBy). one.breakpoint) placed.now) }
 {
     let mut list = Vec::new(alloc);
@@ -82,14 +85,14 @@ pub(crate) fn breakpoints_of(alloc: Global, placed: &[SetBy]) -> Result<Vec<Brea
 
 /// Whether this event, the newest, hit a breakpoint and satisfied its hit condition.
 #[tactic(auto, unfolding(crate::specs::Stopping::is_one_hit))]
-fn is_one_hit(lab: &Lab, made: &Made, one: SetBy) -> bool
+fn is_one_hit(lab: &Lab, made: &Made, one: PlacedBreakpoint) -> bool
     ensures { result ≡ is_one_hit made.now lab.now one }
 {
     has_been_hit(lab, made, &one.breakpoint)
 }
 
 /// The numbers of some breakpoints.
-fn ids_of(alloc: Global, placed: &[SetBy]) -> Result<Vec<u64>, AllocError>
+fn ids_of(alloc: Global, placed: &[PlacedBreakpoint]) -> Result<Vec<u64>, AllocError>
     ensures { IfOk result (λ list. list.items ≡ map (λ (one : ASetBy). one.id) placed.now) }
 {
     let mut list = Vec::new(alloc);
@@ -99,7 +102,7 @@ fn ids_of(alloc: Global, placed: &[SetBy]) -> Result<Vec<u64>, AllocError>
     Ok(list)
 }
 
-impl Points {
+impl BreakpointSet {
     ghost use Rattle.std.specs.Prelude.{◌≡◌, [], filter, IfOk};
     ghost use Rattle.std.specs.List.{slice_get};
     ghost use Rattle.ga_dap_control.specs.Breakpoints.{is_of_another};
@@ -111,7 +114,7 @@ impl Points {
         ensures placed { result.placed.items ≡ [] }
         ensures next { result.next_id ≡ 1 }
     {
-        Points {
+        BreakpointSet {
             points: Vec::new(alloc),
             placed: Vec::new(alloc),
             next_id: 1,
@@ -119,7 +122,11 @@ impl Points {
     }
 
     /// The breakpoints that other requests set.
-    pub fn left_by(&self, alloc: Global, family: Family) -> Result<Vec<SetBy>, AllocError>
+    pub fn without_family(
+        &self,
+        alloc: Global,
+        family: BreakpointKind,
+    ) -> Result<Vec<PlacedBreakpoint>, AllocError>
         ensures { IfOk result (λ list. list.items ≡ filter (is_of_another family) self.now.placed.items) }
     {
         let mut list = Vec::new(alloc);
@@ -132,7 +139,12 @@ impl Points {
     }
 
     /// The breakpoints that what was made, the newest event, hit as they are asked for.
-    fn hits(&self, alloc: Global, lab: &Lab, made: &Made) -> Result<Vec<SetBy>, AllocError>
+    fn hits(
+        &self,
+        alloc: Global,
+        lab: &Lab,
+        made: &Made,
+    ) -> Result<Vec<PlacedBreakpoint>, AllocError>
         ensures { IfOk result (λ list. list.items ≡ filter (is_one_hit made.now lab.now) self.now.placed.items) }
     {
         let mut list = Vec::new(alloc);
@@ -153,7 +165,7 @@ impl Points {
     }
 
     /// The breakpoint at a place.
-    pub fn point_at(&self, place: usize) -> Option<Breakpoint>
+    pub fn breakpoint_at(&self, place: usize) -> Option<Breakpoint>
         ensures { result ≡ slice_get self.now.points.items place }
     {
         match self.points.get(place) {
@@ -175,7 +187,7 @@ impl Configuration {
         ensures stuck { result.stuck ≡ true }
     {
         Configuration {
-            points: Points::none(alloc),
+            points: BreakpointSet::none(alloc),
             stops: true,
             stuck: true,
         }

@@ -8,7 +8,7 @@ ghost use Rattle.ga_dap_control.specs.Configuring.{AreShown, threads_told, Begin
 
 use crate::execution::{Execution, Goal};
 use ga_dap_protocol::{ClientRequest, Outbox};
-use ga_dap_queries::{Debuggee, first_shown, shown_nodes, tell_changed, tell_stopped};
+use ga_dap_queries::{Debuggee, emit_stopped, emit_thread_changes, first_shown, shown_nodes};
 use ga_grid::NodeId;
 use std::alloc::{AllocError, Global};
 
@@ -70,7 +70,7 @@ fn tell_threads_started(
     ensures { OnOk result (SendsAll out.old (threads_told request.now (is_marked now.now)) out.new) }
 {
     out.acknowledge(request)?;
-    tell_changed(alloc, &[false; 144], now, out)
+    emit_thread_changes(alloc, &[false; 144], now, out)
 }
 
 /// `configurationDone` for the first time: sends the threads; the chip is then stopped at load or runs.
@@ -103,7 +103,7 @@ fn begin_so(
 {
     if stops {
         let first = first_of(program);
-        tell_stopped(alloc, "entry", "at load", first, out)?;
+        emit_stopped(alloc, "entry", "at load", first, out)?;
         execution.is_configured = true;
         Ok(())
     } else {

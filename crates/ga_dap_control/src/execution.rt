@@ -3,7 +3,7 @@
 ghost use Rattle.std.specs.Prelude.{◌≡◌, ◌≤◌, Option, Some, None};
 ghost use Rattle.ga_scheduler.specs.Running.{running};
 ghost use Rattle.ga_scheduler.specs.Watched.{after_first};
-ghost use Rattle.ga_dap_breakpoints.specs.Going.{HasGone, tally_on, stepping_on};
+ghost use Rattle.ga_dap_breakpoints.specs.Going.{IsMoveResult, tally_on, stepping_on};
 ghost use Rattle.ga_dap_breakpoints.specs.Stepping.{stepped_on};
 ghost use Rattle.ga_lab.specs.Machine.{chip_of};
 ghost use Rattle.ga_grid.specs.declared.node_id.NodeId.{NodeId as ANode};
@@ -12,14 +12,15 @@ ghost use Rattle.ga_dap_control.specs.Slices.{slice_limit, tally_begun, GoesOn, 
 
 use crate::configuration::Configuration;
 use ga_dap_breakpoints::{
-    Breakpoint, Halt, HitTally, Stepping, Watched, Went, go_on, kept_hits, step_on,
+    Breakpoint, Halt, HitTally, MoveResult, StepMove, Watched, continue_run, continue_step,
+    kept_hits,
 };
 use ga_dap_queries::Debuggee;
 use ga_dap_views::has_thread;
-use ga_debug_info::Notes;
+use ga_debug_info::DebugInfo;
 use ga_grid::NodeId;
 use ga_lab::{Lab, LabFault, Made};
-use ga_races::find_stuck;
+use ga_races::find_deadlocked;
 use ga_scheduler::Schedule;
 
 /// How many events are made before the client is listened to again.
@@ -31,7 +32,7 @@ pub enum Goal {
     /// `continue`.
     Continue,
     /// `next`, `stepIn`, `stepOut`.
-    Step(Stepping),
+    Step(StepMove),
 }
 
 /// The next schedule, and the run in progress.
@@ -103,7 +104,7 @@ fn hit_of(point: Option<Breakpoint>, made: Made) -> StopReason
 fn hit_at(settings: &Configuration, made: Made, place: usize) -> StopReason
     ensures { result ≡ hit_at settings.now made place }
 {
-    hit_of(settings.points.point_at(place), made)
+    hit_of(settings.points.breakpoint_at(place), made)
 }
 
 /// Whether a node that has something to show, and isn't stopped, can never go on and is not among those known.
@@ -145,12 +146,16 @@ fn tally_begun(lab: &Lab, settings: &Configuration, tally: Option<HitTally>) -> 
 }
 
 /// Makes a slice of the events of `continue`.
-fn go_on_slice(program: &mut Debuggee, settings: &Configuration, execution: &mut Execution) -> Went
+fn go_on_slice(
+    program: &mut Debuggee,
+    settings: &Configuration,
+    execution: &mut Execution,
+) -> MoveResult
     ensures { GoesOn program.old settings.now execution.old program.new execution.new result }
 {
     let tally = tally_begun(&program.lab, settings, execution.tally);
     let halts = settings.halts(tally);
-    let went = go_on(&mut program.lab, execution.schedule, halts, SLICE);
+    let went = continue_run(&mut program.lab, execution.schedule, halts, SLICE);
     execution.schedule = went.schedule;
     execution.tally = Some(went.tally);
     went
@@ -159,21 +164,21 @@ fn go_on_slice(program: &mut Debuggee, settings: &Configuration, execution: &mut
 /// Makes a slice of the events of a step of one node, by what the source says.
 fn step_by(
     lab: &mut Lab,
-    notes: &Notes,
+    notes: &DebugInfo,
     settings: &Configuration,
     execution: &mut Execution,
-    stepping: Stepping,
-) -> Went
+    stepping: StepMove,
+) -> MoveResult
     ensures state { running lab.new result.schedule ≡ after_first (Some stepping.node) (running lab.old execution.old.schedule) result.events }
     ensures most { result.events ≤ slice_limit }
     ensures hits { result.tally ≡ tally_on (Some stepping.node) settings.now.points.points.items (tally_begun lab.old settings.now execution.old.tally) (running lab.old execution.old.schedule) result.events }
-    ensures end { HasGone (stepping_on notes.now settings.now.points.points.items (tally_begun lab.old settings.now execution.old.tally) settings.now.stops stepping (running lab.old execution.old.schedule)) (running lab.old execution.old.schedule) slice_limit result.events result.halt }
+    ensures end { IsMoveResult (stepping_on notes.now settings.now.points.points.items (tally_begun lab.old settings.now execution.old.tally) settings.now.stops stepping (running lab.old execution.old.schedule)) (running lab.old execution.old.schedule) slice_limit result.events result.halt }
     ensures next { execution.new ≡ record execution.old { schedule = result.schedule; tally = Some result.tally; goal = Some (Goal.Step (stepped_on stepping (running lab.old execution.old.schedule) result.events)) } }
 {
     let mut by = stepping;
     let tally = tally_begun(lab, settings, execution.tally);
     let halts = settings.halts(tally);
-    let went = step_on(lab, execution.schedule, &mut by, notes, halts, SLICE);
+    let went = continue_step(lab, execution.schedule, &mut by, notes, halts, SLICE);
     execution.schedule = went.schedule;
     execution.tally = Some(went.tally);
     execution.goal = Some(Goal::Step(by));
@@ -185,8 +190,8 @@ fn step_slice(
     program: &mut Debuggee,
     settings: &Configuration,
     execution: &mut Execution,
-    stepping: Stepping,
-) -> Went
+    stepping: StepMove,
+) -> MoveResult
     ensures { StepsOn stepping program.old settings.now execution.old program.new execution.new result }
 {
     match &program.source {
@@ -207,7 +212,7 @@ fn advance(
     settings: &Configuration,
     execution: &mut Execution,
     goal: Goal,
-) -> Went
+) -> MoveResult
     ensures { Advances goal program.old settings.now execution.old program.new execution.new result }
 {
     match goal {
@@ -261,7 +266,7 @@ fn stop_by(
 fn stuck_of(program: &Debuggee) -> [bool; 144]
     ensures { MarksStuck (chip_of program.now.lab) (is_marked result) }
 {
-    find_stuck(program.lab.chip())
+    find_deadlocked(program.lab.chip())
 }
 
 /// Makes a slice of the events of the run under way, and says why it ended, where it did.

@@ -3,33 +3,33 @@
 ghost use Rattle.std.specs.Prelude.{◌≡◌, ◌<◌, length, position, codes, option_map, option_and_then, Some, IfSome};
 ghost use Rattle.serde_json.specs.View.{view};
 ghost use Rattle.ga_dap_protocol.specs.Messages.{member_text};
-ghost use Rattle.ga_dap_queries.specs.Disassembling.{offset_given, cells_on};
-ghost use Rattle.ga_dap_breakpoints.specs.Saying.{condition_said, hits_said};
-ghost use Rattle.ga_dap_control.specs.Placing.{line_asked, found_on_line, is_label, at_any_label, at_label_of, names_node, node_named_before, at_label, at_cell_on, on_writes, on_no_line, is_no_text, can_be, on_condition, with_condition, on_hits, with_hits, asked_there, asked_at, unfound_words, unplaced_words, IsReferredBy, IsPlaceOf};
+ghost use Rattle.ga_dap_queries.specs.Disassembling.{offset_given, addresses_after};
+ghost use Rattle.ga_dap_breakpoints.specs.Saying.{parse_condition, parse_hit_condition};
+ghost use Rattle.ga_dap_control.specs.Placing.{line_asked, found_on_line, is_label, at_any_label, at_label_of, names_node, node_named_before, at_label, at_cell_on, on_writes, on_no_line, is_no_text, can_be, on_condition, with_condition, on_hits, with_hits, asked_there, requested_breakpoint, unfound_words, unplaced_words, IsReferredBy, IsPlaceOf};
 
-use crate::configuration::Family;
+use crate::configuration::BreakpointKind;
 use ga_dap_breakpoints::{
-    Breakpoint, COUNTED, ValueTest, Watched, breakpoint_of_address, breakpoint_of_line,
-    condition_said, hits_said,
+    Breakpoint, MAX_COUNTED, ValueTest, Watched, breakpoint_of_address, breakpoint_of_line,
+    parse_condition, parse_hit_condition,
 };
 use ga_dap_protocol::{number_at, text_at};
-use ga_dap_queries::{Debuggee, cell_referred, cells_on, offset_at};
+use ga_dap_queries::{Debuggee, addresses_after, offset_at, resolve_memory_reference};
 use ga_dap_views::Variable;
-use ga_debug_info::{Name, Notes};
+use ga_debug_info::{DebugInfo, LabelAddress};
 use ga_grid::NodeId;
-use ga_text::node_in;
+use ga_text::parse_node;
 use serde_json::Value;
 
 /// The place of a breakpoint, and its line in the source, if it is on one.
 #[derive(Clone, Copy, PartialEq, Eq, Debug)]
-pub struct FoundPlace {
+pub struct BreakpointLocation {
     pub breakpoint: Breakpoint,
     pub line: Option<u32>,
 }
 
 /// Why a requested breakpoint is not set.
 #[derive(Clone, Copy, PartialEq, Eq, Debug)]
-pub enum Unplaced {
+pub enum PlacementError {
     /// There is no such place.
     Nowhere,
     /// The breakpoint's condition can't be read.
@@ -43,40 +43,44 @@ pub enum Unplaced {
 }
 
 /// The place of a requested breakpoint; none if there is no such place.
-pub fn found(program: &Debuggee, family: Family, asked: &Value) -> Option<FoundPlace>
+pub fn resolve_breakpoint(
+    program: &Debuggee,
+    family: BreakpointKind,
+    asked: &Value,
+) -> Option<BreakpointLocation>
     ensures { IsPlaceOf program.now family (view asked.now) result }
 {
     match family {
-        Family::Source => found_on_line(program.notes(), asked),
-        Family::Function => found_at_label(program.notes(), asked),
-        Family::Instruction => found_at_address(program, asked),
-        Family::Data => found_cell(program, asked),
+        BreakpointKind::Source => found_on_line(program.notes(), asked),
+        BreakpointKind::Function => found_at_label(program.notes(), asked),
+        BreakpointKind::Instruction => found_at_address(program, asked),
+        BreakpointKind::Data => found_cell(program, asked),
     }
 }
 
 /// Why there is no such place as the request names.
-fn unfound(family: Family) -> &'static str
+fn unfound(family: BreakpointKind) -> &'static str
     ensures { result.now ≡ unfound_words family }
 {
     match family {
-        Family::Source => "no code stands on this line or behind it",
-        Family::Function => "no node has this label",
-        Family::Instruction => "no such memory",
-        Family::Data => "no such cell of RAM",
+        BreakpointKind::Source => "no code stands on this line or behind it",
+        BreakpointKind::Function => "no node has this label",
+        BreakpointKind::Instruction => "no such memory",
+        BreakpointKind::Data => "no such cell of RAM",
     }
 }
 
 /// Why a breakpoint is not set.
-pub fn unplaced_reason(family: Family, why: Unplaced) -> &'static str
+pub fn placement_error_text(family: BreakpointKind, why: PlacementError) -> &'static str
     ensures { result.now ≡ unplaced_words family why }
 {
     match why {
-        Unplaced::Nowhere => unfound(family),
-        Unplaced::Condition =>
+        PlacementError::Nowhere => unfound(family),
+        PlacementError::Condition =>
             "condition: a register or [HH], then = != < <= > or >=, then a number",
-        Unplaced::Range => "condition: the number is past 0x3ffff, the last word",
-        Unplaced::Hits => "hitCondition: N, >= N or % N, from 1 on",
-        Unplaced::Uncounted => "hitCondition: hits are counted of 64 breakpoints at most",
+        PlacementError::Range => "condition: the number is past 0x3ffff, the last word",
+        PlacementError::Hits => "hitCondition: N, >= N or % N, from 1 on",
+        PlacementError::Uncounted => "hitCondition: hits are counted of 64 breakpoints at most",
     }
 }
 
@@ -98,10 +102,10 @@ fn can_be(test: &ValueTest) -> bool
 }
 
 /// A breakpoint at a place, with this condition.
-fn with_test(place: FoundPlace, test: ValueTest) -> FoundPlace
+fn with_test(place: BreakpointLocation, test: ValueTest) -> BreakpointLocation
     ensures { result ≡ record place { breakpoint = record place.breakpoint { condition = Some test } } }
 {
-    FoundPlace {
+    BreakpointLocation {
         breakpoint: Breakpoint {
             condition: Some(test),
             ..place.breakpoint
@@ -111,27 +115,33 @@ fn with_test(place: FoundPlace, test: ValueTest) -> FoundPlace
 }
 
 /// A breakpoint at a place, with the condition that a text says.
-fn on_condition(place: FoundPlace, text: &[u8]) -> Result<FoundPlace, Unplaced>
-    ensures { result ≡ on_condition place (condition_said text.now) }
+fn on_condition(
+    place: BreakpointLocation,
+    text: &[u8],
+) -> Result<BreakpointLocation, PlacementError>
+    ensures { result ≡ on_condition place (parse_condition text.now) }
 {
-    match condition_said(text) {
+    match parse_condition(text) {
         Some(test) => {
             if can_be(&test) {
                 Ok(with_test(place, test))
             } else {
-                Err(Unplaced::Range)
+                Err(PlacementError::Range)
             }
         }
-        None => Err(Unplaced::Condition),
+        None => Err(PlacementError::Condition),
     }
 }
 
 /// A breakpoint at a place, with the requested condition, if there is one.
-fn with_condition(place: FoundPlace, asked: &Value) -> Result<FoundPlace, Unplaced>
+fn with_condition(
+    place: BreakpointLocation,
+    asked: &Value,
+) -> Result<BreakpointLocation, PlacementError>
     ensures { result ≡ with_condition place (is_no_text (codes "condition") (view asked.now)) (member_text (codes "condition") (view asked.now)) }
 {
     if is_no_text(asked, "condition") {
-        return Err(Unplaced::Condition);
+        return Err(PlacementError::Condition);
     }
     match text_at(asked, "condition") {
         Some(text) => on_condition(place, text.as_bytes()),
@@ -140,13 +150,17 @@ fn with_condition(place: FoundPlace, asked: &Value) -> Result<FoundPlace, Unplac
 }
 
 /// A breakpoint at a place, with the hit condition of a text, given the number of breakpoints before it.
-fn on_hits(place: FoundPlace, before: usize, text: &[u8]) -> Result<FoundPlace, Unplaced>
-    ensures { result ≡ on_hits place before (hits_said text.now) }
+fn on_hits(
+    place: BreakpointLocation,
+    before: usize,
+    text: &[u8],
+) -> Result<BreakpointLocation, PlacementError>
+    ensures { result ≡ on_hits place before (parse_hit_condition text.now) }
 {
-    match hits_said(text) {
+    match parse_hit_condition(text) {
         Some(hits) => {
-            if before < COUNTED {
-                Ok(FoundPlace {
+            if before < MAX_COUNTED {
+                Ok(BreakpointLocation {
                     breakpoint: Breakpoint {
                         hits: Some(hits),
                         ..place.breakpoint
@@ -154,19 +168,23 @@ fn on_hits(place: FoundPlace, before: usize, text: &[u8]) -> Result<FoundPlace, 
                     ..place
                 })
             } else {
-                Err(Unplaced::Uncounted)
+                Err(PlacementError::Uncounted)
             }
         }
-        None => Err(Unplaced::Hits),
+        None => Err(PlacementError::Hits),
     }
 }
 
 /// A breakpoint at a place, with the hits that are asked for, where any are.
-fn with_hits(place: FoundPlace, before: usize, asked: &Value) -> Result<FoundPlace, Unplaced>
+fn with_hits(
+    place: BreakpointLocation,
+    before: usize,
+    asked: &Value,
+) -> Result<BreakpointLocation, PlacementError>
     ensures { result ≡ with_hits place before (is_no_text (codes "hitCondition") (view asked.now)) (member_text (codes "hitCondition") (view asked.now)) }
 {
     if is_no_text(asked, "hitCondition") {
-        return Err(Unplaced::Hits);
+        return Err(PlacementError::Hits);
     }
     match text_at(asked, "hitCondition") {
         Some(text) => on_hits(place, before, text.as_bytes()),
@@ -175,7 +193,11 @@ fn with_hits(place: FoundPlace, before: usize, asked: &Value) -> Result<FoundPla
 }
 
 /// The requested breakpoint at a place, if its condition and its hit condition can be parsed.
-fn asked_there(place: FoundPlace, before: usize, asked: &Value) -> Result<FoundPlace, Unplaced>
+fn asked_there(
+    place: BreakpointLocation,
+    before: usize,
+    asked: &Value,
+) -> Result<BreakpointLocation, PlacementError>
     ensures { result ≡ asked_there place before (view asked.now) }
 {
     match with_condition(place, asked) {
@@ -185,16 +207,16 @@ fn asked_there(place: FoundPlace, before: usize, asked: &Value) -> Result<FoundP
 }
 
 /// The requested breakpoint, given the number of breakpoints before it; else why it is not set.
-pub fn asked_at(
-    found: Option<FoundPlace>,
+pub fn requested_breakpoint(
+    found: Option<BreakpointLocation>,
     before: usize,
     asked: &Value,
-) -> Result<FoundPlace, Unplaced>
-    ensures { result ≡ asked_at found before (view asked.now) }
+) -> Result<BreakpointLocation, PlacementError>
+    ensures { result ≡ requested_breakpoint found before (view asked.now) }
 {
     match found {
         Some(place) => asked_there(place, before, asked),
-        None => Err(Unplaced::Nowhere),
+        None => Err(PlacementError::Nowhere),
     }
 }
 
@@ -205,22 +227,22 @@ fn line_asked(asked: &Value) -> Option<u32>
     u32::try_from(line).ok()
 }
 
-fn found_on_line(notes: &Notes, asked: &Value) -> Option<FoundPlace>
+fn found_on_line(notes: &DebugInfo, asked: &Value) -> Option<BreakpointLocation>
     ensures { result ≡ found_on_line notes.now (view asked.now) }
 {
     let found = breakpoint_of_line(notes, line_asked(asked)?)?;
-    Some(FoundPlace {
+    Some(BreakpointLocation {
         breakpoint: found.breakpoint,
         line: Some(found.line),
     })
 }
 
 /// The place of a breakpoint that is on no line.
-fn on_no_line(point: Option<Breakpoint>) -> Option<FoundPlace>
+fn on_no_line(point: Option<Breakpoint>) -> Option<BreakpointLocation>
     ensures { result ≡ option_map on_no_line point }
 {
     match point {
-        Some(breakpoint) => Some(FoundPlace {
+        Some(breakpoint) => Some(BreakpointLocation {
             breakpoint,
             line: None,
         }),
@@ -228,21 +250,21 @@ fn on_no_line(point: Option<Breakpoint>) -> Option<FoundPlace>
     }
 }
 
-fn is_label(name: &Name, label: &[u8]) -> bool
+fn is_label(name: &LabelAddress, label: &[u8]) -> bool
     ensures { result ≡ is_label label.now name.now }
 {
     name.text.as_slice() == label
 }
 
 /// The place in the list of the first node's label of this name.
-fn label_place(names: &[Name], label: &[u8]) -> Option<usize>
+fn label_place(names: &[LabelAddress], label: &[u8]) -> Option<usize>
     ensures { result ≡ position (is_label label.now) names.now }
 {
     names.iter().position(|name| is_label(name, label))
 }
 
 /// A breakpoint at the label of the first node that has it.
-fn at_any_label(names: &[Name], label: &[u8]) -> Option<Breakpoint>
+fn at_any_label(names: &[LabelAddress], label: &[u8]) -> Option<Breakpoint>
     ensures { result ≡ at_any_label names.now label.now }
 {
     let place = label_place(names, label)?;
@@ -253,7 +275,7 @@ fn at_any_label(names: &[Name], label: &[u8]) -> Option<Breakpoint>
 }
 
 /// A breakpoint at the label of a node.
-fn at_label_of(notes: &Notes, node: NodeId, label: &[u8]) -> Option<Breakpoint>
+fn at_label_of(notes: &DebugInfo, node: NodeId, label: &[u8]) -> Option<Breakpoint>
     ensures { result ≡ at_label_of notes.now.names.items node label.now }
 {
     match notes.address_of(node, label) {
@@ -275,14 +297,14 @@ fn node_named_before(text: &[u8]) -> Option<NodeId>
     ensures within { IfSome result (λ node. 3 < length text.now) }
 {
     if names_node(text) {
-        node_in(&text[..3])
+        parse_node(&text[..3])
     } else {
         None
     }
 }
 
 /// A breakpoint at a label: `NNN LABEL`, `NNN:LABEL` or `LABEL`.
-fn at_label(notes: &Notes, text: &[u8]) -> Option<Breakpoint>
+fn at_label(notes: &DebugInfo, text: &[u8]) -> Option<Breakpoint>
     ensures { result ≡ at_label notes.now.names.items text.now }
 {
     match node_named_before(text) {
@@ -294,7 +316,7 @@ fn at_label(notes: &Notes, text: &[u8]) -> Option<Breakpoint>
     }
 }
 
-fn found_at_label(notes: &Notes, asked: &Value) -> Option<FoundPlace>
+fn found_at_label(notes: &DebugInfo, asked: &Value) -> Option<BreakpointLocation>
     ensures { result ≡ option_map on_no_line (option_and_then (at_label notes.now.names.items) (member_text (codes "name") (view asked.now))) }
 {
     match text_at(asked, "name") {
@@ -331,7 +353,7 @@ fn behind_text(text: &str, on: u32) -> Option<Breakpoint>
     requires { on < 4096 }
     ensures { IsReferredBy (at_cell_on on) (Some text.now) result }
 {
-    match cell_referred(text) {
+    match resolve_memory_reference(text) {
         Some(at) => at_cell_on(on, at),
         None => None,
     }
@@ -339,15 +361,15 @@ fn behind_text(text: &str, on: u32) -> Option<Breakpoint>
 
 /// How many addresses after the reference the requested breakpoint is.
 fn cells_given(asked: &Value) -> u32
-    ensures value { result ≡ cells_on (offset_given (codes "offset") (view asked.now)) }
+    ensures value { result ≡ addresses_after (offset_given (codes "offset") (view asked.now)) }
     ensures most { result < 4096 }
 {
-    cells_on(offset_at(asked, "offset"))
+    addresses_after(offset_at(asked, "offset"))
 }
 
 #[tactic(auto, using(crate::proofs::Referred::referred_so, crate::proofs::Referred::referred_on))]
-fn found_at_address(program: &Debuggee, asked: &Value) -> Option<FoundPlace>
-    ensures { IsPlaceOf program.now Family.Instruction (view asked.now) result }
+fn found_at_address(program: &Debuggee, asked: &Value) -> Option<BreakpointLocation>
+    ensures { IsPlaceOf program.now BreakpointKind.Instruction (view asked.now) result }
 {
     let on = cells_given(asked);
     on_no_line(behind_reference(text_at(asked, "instructionReference"), on))
@@ -382,15 +404,15 @@ fn writes_referred(reference: Option<&str>) -> Option<Breakpoint>
 fn writes_text(text: &str) -> Option<Breakpoint>
     ensures { IsReferredBy on_writes (Some text.now) result }
 {
-    match cell_referred(text) {
+    match resolve_memory_reference(text) {
         Some(at) => on_writes(at),
         None => None,
     }
 }
 
 #[tactic(auto, using(crate::proofs::Referred::referred_so))]
-fn found_cell(program: &Debuggee, asked: &Value) -> Option<FoundPlace>
-    ensures { IsPlaceOf program.now Family.Data (view asked.now) result }
+fn found_cell(program: &Debuggee, asked: &Value) -> Option<BreakpointLocation>
+    ensures { IsPlaceOf program.now BreakpointKind.Data (view asked.now) result }
 {
     on_no_line(writes_referred(text_at(asked, "dataId")))
 }

@@ -2,18 +2,18 @@
 
 ghost use Rattle.std.specs.Prelude.{◌≡◌, codes, OnOk, OnErr};
 ghost use Rattle.ga_dap_control.specs.Breakpoints.{SetsFilters, SetsLines, SetsPoints};
-ghost use Rattle.ga_dap_control.specs.Requests.{Sets, DoesInPlace};
+ghost use Rattle.ga_dap_control.specs.Requests.{Sets, AnswersAtOnce};
 ghost use Rattle.ga_dap_queries.specs.Sending.{Sends, SendsAll, Messages, refused_response};
 
-use crate::breakpoints::{set_filters, set_lines, set_points};
-use crate::configuration::{Configuration, Family};
+use crate::breakpoints::{replace_breakpoints, set_exception_filters, set_line_breakpoints};
+use crate::configuration::{BreakpointKind, Configuration};
 use crate::configuring::configure;
 use crate::execution::Execution;
-use crate::moving::{StepKind, begin_continue, begin_step, pause};
+use crate::moving::{DapStepKind, begin_continue, begin_step, pause};
 use ga_dap_protocol::{ClientRequest, Outbox};
 use ga_dap_queries::{
-    Debuggee, RequestName, tell_data_info, tell_exception, tell_instructions, tell_scopes,
-    tell_stack, tell_threads, tell_variables,
+    Debuggee, RequestName, respond_scopes, respond_stack_trace, respond_threads, respond_variables,
+    tell_data_info, tell_exception, tell_instructions,
 };
 use std::alloc::{AllocError, Global};
 
@@ -37,7 +37,7 @@ fn set_lines_of(
     ensures kept { OnErr result (launched.new ≡ launched.old) }
 {
     let settings = &mut launched.settings;
-    set_lines(alloc, &launched.program, settings, request, out)?;
+    set_line_breakpoints(alloc, &launched.program, settings, request, out)?;
     launched.execution.tally = None;
     Ok(())
 }
@@ -46,7 +46,7 @@ fn set_lines_of(
 fn set_points_of(
     alloc: Global,
     launched: &mut Launched,
-    family: Family,
+    family: BreakpointKind,
     request: &ClientRequest,
     out: &mut Outbox,
 ) -> Result<(), AllocError>
@@ -54,7 +54,7 @@ fn set_points_of(
     ensures kept { OnErr result (launched.new ≡ launched.old) }
 {
     let settings = &mut launched.settings;
-    set_points(alloc, &launched.program, settings, family, request, out)?;
+    replace_breakpoints(alloc, &launched.program, settings, family, request, out)?;
     launched.execution.tally = None;
     Ok(())
 }
@@ -69,32 +69,32 @@ fn set_filters_of(
     ensures sent { OnOk result ((messages : Messages) × Sets (SetsFilters launched.old.settings request.now) launched.old messages launched.new × SendsAll out.old messages out.new) }
     ensures kept { OnErr result (launched.new ≡ launched.old) }
 {
-    set_filters(&mut launched.settings, request, out)?;
+    set_exception_filters(&mut launched.settings, request, out)?;
     launched.execution.tally = None;
     Ok(())
 }
 
 /// Answers a request that makes no event and takes none back.
-pub fn answer_in_place(
+pub fn answer_at_once(
     alloc: Global,
     launched: &mut Launched,
     command: RequestName,
     request: &ClientRequest,
     out: &mut Outbox,
 ) -> Result<(), AllocError>
-    ensures sent { OnOk result ((messages : Messages) × DoesInPlace command launched.old request.now messages launched.new × SendsAll out.old messages out.new) }
+    ensures sent { OnOk result ((messages : Messages) × AnswersAtOnce command launched.old request.now messages launched.new × SendsAll out.old messages out.new) }
     ensures kept { OnErr result (launched.new ≡ launched.old) }
 {
     match command {
         RequestName::SetBreakpoints => set_lines_of(alloc, launched, request, out),
         RequestName::SetFunctionBreakpoints => {
-            set_points_of(alloc, launched, Family::Function, request, out)
+            set_points_of(alloc, launched, BreakpointKind::Function, request, out)
         }
         RequestName::SetInstructionBreakpoints => {
-            set_points_of(alloc, launched, Family::Instruction, request, out)
+            set_points_of(alloc, launched, BreakpointKind::Instruction, request, out)
         }
         RequestName::SetDataBreakpoints => {
-            set_points_of(alloc, launched, Family::Data, request, out)
+            set_points_of(alloc, launched, BreakpointKind::Data, request, out)
         }
         RequestName::DataBreakpointInfo => tell_data_info(alloc, request, out),
         RequestName::SetExceptionBreakpoints => set_filters_of(launched, request, out),
@@ -105,10 +105,10 @@ pub fn answer_in_place(
             request,
             out,
         ),
-        RequestName::Threads => tell_threads(alloc, &launched.program, request, out),
-        RequestName::StackTrace => tell_stack(alloc, &launched.program, request, out),
-        RequestName::Scopes => tell_scopes(alloc, request, out),
-        RequestName::Variables => tell_variables(alloc, &launched.program, request, out),
+        RequestName::Threads => respond_threads(alloc, &launched.program, request, out),
+        RequestName::StackTrace => respond_stack_trace(alloc, &launched.program, request, out),
+        RequestName::Scopes => respond_scopes(alloc, request, out),
+        RequestName::Variables => respond_variables(alloc, &launched.program, request, out),
         RequestName::ExceptionInfo => tell_exception(alloc, &launched.program, request, out),
         RequestName::Disassemble => tell_instructions(alloc, &launched.program, request, out),
         RequestName::Continue => begin_continue(alloc, &mut launched.execution, request, out),
@@ -116,21 +116,21 @@ pub fn answer_in_place(
             &launched.program,
             &mut launched.execution,
             request,
-            StepKind::Over,
+            DapStepKind::Over,
             out,
         ),
         RequestName::StepIn => begin_step(
             &launched.program,
             &mut launched.execution,
             request,
-            StepKind::In,
+            DapStepKind::In,
             out,
         ),
         RequestName::StepOut => begin_step(
             &launched.program,
             &mut launched.execution,
             request,
-            StepKind::Out,
+            DapStepKind::Out,
             out,
         ),
         RequestName::Pause => pause(

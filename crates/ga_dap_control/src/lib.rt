@@ -12,8 +12,8 @@ mod moving;
 mod placing;
 mod stops;
 
-pub use back::{Gone, gone_text, reverse_node, step_node_back};
-pub use configuration::{Configuration, Family, Points, SetBy};
+pub use back::{RollbackSummary, reverse_continue_node, rollback_summary_text, step_back_node};
+pub use configuration::{BreakpointKind, BreakpointSet, Configuration, PlacedBreakpoint};
 pub use execution::{Execution, Goal, StopReason, make_slice};
-pub use launched::{Launched, answer_in_place};
-pub use stops::tell_stop;
+pub use launched::{Launched, answer_at_once};
+pub use stops::emit_run_end;

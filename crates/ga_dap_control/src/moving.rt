@@ -6,15 +6,15 @@ ghost use Rattle.ga_grid.specs.Chip.{record_at};
 ghost use Rattle.ga_grid.specs.declared.node_id.NodeId.{NodeId as ANode};
 ghost use Rattle.ga_lab.specs.Machine.{chip_of};
 ghost use Rattle.ga_dap_queries.specs.Arguments.{AsksOfThread};
-ghost use Rattle.ga_dap_control.specs.Back.{grain_asked};
+ghost use Rattle.ga_dap_control.specs.Back.{requested_granularity};
 ghost use Rattle.ga_dap_queries.specs.Sending.{Sends, SendsAll, Message, Messages, acknowledged};
-ghost use Rattle.ga_dap_control.specs.Moving.{continued, begun, no_thread_words, node_stopped_words, stepping_of, BeginsStep, BeginsStepBy, BeginsStepping, PausesRun, PausesAt, Pauses, Continues};
+ghost use Rattle.ga_dap_control.specs.Moving.{continued, run_started, no_thread_words, node_stopped_words, stepping_of, BeginsStep, BeginsStepBy, BeginsStepping, PausesRun, PausesAt, Pauses, Continues};
 
 use crate::configuring::first_of;
 use crate::execution::{Execution, Goal};
-use ga_dap_breakpoints::{Grain, Stepping};
+use ga_dap_breakpoints::{Granularity, StepMove};
 use ga_dap_protocol::{ClientRequest, Outbox, text_at};
-use ga_dap_queries::{Debuggee, node_asked, tell_stopped};
+use ga_dap_queries::{Debuggee, emit_stopped, thread_argument};
 use ga_grid::NodeId;
 use ga_lab::Lab;
 use serde_json::{Value, json};
@@ -46,19 +46,19 @@ pub fn begin_continue(
 }
 
 /// The granularity of one step: lines if the source has them.
-pub fn grain_asked(program: &Debuggee, arguments: &Value) -> Grain
-    ensures { result ≡ grain_asked program.now (view arguments.now) }
+pub fn requested_granularity(program: &Debuggee, arguments: &Value) -> Granularity
+    ensures { result ≡ requested_granularity program.now (view arguments.now) }
 {
     if program.source.is_none() {
-        return Grain::Instruction;
+        return Granularity::Instruction;
     }
     match text_at(arguments, "granularity") {
-        None => Grain::Line,
+        None => Granularity::Line,
         Some(name) => {
             if name == "instruction" {
-                Grain::Instruction
+                Granularity::Instruction
             } else {
-                Grain::Line
+                Granularity::Line
             }
         }
     }
@@ -66,7 +66,7 @@ pub fn grain_asked(program: &Debuggee, arguments: &Value) -> Grain
 
 /// A request that moves one node.
 #[derive(Clone, Copy, PartialEq, Eq, Debug)]
-pub enum StepKind {
+pub enum DapStepKind {
     /// `next`: over the calls that it makes.
     Over,
     /// `stepIn`.
@@ -76,44 +76,48 @@ pub enum StepKind {
 }
 
 /// The message if the request names no such thread.
-fn no_thread(kind: StepKind) -> &'static str
+fn no_thread(kind: DapStepKind) -> &'static str
     ensures { result.now ≡ no_thread_words kind }
 {
     match kind {
-        StepKind::Over => "next: no such thread",
-        StepKind::In => "stepIn: no such thread",
-        StepKind::Out => "stepOut: no such thread",
+        DapStepKind::Over => "next: no such thread",
+        DapStepKind::In => "stepIn: no such thread",
+        DapStepKind::Out => "stepOut: no such thread",
     }
 }
 
 /// The message if the node is stopped.
-fn node_stopped(kind: StepKind) -> &'static str
+fn node_stopped(kind: DapStepKind) -> &'static str
     ensures { result.now ≡ node_stopped_words kind }
 {
     match kind {
-        StepKind::Over => "next: the node is stopped",
-        StepKind::In => "stepIn: the node is stopped",
-        StepKind::Out => "stepOut: the node is stopped",
+        DapStepKind::Over => "next: the node is stopped",
+        DapStepKind::In => "stepIn: the node is stopped",
+        DapStepKind::Out => "stepOut: the node is stopped",
     }
 }
 
 /// The move of a node; none where it is in no call from which it could come back.
 fn stepping_of(
     program: &Debuggee,
-    kind: StepKind,
+    kind: DapStepKind,
     node: NodeId,
     arguments: &Value,
-) -> Option<Stepping>
+) -> Option<StepMove>
     ensures { result ≡ stepping_of program.now kind node (view arguments.now) }
 {
     match kind {
-        StepKind::Over => Some(Stepping::next(&program.lab, node, grain_asked(program, arguments))),
-        StepKind::In => Some(Stepping::step_in(
+        DapStepKind::Over => Some(StepMove::next(
             &program.lab,
             node,
-            grain_asked(program, arguments),
+            requested_granularity(program, arguments),
         )),
-        StepKind::Out => Stepping::step_out(&program.lab, node),
+        DapStepKind::In => Some(StepMove::step_in(
+            &program.lab,
+            node,
+            requested_granularity(program, arguments),
+        )),
+        DapStepKind::Out => StepMove::step_out(&program.lab, node),
     }
 }
 
@@ -122,13 +126,13 @@ pub fn begin_step(
     program: &Debuggee,
     execution: &mut Execution,
     request: &ClientRequest,
-    kind: StepKind,
+    kind: DapStepKind,
     out: &mut Outbox,
 ) -> Result<(), AllocError>
     ensures sent { OnOk result ((message : Message) × BeginsStep program.now kind execution.old request.now message execution.new × Sends out.old message out.new) }
     ensures kept { OnErr result (execution.new ≡ execution.old) }
 {
-    match node_asked(&request.arguments) {
+    match thread_argument(&request.arguments) {
         None => out.refuse(request, no_thread(kind)),
         Some(node) => begin_step_of(program, execution, request, kind, node, out),
     }
@@ -146,7 +150,7 @@ fn begin_step_of(
     program: &Debuggee,
     execution: &mut Execution,
     request: &ClientRequest,
-    kind: StepKind,
+    kind: DapStepKind,
     node: NodeId,
     out: &mut Outbox,
 ) -> Result<(), AllocError>
@@ -165,7 +169,7 @@ fn begin_step_of(
 fn begin_stepping(
     execution: &mut Execution,
     request: &ClientRequest,
-    stepping: Option<Stepping>,
+    stepping: Option<StepMove>,
     out: &mut Outbox,
 ) -> Result<(), AllocError>
     ensures sent { OnOk result ((message : Message) × BeginsStepping execution.old request.now stepping message execution.new × Sends out.old message out.new) }
@@ -181,10 +185,10 @@ fn begin_stepping(
 fn begin(
     execution: &mut Execution,
     request: &ClientRequest,
-    stepping: Stepping,
+    stepping: StepMove,
     out: &mut Outbox,
 ) -> Result<(), AllocError>
-    ensures sent { OnOk result (Sends out.old (acknowledged request.now) out.new × (execution.new ≡ begun execution.old (Goal.Step stepping))) }
+    ensures sent { OnOk result (Sends out.old (acknowledged request.now) out.new × (execution.new ≡ run_started execution.old (Goal.Step stepping))) }
     ensures kept { OnErr result (execution.new ≡ execution.old) }
 {
     out.acknowledge(request)?;
@@ -197,7 +201,7 @@ fn begin(
 fn node_or(arguments: &Value, first: NodeId) -> NodeId
     ensures { (asked : Option ANode) × AsksOfThread (view arguments.now) asked × (result ≡ unwrap_or asked first) }
 {
-    match node_asked(arguments) {
+    match thread_argument(arguments) {
         Some(node) => node,
         None => first,
     }
@@ -215,7 +219,7 @@ fn tell_paused(
     out.acknowledge(request)?;
     let first = first_of(program);
     let node = node_or(&request.arguments, first);
-    tell_stopped(alloc, "pause", "pause", node, out)
+    emit_stopped(alloc, "pause", "pause", node, out)
 }
 
 /// Reports that no run is in progress any longer.

@@ -2,12 +2,15 @@
 
 ghost use Rattle.std.specs.Prelude.{◌≡◌, ◌+◌, ◌%◌, ◌^◌, ◌++◌, ◌∷◌, [], map, string_bytes, Option, Some, IfOk, OnOk};
 ghost use Rattle.serde_json.specs.View.{view};
-ghost use Rattle.ga_dap_control.specs.declared.finding.FoundPlace.{FoundPlace as APlace};
+ghost use Rattle.ga_dap_control.specs.declared.finding.BreakpointLocation.{BreakpointLocation as APlace};
 ghost use Rattle.ga_dap_control.specs.Placing.{Placement, IsPlaceOf, unverified_object, verified_object, lined_object, verified_on, told_placed, set_by, placed_next, PlacesOne, Places};
 ghost use Rattle.ga_dap_control.specs.inner.{placement_of};
 
-use crate::configuration::{Family, SetBy};
-use crate::finding::{FoundPlace, Unplaced, asked_at, found, unplaced_reason};
+use crate::configuration::{BreakpointKind, PlacedBreakpoint};
+use crate::finding::{
+    BreakpointLocation, PlacementError, placement_error_text, requested_breakpoint,
+    resolve_breakpoint,
+};
 use ga_dap_breakpoints::Breakpoint;
 use ga_dap_queries::Debuggee;
 use serde_json::{Value, json, push};
@@ -19,7 +22,7 @@ pub struct Placing {
     /// What is sent for each breakpoint.
     pub told: Vec<Value>,
     /// The breakpoints that are set.
-    pub placed: Vec<SetBy>,
+    pub placed: Vec<PlacedBreakpoint>,
     /// The number of the next breakpoint.
     pub next: u64,
 }
@@ -77,24 +80,24 @@ fn verified_on(
 fn told_placed(
     alloc: Global,
     program: &Debuggee,
-    family: Family,
+    family: BreakpointKind,
     id: u64,
-    found: Result<FoundPlace, Unplaced>,
+    found: Result<BreakpointLocation, PlacementError>,
 ) -> Result<Value, AllocError>
     ensures { IfOk result (λ v. view v ≡ told_placed program.now family id found) }
 {
     match found {
         Ok(found) => verified_on(alloc, program, id, found.line),
-        Err(why) => unverified(alloc, id, unplaced_reason(family, why)),
+        Err(why) => unverified(alloc, id, placement_error_text(family, why)),
     }
 }
 
 /// Adds a breakpoint that was found.
 fn add_found(
-    placed: &mut Vec<SetBy>,
-    family: Family,
+    placed: &mut Vec<PlacedBreakpoint>,
+    family: BreakpointKind,
     id: u64,
-    found: Result<FoundPlace, Unplaced>,
+    found: Result<BreakpointLocation, PlacementError>,
 ) -> Result<(), AllocError>
     ensures { OnOk result (placed.new.items ≡ placed.old.items ++ set_by family id found) }
 {
@@ -105,14 +108,14 @@ fn add_found(
 }
 
 fn add_one(
-    placed: &mut Vec<SetBy>,
-    family: Family,
+    placed: &mut Vec<PlacedBreakpoint>,
+    family: BreakpointKind,
     id: u64,
     breakpoint: Breakpoint,
 ) -> Result<(), AllocError>
     ensures { OnOk result (placed.new.items ≡ placed.old.items ++ record { breakpoint = breakpoint; family = family; id = id } ∷ []) }
 {
-    placed.push(SetBy {
+    placed.push(PlacedBreakpoint {
         breakpoint,
         family,
         id,
@@ -124,8 +127,8 @@ fn add_one(
 fn place_found(
     alloc: Global,
     program: &Debuggee,
-    family: Family,
-    found: Result<FoundPlace, Unplaced>,
+    family: BreakpointKind,
+    found: Result<BreakpointLocation, PlacementError>,
     placing: &mut Placing,
 ) -> Result<(), AllocError>
     ensures { OnOk result (placement_of placing.new ≡ placed_next program.now family found (placement_of placing.old)) }
@@ -142,14 +145,14 @@ fn place_found(
 fn place_one(
     alloc: Global,
     program: &Debuggee,
-    family: Family,
+    family: BreakpointKind,
     asked: &Value,
     placing: &mut Placing,
 ) -> Result<(), AllocError>
     ensures { OnOk result (PlacesOne program.now family (view asked.now) (placement_of placing.old) (placement_of placing.new)) }
 {
-    let found = found(program, family, asked);
-    let asked = asked_at(found, placing.placed.len(), asked);
+    let found = resolve_breakpoint(program, family, asked);
+    let asked = requested_breakpoint(found, placing.placed.len(), asked);
     place_found(alloc, program, family, asked, placing)
 }
 
@@ -158,7 +161,7 @@ fn place_one(
 pub(crate) fn place_all(
     alloc: Global,
     program: &Debuggee,
-    family: Family,
+    family: BreakpointKind,
     asked: &[Value],
     placing: &mut Placing,
 ) -> Result<(), AllocError>

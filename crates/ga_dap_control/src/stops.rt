@@ -11,7 +11,7 @@ use crate::configuration::Configuration;
 use crate::configuring::first_of;
 use crate::execution::StopReason;
 use ga_dap_protocol::{Outbox, text_at};
-use ga_dap_queries::{Debuggee, exception_info, tell_hit, tell_stopped};
+use ga_dap_queries::{Debuggee, emit_breakpoint_hit, emit_stopped, exception_info};
 use ga_grid::NodeId;
 use ga_lab::{LabFault, Made};
 use serde_json::Value;
@@ -56,7 +56,7 @@ fn tell_fault(
 {
     let info = exception_info(alloc, &program.lab, false, node)?;
     let text = text_behind(alloc, &info, behind)?;
-    tell_stopped(alloc, "exception", text.as_str(), node, out)
+    emit_stopped(alloc, "exception", text.as_str(), node, out)
 }
 
 /// Reports the breakpoints that this event hit.
@@ -74,12 +74,12 @@ fn tell_hits(
     ensures err { OnErr result (out.new ≡ out.old) }
 {
     let ids = settings.points.ids_hit(alloc, &program.lab, made)?;
-    tell_hit(alloc, reason, description, node, ids.as_slice(), out)
+    emit_breakpoint_hit(alloc, reason, description, node, ids.as_slice(), out)
 }
 
 /// `stopped` where a run ended for this reason.
 #[tactic(auto, using(ga_dap_queries::proofs::Sent::ok_then))]
-pub fn tell_stop(
+pub fn emit_run_end(
     alloc: Global,
     program: &Debuggee,
     settings: &Configuration,
@@ -106,7 +106,7 @@ fn tell_stop_at(
     ensures err { OnErr result (out.new ≡ out.old) }
 {
     match stop {
-        StopReason::Step(node) => tell_stopped(alloc, "step", "step", node, out),
+        StopReason::Step(node) => emit_stopped(alloc, "step", "step", node, out),
         StopReason::Breakpoint { node, made } => {
             let why = "breakpoint";
             tell_hits(alloc, program, settings, why, why, node, &made, out)
@@ -117,13 +117,13 @@ fn tell_stop_at(
         }
         StopReason::Stopped(node) => tell_fault(alloc, program, node, "", out),
         StopReason::Stuck(node) => tell_fault(alloc, program, node, ", and can never go on", out),
-        StopReason::Quiet => tell_stopped(
+        StopReason::Quiet => emit_stopped(
             alloc,
             "pause",
             "quiet: no node has an event",
             first,
             out,
         ),
-        StopReason::Refused(why) => tell_stopped(alloc, "pause", words_of(why), first, out),
+        StopReason::Refused(why) => emit_stopped(alloc, "pause", words_of(why), first, out),
     }
 }

@@ -6,8 +6,8 @@ use Rattle.std.proofs.lemmas.List.{append_cancel_left, take-append-le, take-appe
 use Rattle.std.proofs.lemmas.Bool.{cases_lt}
 use Rattle.std.proofs.Math.Seq.{take-add}
 use Rattle.std.specs.List.{All}
-use Rattle.ga_dap_protocol.specs.declared.framing.Front.TheVariants.{Message, Part, Wrong}
-use Rattle.ga_dap_protocol.specs.declared.broken.Broken.TheVariants.{NoDigit, TooLong, ManyDigits, HeaderEnd}
+use Rattle.ga_dap_protocol.specs.declared.framing.FramePrefix.TheVariants.{Message, Part, Wrong}
+use Rattle.ga_dap_protocol.specs.declared.broken.FrameError.TheVariants.{NoDigit, TooLong, ManyDigits, HeaderEnd}
 use Rattle.ga_dap_protocol.specs.Framing.{content_limit, digit_limit, field, header_end, header_part, IsDigit, value_from, IsLength, BeginsOne, BeginsNone, OneBeginsOther, Finds}
 use Rattle.ga_dap_protocol.proofs.Unique.{right_of, no_digit_first, run, grows, value_more}
 

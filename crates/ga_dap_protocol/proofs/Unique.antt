@@ -5,7 +5,7 @@ use Rattle.ga_dap_protocol.specs.Framing.{IsDigit, value_from, content_limit, fi
 use Rattle.std.proofs.lemmas.List.{append_cancel_left, append-nil, take_at, drop_at, take-append-drop}
 use Rattle.std.proofs.lemmas.List.Elements.{All-append}
 use Rattle.std.proofs.lemmas.Fmt.{decimal_by_steps, length-decimal-le, decimal_nonempty}
-use Rattle.ga_dap_protocol.specs.declared.framing.Front.TheVariants.{Message}
+use Rattle.ga_dap_protocol.specs.declared.framing.FramePrefix.TheVariants.{Message}
 
 -- ---- runs of digits, and their numbers
 

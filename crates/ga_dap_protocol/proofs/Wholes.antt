@@ -1,9 +1,9 @@
 -- What holds of the first bytes of an input holds of the whole.
 use Rattle.std.proofs.Common.{◌≡◌, ◌≤◌, ◌+◌, ◌++◌, ◌∙◌, ℕ, List, [], ◌∷◌, length, take, drop, min, sym, ap, subst, arith, append_assoc, length-append}
 use Rattle.std.proofs.lemmas.List.{take-append-le, take-append-drop, take-take, append-nil, nil_from_length}
-use Rattle.ga_dap_protocol.specs.declared.broken.Broken.{Broken}
-use Rattle.ga_dap_protocol.specs.declared.broken.Broken.TheVariants.{Field, NoDigit, TooLong, ManyDigits, HeaderEnd, Cut}
-use Rattle.ga_dap_protocol.specs.declared.framing.Front.TheVariants.{Message, Wrong}
+use Rattle.ga_dap_protocol.specs.declared.broken.FrameError.{FrameError}
+use Rattle.ga_dap_protocol.specs.declared.broken.FrameError.TheVariants.{Field, NoDigit, TooLong, ManyDigits, HeaderEnd, Cut}
+use Rattle.ga_dap_protocol.specs.declared.framing.FramePrefix.TheVariants.{Message, Wrong}
 use Rattle.ga_dap_protocol.specs.Framing.{field, header_end, IsMessage, BeginsNone, OneBeginsOther, Reads, Shows, Finds}
 use Rattle.ga_dap_protocol.specs.Inbox.{GivesNext, IsBroken}
 use Rattle.ga_dap_protocol.specs.declared.inbox.Next.{Next}
@@ -23,7 +23,7 @@ shorter xs left ys h =
 reads_on : (bytes digits rest left : List ℕ) → Reads bytes digits rest → Reads (bytes ++ left) digits (rest ++ left)
 reads_on bytes digits rest left r = (ap (λ z. z ++ left) r.0 ∙ append_assoc (field ++ digits) rest left, r.1)
 
-shows_on : (why : Broken) (bytes left : List ℕ) → Shows why bytes → Shows why (bytes ++ left)
+shows_on : (why : FrameError) (bytes left : List ℕ) → Shows why bytes → Shows why (bytes ++ left)
 shows_on Field bytes left h = λ agree. h (shorter bytes left field agree)
 shows_on NoDigit bytes left h = (h.0, h.1 ++ left, reads_on bytes [] (h.0 ∷ h.1) left h.2, h.3)
 shows_on TooLong bytes left h = (h.0, h.1 ++ left, reads_on bytes h.0 h.1 left h.2, h.3, h.4)
@@ -31,7 +31,7 @@ shows_on ManyDigits bytes left h = (h.0, h.1 ++ left, reads_on bytes h.0 h.1 lef
 shows_on HeaderEnd bytes left h = (h.0, h.1, h.2 ++ left, reads_on bytes h.0 (h.1 ∷ h.2) left h.3, h.4, h.5, λ agree. h.6 (shorter (h.1 ∷ h.2) left header_end agree))
 shows_on Cut bytes left h = h
 
-pub is_broken : (why : Broken) (bytes left : List ℕ) → BeginsNone bytes → Shows why bytes → IsBroken why (bytes ++ left)
+pub is_broken : (why : FrameError) (bytes left : List ℕ) → BeginsNone bytes → Shows why bytes → IsBroken why (bytes ++ left)
 is_broken Field bytes left none h = (begins_none bytes left none, shows_on Field bytes left h)
 is_broken NoDigit bytes left none h = (begins_none bytes left none, shows_on NoDigit bytes left h)
 is_broken TooLong bytes left none h = (begins_none bytes left none, shows_on TooLong bytes left h)
@@ -48,7 +48,7 @@ took all held rest bytes content left start end b a found c l =
     let parts : held ≡ take end held ++ left = sym (take-append-drop end held) ∙ ap (λ z. take end held ++ z) (sym l) in
     (take end held, subst (λ z. IsMessage z (take end held)) (sym c) m, a ∙ ap (λ z. z ++ rest) parts ∙ append_assoc (take end held) left rest)
 
-pub refused : (why : Broken) (all held rest bytes : List ℕ) → bytes ≡ held → all ≡ held ++ rest → Finds bytes (Wrong why) → (all ≡ held ++ rest) × IsBroken why all
+pub refused : (why : FrameError) (all held rest bytes : List ℕ) → bytes ≡ held → all ≡ held ++ rest → Finds bytes (Wrong why) → (all ≡ held ++ rest) × IsBroken why all
 refused why all held rest bytes b a found =
     (a, subst (IsBroken why) (ap (λ z. z ++ rest) b ∙ sym a) (is_broken why bytes rest found.0 found.1))
 

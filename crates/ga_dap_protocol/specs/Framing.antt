@@ -2,10 +2,10 @@
 -- the number of bytes of the content part, and the content part.
 use Rattle.std.specs.Prelude.{◌≡◌, ◌≤◌, ◌<◌, ◌+◌, ◌*◌, ◌-◌, ◌++◌, ℕ, List, [], ◌∷◌, length, take, drop, min, codes, decimal}
 use Rattle.std.specs.List.{All}
-use Rattle.ga_dap_protocol.specs.declared.broken.Broken.{Broken}
-use Rattle.ga_dap_protocol.specs.declared.broken.Broken.TheVariants.{Field, NoDigit, TooLong, ManyDigits, HeaderEnd, Cut}
-use Rattle.ga_dap_protocol.specs.declared.framing.Front.{Front}
-use Rattle.ga_dap_protocol.specs.declared.framing.Front.TheVariants.{Message, Part, Wrong}
+use Rattle.ga_dap_protocol.specs.declared.broken.FrameError.{FrameError}
+use Rattle.ga_dap_protocol.specs.declared.broken.FrameError.TheVariants.{Field, NoDigit, TooLong, ManyDigits, HeaderEnd, Cut}
+use Rattle.ga_dap_protocol.specs.declared.framing.FramePrefix.{FramePrefix}
+use Rattle.ga_dap_protocol.specs.declared.framing.FramePrefix.TheVariants.{Message, Part, Wrong}
 
 -- the most bytes of a content part
 abbrev pub content_limit : ℕ
@@ -64,7 +64,7 @@ abbrev pub Reads : List ℕ → List ℕ → List ℕ → Type 0
 Reads bytes digits rest = (bytes ≡ field ++ digits ++ rest) × All IsDigit digits
 
 -- why the bytes begin with no message
-abbrev pub Shows : Broken → List ℕ → Type 0
+abbrev pub Shows : FrameError → List ℕ → Type 0
 Shows Field bytes = OneBeginsOther bytes field → ⊥
 Shows NoDigit bytes = (byte : ℕ) × (rest : List ℕ) × Reads bytes [] (byte ∷ rest) × (IsDigit byte → ⊥)
 Shows TooLong bytes = (digits rest : List ℕ) × Reads bytes digits rest × (length digits ≤ digit_limit + 1) × (content_limit < value_from 0 digits)
@@ -73,7 +73,7 @@ Shows HeaderEnd bytes = (digits : List ℕ) × (byte : ℕ) × (rest : List ℕ)
 Shows Cut bytes = ⊥
 
 -- the front of some bytes: a message, up to its end, with its content part from a place on; the beginning of one; or neither
-abbrev pub Finds : List ℕ → Front → Type 0
+abbrev pub Finds : List ℕ → FramePrefix → Type 0
 Finds bytes (Message start end) = (start ≤ end) × (end ≤ length bytes) × IsMessage (drop start (take end bytes)) (take end bytes)
 Finds bytes Part = BeginsOne bytes
 Finds bytes (Wrong why) = BeginsNone bytes × Shows why bytes

@@ -1,14 +1,14 @@
 -- Messages taken from an input. `all` is what was read and not taken and what the reader has left, before a call, and `after`
 -- the same after it.
 use Rattle.std.specs.Prelude.{◌≡◌, ◌≤◌, ◌++◌, ℕ, List, [], length}
-use Rattle.ga_dap_protocol.specs.declared.broken.Broken.{Broken}
-use Rattle.ga_dap_protocol.specs.declared.broken.Broken.TheVariants.{Cut}
+use Rattle.ga_dap_protocol.specs.declared.broken.FrameError.{FrameError}
+use Rattle.ga_dap_protocol.specs.declared.broken.FrameError.TheVariants.{Cut}
 use Rattle.ga_dap_protocol.specs.Framing.{IsMessage, BeginsOne, BeginsNone, Shows}
 use Rattle.ga_dap_protocol.specs.declared.inbox.Next.{Next}
 use Rattle.ga_dap_protocol.specs.declared.inbox.Next.TheVariants.{Message, End, Wrong, Failed}
 
 -- why an input that isn't at its end holds no further message: it ends within one, or begins with none whatever follows
-abbrev pub IsBroken : Broken → List ℕ → Type 0
+abbrev pub IsBroken : FrameError → List ℕ → Type 0
 IsBroken Cut all = (1 ≤ length all) × BeginsOne all
 IsBroken why all = BeginsNone all × Shows why all
 

@@ -4,7 +4,7 @@ use thiserror::Error;
 
 /// What is wrong with a frame. No message can be found after it.
 #[derive(Clone, Copy, PartialEq, Eq, Debug, Error)]
-pub enum Broken {
+pub enum FrameError {
     /// The header does not begin with the field `Content-Length`, a colon and a blank.
     #[error("the header does not begin with `Content-Length: `")]
     Field,

@@ -4,7 +4,7 @@ ghost use Rattle.std.specs.Prelude.{◌≡◌, ◌≢◌, ◌≤◌, ◌<◌, �
 ghost use Rattle.std.specs.List.{All};
 ghost use Rattle.ga_dap_protocol.specs.Framing.{OneBeginsOther, IsDigit, Finds, Reads, content_limit, digit_limit, field, framed, value_from};
 
-use crate::broken::Broken;
+use crate::broken::FrameError;
 use std::alloc::{AllocError, Global};
 
 /// The most bytes of a content part, 128 KiB. Its values take up to 130 times as much memory as its text.
@@ -21,13 +21,13 @@ const DIGIT_LIMIT: usize = 7;
 
 /// The front of some bytes.
 #[derive(Clone, Copy, PartialEq, Eq, Debug)]
-pub enum Front {
+pub enum FramePrefix {
     /// A whole message, up to `end`, with its content part from `start` on.
     Message { start: usize, end: usize },
     /// The beginning of a message.
     Part,
     /// No message, whatever comes.
-    Wrong(Broken),
+    Wrong(FrameError),
 }
 
 /// Whether one of two texts is the beginning of the other.
@@ -73,14 +73,14 @@ fn length_of(digits: &[u8]) -> Option<usize>
 }
 
 /// Returns the front of some bytes. Takes no memory, and time by the header alone.
-pub fn front_of(bytes: &[u8]) -> Front
+pub fn parse_frame_prefix(bytes: &[u8]) -> FramePrefix
     ensures { Finds bytes.now result }
 {
     if !agree(bytes, FIELD) {
-        return Front::Wrong(Broken::Field);
+        return FramePrefix::Wrong(FrameError::Field);
     }
     if bytes.len() < FIELD.len() {
-        return Front::Part;
+        return FramePrefix::Part;
     }
     front_behind(bytes)
 }
@@ -99,43 +99,43 @@ fn value_behind(bytes: &[u8]) -> (&[u8], &[u8])
 }
 
 /// The front of bytes that begin with the field's name.
-fn front_behind(bytes: &[u8]) -> Front
+fn front_behind(bytes: &[u8]) -> FramePrefix
     requires long { 16 ≤ length bytes.now }
     requires name { take 16 bytes.now ≡ field }
     ensures { Finds bytes.now result }
 {
     let (digits, rest) = value_behind(bytes);
     let Some(number) = length_of(digits) else {
-        return Front::Wrong(Broken::TooLong);
+        return FramePrefix::Wrong(FrameError::TooLong);
     };
     if digits.len() > DIGIT_LIMIT {
-        return Front::Wrong(Broken::ManyDigits);
+        return FramePrefix::Wrong(FrameError::ManyDigits);
     }
     if digits.is_empty() {
         return without_digit(rest);
     }
     if !agree(rest, HEADER_END) {
-        return Front::Wrong(Broken::HeaderEnd);
+        return FramePrefix::Wrong(FrameError::HeaderEnd);
     }
     if rest.len() < HEADER_END.len() + number {
-        return Front::Part;
+        return FramePrefix::Part;
     }
     let start = FIELD.len() + digits.len() + HEADER_END.len();
-    Front::Message {
+    FramePrefix::Message {
         start,
         end: start + number,
     }
 }
 
 /// The front of bytes in which no digit follows the field's name.
-fn without_digit(rest: &[u8]) -> Front
+fn without_digit(rest: &[u8]) -> FramePrefix
     requires { 0 < length rest.now → IsDigit (slice_index rest.now 0) → ⊥ }
     ensures { Finds (field ++ rest.now) result }
 {
     if rest.is_empty() {
-        Front::Part
+        FramePrefix::Part
     } else {
-        Front::Wrong(Broken::NoDigit)
+        FramePrefix::Wrong(FrameError::NoDigit)
     }
 }
 

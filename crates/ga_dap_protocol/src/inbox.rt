@@ -1,7 +1,7 @@
 //! The input: what was read and is not taken yet.
 
-use crate::broken::Broken;
-use crate::framing::{Front, front_of};
+use crate::broken::FrameError;
+use crate::framing::{FramePrefix, parse_frame_prefix};
 use std::alloc::{AllocError, Global};
 use std::io::Read;
 use std::marker::Model;
@@ -17,7 +17,7 @@ pub enum Next {
     /// The input ended between messages.
     End,
     /// No further message, and why.
-    Wrong(Broken),
+    Wrong(FrameError),
     /// A read failed.
     Failed,
 }
@@ -65,10 +65,10 @@ impl Inbox {
     pub fn has_next(&self) -> bool
         ensures { IsTrue result ↔ (BeginsOne self.now → ⊥) }
     {
-        match front_of(self.bytes.as_slice()) {
-            Front::Message { .. } => true,
-            Front::Part => false,
-            Front::Wrong(_) => true,
+        match parse_frame_prefix(self.bytes.as_slice()) {
+            FramePrefix::Message { .. } => true,
+            FramePrefix::Part => false,
+            FramePrefix::Wrong(_) => true,
         }
     }
 
@@ -115,7 +115,7 @@ impl Inbox {
         if self.bytes.is_empty() {
             Next::End
         } else {
-            Next::Wrong(Broken::Cut)
+            Next::Wrong(FrameError::Cut)
         }
     }
 
@@ -131,13 +131,13 @@ impl Inbox {
             ((rest : List ℕ) × (R.remaining reader.new ≡ Some rest) × (self.old ++ left ≡ self.new ++ rest)) }
     {
         'reads: for _ in 0..u64::MAX {
-            match front_of(self.bytes.as_slice()) {
-                Front::Message { start, end } => {
+            match parse_frame_prefix(self.bytes.as_slice()) {
+                FramePrefix::Message { start, end } => {
                     let content = self.take(start, end)?;
                     return Ok(Next::Message(content));
                 }
-                Front::Wrong(why) => return Ok(Next::Wrong(why)),
-                Front::Part => match self.fill(reader)? {
+                FramePrefix::Wrong(why) => return Ok(Next::Wrong(why)),
+                FramePrefix::Part => match self.fill(reader)? {
                     Fill::More => {}
                     Fill::Failed => return Ok(Next::Failed),
                     Fill::End => return Ok(self.ended()),

@@ -10,13 +10,13 @@ pub fn written()
 
 /// A text begins with at most one message, which has one content part. An input therefore has the same messages however it is
 /// cut.
-pub fn one_message()
+pub fn first_message_is_unique()
     ensures text { (text other content inner after behind : List ℕ) → IsMessage content text → IsMessage inner other →
         text ++ after ≡ other ++ behind → (text ≡ other) × (after ≡ behind) }
     ensures content { (text content inner : List ℕ) → IsMessage content text → IsMessage inner text → content ≡ inner }
 {}
 
 /// If a text begins with a message, more bytes make no other: what begins with a message begins no longer one.
-pub fn whole_once()
+pub fn message_end_is_stable()
     ensures { (content text after : List ℕ) → IsMessage content text → BeginsOne (text ++ after) → ⊥ }
 {}

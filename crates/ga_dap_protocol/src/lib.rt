@@ -8,8 +8,8 @@ pub mod laws;
 mod outbox;
 mod request;
 
-pub use broken::Broken;
-pub use framing::{CONTENT_LIMIT, Front, front_of, push_frame};
+pub use broken::FrameError;
+pub use framing::{CONTENT_LIMIT, FramePrefix, parse_frame_prefix, push_frame};
 pub use inbox::{Inbox, Next};
 pub use outbox::Outbox;
 pub use request::{ClientRequest, RequestError, number_at, read_request, text_at};

@@ -65,7 +65,7 @@ impl Outbox {
     }
 
     /// Forgets what is to be written: the last message is again the one of this number.
-    pub fn take_back(&mut self, seq: u64)
+    pub fn discard_unsent(&mut self, seq: u64)
         ensures { self.new ≡ record { bytes = []; seq = seq } }
     {
         self.bytes.clear();
@@ -136,7 +136,7 @@ impl Outbox {
     ///
     /// # Errors
     /// An allocation failed; nothing is added.
-    pub fn tell(&mut self, event: &str, body: Value) -> Result<(), AllocError>
+    pub fn add_event(&mut self, event: &str, body: Value) -> Result<(), AllocError>
         ensures sent { OnOk result (IsSent self.old (next_seq self.old.seq)
             (event_with (next_seq self.old.seq) event.now (view body)) self.new) }
         ensures err { OnErr result (self.new ≡ self.old) }
@@ -150,7 +150,7 @@ impl Outbox {
     ///
     /// # Errors
     /// An allocation failed; nothing is added.
-    pub fn tell_alone(&mut self, event: &str) -> Result<(), AllocError>
+    pub fn add_bare_event(&mut self, event: &str) -> Result<(), AllocError>
         ensures sent { OnOk result (IsSent self.old (next_seq self.old.seq)
             (bare_event (next_seq self.old.seq) event.now) self.new) }
         ensures err { OnErr result (self.new ≡ self.old) }

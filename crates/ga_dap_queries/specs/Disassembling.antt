@@ -1,6 +1,6 @@
 -- `disassemble`, and references to memory (Debug Adapter Protocol, "DisassembleRequest", "DisassembleArguments"). The machine stays.
 use Rattle.std.specs.Prelude.{◌≡◌, string_bytes, Option, Some, None, ◌<◌, ℕ, ◌+◌, ◌%◌, ℤ, pos, unsigned_abs, nat_lt, if◌then◌else◌, ◌++◌, codes, option_and_then, unwrap_or}
-use Rattle.ga_debug_info.specs.declared.notes.Notes.{Notes}
+use Rattle.ga_debug_info.specs.declared.notes.DebugInfo.{DebugInfo}
 use Rattle.ga_dap_views.specs.declared.frames.SourceFile.{SourceFile}
 use Rattle.ga_dap_queries.specs.declared.debuggee.Debuggee.{Debuggee}
 use Rattle.std.specs.Int.{int_rem_euclid}
@@ -19,11 +19,11 @@ use Rattle.ga_dap_queries.specs.Sending.{Message, answered, refused_response}
 -- ---- A program that was launched
 
 -- what the source of a program says of the cells
-abbrev pub notes_or : Option Notes → Notes → Notes
+abbrev pub notes_or : Option DebugInfo → DebugInfo → DebugInfo
 notes_or None unsaid = unsaid
 notes_or (Some notes) unsaid = notes
 
-abbrev pub program_notes : Debuggee → Notes
+abbrev pub program_notes : Debuggee → DebugInfo
 program_notes p = notes_or p.source p.unsaid
 
 -- the file of a program
@@ -47,11 +47,11 @@ abbrev pub offset_given : Text → Data → ℤ
 offset_given name d = unwrap_or (option_and_then as_i64 (option_and_then as_number (get name d))) (pos 0)
 
 -- how many addresses further an offset leads, among the 4096 of a node, of which the first follows the last
-abbrev pub cells_on : ℤ → ℕ
-cells_on offset = unsigned_abs (int_rem_euclid offset (pos 4096))
+abbrev pub addresses_after : ℤ → ℕ
+addresses_after offset = unsigned_abs (int_rem_euclid offset (pos 4096))
 
 abbrev pub first_told : Data → ℕ → ℕ
-first_told d cell = (cell + (cells_on (offset_given (codes "offset") d) + cells_on (offset_given (codes "instructionOffset") d))) % 4096
+first_told d cell = (cell + (addresses_after (offset_given (codes "offset") d) + addresses_after (offset_given (codes "instructionOffset") d))) % 4096
 
 -- exactly as many instructions are sent as are requested; more than 4096 are refused
 abbrev pub count_within : ℕ → Option ℕ

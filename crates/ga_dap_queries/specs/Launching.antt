@@ -5,7 +5,7 @@ use Rattle.serde_json.specs.Find.{get}
 use Rattle.ga_text.specs.Lines.{Text}
 use Rattle.ga_text.specs.Parsing.{fitting}
 use Rattle.ga_scheduler.specs.declared.schedule.Schedule.{Schedule}
-use Rattle.ga_scheduler.specs.Schedules.{in_rounds, greedily, at_random}
+use Rattle.ga_scheduler.specs.Schedules.{round_robin, greedy, random}
 use Rattle.ga_dap_protocol.specs.Messages.{member_text, member_number}
 use Rattle.ga_dap_queries.specs.Arguments.{member_flag}
 
@@ -18,8 +18,8 @@ abbrev pub limit_by : Option Data → Option ℕ → Option ℕ
 limit_by None number = Some 4000000
 limit_by (Some given) number = option_and_then limit_within number
 
-abbrev pub limit_asked : Data → Option ℕ
-limit_asked d = limit_by (get (codes "limit") d) (member_number (codes "limit") d)
+abbrev pub parse_limit : Data → Option ℕ
+parse_limit d = limit_by (get (codes "limit") d) (member_number (codes "limit") d)
 
 -- the seed of a drawn order, as `run random` takes it: 0 where the client doesn't say
 abbrev pub seed_by : Option Data → Option ℕ → Option ℕ
@@ -32,18 +32,18 @@ seed_asked d = seed_by (get (codes "seed") d) (member_number (codes "seed") d)
 -- the order of a name
 abbrev pub schedule_named : Data → Text → Option Schedule
 schedule_named d name =
-    if bytes_eq name (codes "rounds") then Some in_rounds
-    else if bytes_eq name (codes "greedy") then Some greedily
-    else if bytes_eq name (codes "random") then option_map at_random (seed_asked d)
+    if bytes_eq name (codes "rounds") then Some round_robin
+    else if bytes_eq name (codes "greedy") then Some greedy
+    else if bytes_eq name (codes "random") then option_map random (seed_asked d)
     else None
 
 -- the order in which the nodes are to make their events: rounds where the client doesn't say
 abbrev pub schedule_by : Data → Option Data → Option Text → Option Schedule
-schedule_by d None name = Some in_rounds
+schedule_by d None name = Some round_robin
 schedule_by d (Some given) name = option_and_then (schedule_named d) name
 
-abbrev pub schedule_asked : Data → Option Schedule
-schedule_asked d = schedule_by d (get (codes "order") d) (member_text (codes "order") d)
+abbrev pub parse_schedule : Data → Option Schedule
+parse_schedule d = schedule_by d (get (codes "order") d) (member_text (codes "order") d)
 
 -- whether the nodes are stopped at load until the client continues
 abbrev pub stops_on_entry : Data → Bool

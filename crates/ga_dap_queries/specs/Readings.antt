@@ -5,9 +5,9 @@ use Rattle.serde_json.specs.Data.{Data, string, object, array, no_items, no_memb
 use Rattle.ga_grid.specs.Chip.{record_at}
 use Rattle.ga_text.specs.Lines.{Text}
 use Rattle.ga_lab.specs.Machine.{State, chip_of}
-use Rattle.ga_dap_views.specs.Doing.{named_activity}
+use Rattle.ga_dap_views.specs.Activity.{named_activity}
 use Rattle.serde_json.specs.View.{view}
-use Rattle.ga_races.specs.Acts.{IsSubset, AreStuck}
+use Rattle.ga_races.specs.Acts.{IsSubset, AreDeadlocked}
 use Rattle.ga_node.specs.Record.{NodeRecord}
 use Rattle.ga_grid.specs.declared.node_id.NodeId.{NodeId}
 use Rattle.ga_dap_views.specs.declared.frames.SourceFile.{SourceFile}
@@ -38,7 +38,7 @@ exception_of s stuck n =
 
 -- whether a node can never go on: it is in the greatest set of such nodes
 abbrev pub TellsStuck : List NodeRecord → ℕ → Bool → Type 0
-TellsStuck chip n stuck = (marks : ℕ → Bool) × AreStuck chip marks × ((others : ℕ → Bool) → AreStuck chip others → IsSubset others marks) × (stuck ≡ marks n)
+TellsStuck chip n stuck = (marks : ℕ → Bool) × AreDeadlocked chip marks × ((others : ℕ → Bool) → AreDeadlocked chip others → IsSubset others marks) × (stuck ≡ marks n)
 
 -- `threads`
 abbrev pub AnswersThreads : Debuggee → ClientRequest → Message → Type 0

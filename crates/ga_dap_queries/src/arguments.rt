@@ -7,7 +7,7 @@ ghost use Rattle.ga_dap_views.specs.Numbers.{frame_of};
 ghost use Rattle.ga_dap_queries.specs.Arguments.{AsksOfThread, AsksOfFrame, AsksForVariables, member_flag, member_values, values_or, number_given_or};
 
 use ga_dap_protocol::number_at;
-use ga_dap_views::{Scope, node_of_frame, node_of_thread, referred};
+use ga_dap_views::{Scope, node_of_frame, node_of_thread, resolve_reference};
 use ga_grid::NodeId;
 use serde_json::Value;
 
@@ -47,7 +47,7 @@ pub fn number_given_or(value: &Value, name: &str, other: u64) -> u64
 }
 
 /// The node of the requested thread.
-pub fn node_asked(arguments: &Value) -> Option<NodeId>
+pub fn thread_argument(arguments: &Value) -> Option<NodeId>
     ensures { AsksOfThread (view arguments.now) result }
 {
     match number_at(arguments, "threadId") {
@@ -78,11 +78,11 @@ fn node_framed(frame: u64) -> Option<NodeId>
 }
 
 /// The node and the scope whose variables are asked for.
-pub fn scope_asked(arguments: &Value) -> Option<(NodeId, Scope)>
+pub fn scope_argument(arguments: &Value) -> Option<(NodeId, Scope)>
     ensures { AsksForVariables (view arguments.now) result }
 {
     match number_at(arguments, "variablesReference") {
-        Some(reference) => referred(reference),
+        Some(reference) => resolve_reference(reference),
         None => None,
     }
 }

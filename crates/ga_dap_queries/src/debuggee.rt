@@ -4,7 +4,7 @@ ghost use Rattle.std.specs.Prelude.{◌≡◌, string_bytes};
 ghost use Rattle.ga_dap_queries.specs.Disassembling.{program_notes};
 
 use ga_dap_views::SourceFile;
-use ga_debug_info::Notes;
+use ga_debug_info::DebugInfo;
 use ga_grid::NodeId;
 use ga_lab::Lab;
 
@@ -14,9 +14,9 @@ pub struct Debuggee {
     /// The machine.
     pub lab: Lab,
     /// What the source says of the cells; nothing of an image.
-    pub source: Option<Notes>,
+    pub source: Option<DebugInfo>,
     /// The debug info if there is no source: empty.
-    pub unsaid: Notes,
+    pub unsaid: DebugInfo,
     /// The nodes that have a program in the source.
     pub nodes: Vec<NodeId>,
     /// The path of the file.
@@ -30,7 +30,7 @@ impl Debuggee {
     ghost use Rattle.ga_dap_queries.specs.Disassembling.{program_notes};
 
     /// What the source says of the cells.
-    pub fn notes(&self) -> &Notes
+    pub fn notes(&self) -> &DebugInfo
         ensures { result.now ≡ program_notes self.now }
     {
         match &self.source {

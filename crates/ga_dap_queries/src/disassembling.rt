@@ -3,11 +3,11 @@
 ghost use Rattle.std.specs.Prelude.{◌≡◌, ◌≢◌, ◌<◌, ◌≤◌, ◌^◌, ℕ, Some, IfSome, IfNone, OnOk, OnErr};
 ghost use Rattle.serde_json.specs.View.{view};
 ghost use Rattle.ga_dap_queries.specs.Sending.{Sends, Message};
-ghost use Rattle.ga_dap_queries.specs.Disassembling.{SpellsHexadecimal, SpellsReference, RefersTo, offset_given, cells_on, first_told, count_within, TellsSome, TellsInstructions, TellsMemory, TellsReferred, AnswersInstructions};
+ghost use Rattle.ga_dap_queries.specs.Disassembling.{SpellsHexadecimal, SpellsReference, RefersTo, offset_given, addresses_after, first_told, count_within, TellsSome, TellsInstructions, TellsMemory, TellsReferred, AnswersInstructions};
 
 use crate::debuggee::Debuggee;
 use ga_dap_protocol::{ClientRequest, Outbox, number_at, text_at};
-use ga_dap_views::{cell_of_chip, disassembled};
+use ga_dap_views::{cell_at_chip_address, disassembled};
 use ga_grid::NodeId;
 use serde_json::Value;
 use std::alloc::{AllocError, Global};
@@ -45,8 +45,8 @@ fn address_asked(reference: &str) -> Option<u64>
 }
 
 /// How many addresses on an offset leads, of the 4096 of a node.
-pub fn cells_on(offset: i64) -> u32
-    ensures value { result ≡ cells_on offset }
+pub fn addresses_after(offset: i64) -> u32
+    ensures value { result ≡ addresses_after offset }
     ensures most { result < 4096 }
 {
     offset.rem_euclid(4096).unsigned_abs() as u32
@@ -57,17 +57,17 @@ fn first_told(arguments: &Value, cell: u8) -> u32
     ensures value { result ≡ first_told (view arguments.now) cell }
     ensures most { result < 4096 }
 {
-    let behind = cells_on(offset_at(arguments, "offset"))
-        + cells_on(offset_at(arguments, "instructionOffset"));
+    let behind = addresses_after(offset_at(arguments, "offset"))
+        + addresses_after(offset_at(arguments, "instructionOffset"));
     (u32::from(cell) + behind) % 4096
 }
 
 /// The node and the cell of a reference to memory, where there are.
-pub fn cell_referred(reference: &str) -> Option<(NodeId, u8)>
+pub fn resolve_memory_reference(reference: &str) -> Option<(NodeId, u8)>
     ensures { RefersTo reference.now result }
 {
     match address_asked(reference) {
-        Some(address) => cell_of_chip(address),
+        Some(address) => cell_at_chip_address(address),
         None => None,
     }
 }
@@ -99,7 +99,7 @@ fn tell_referred(
     ensures sent { OnOk result ((message : Message) × TellsReferred program.now request.now (Some reference.now) message × Sends out.old message out.new) }
     ensures err { OnErr result (out.new ≡ out.old) }
 {
-    match cell_referred(reference) {
+    match resolve_memory_reference(reference) {
         None => out.refuse(request, "disassemble: no such memory"),
         Some(at) => tell_instructions_at(alloc, program, request, at, out),
     }

@@ -6,10 +6,10 @@ ghost use Rattle.ga_dap_views.specs.declared.scope.Scope.TheVariants.{Registers}
 ghost use Rattle.ga_dap_views.specs.Shown.{IsVariable, variable_at, variable_count, variable_name};
 ghost use Rattle.ga_dap_queries.specs.Evaluating.{cell_in_brackets, AsksForVariable, AsksForNoVariable, result_object, evaluated};
 
-use ga_dap_views::{Scope, Variable, count_of, value_of, variable_name, variable_of};
+use ga_dap_views::{Scope, Variable, count_variables, value_of, variable_name, variable_of};
 use ga_grid::NodeId;
 use ga_lab::Lab;
-use ga_text::byte_of;
+use ga_text::parse_hex_byte;
 use serde_json::{Value, json};
 use std::alloc::{AllocError, Global};
 
@@ -29,7 +29,7 @@ fn register_named(alloc: Global, name: &str) -> Result<Option<Variable>, AllocEr
     ensures none { IfOk result (λ found. IfNone found
         ((k : ℕ) → k < variable_count Registers → variable_name (variable_at Registers k) ≢ name.now)) }
 {
-    'registers: for place in 0..count_of(Scope::Registers) {
+    'registers: for place in 0..count_variables(Scope::Registers) {
         let one = variable_of(Scope::Registers, place);
         let same = has_name(alloc, one, name)?;
         if same {
@@ -45,7 +45,7 @@ fn cell_named(text: &[u8]) -> Option<Variable>
     ensures valid { IfSome result IsVariable }
 {
     if text.len() == 4 && text[0] == b'[' && text[3] == b']' {
-        let address = byte_of(&text[1..3])?;
+        let address = parse_hex_byte(&text[1..3])?;
         Some(Variable::Cell(address))
     } else {
         None

@@ -4,7 +4,7 @@ ghost use Rattle.std.specs.Prelude.{◌≡◌, IfOk};
 ghost use Rattle.serde_json.specs.View.{view};
 ghost use Rattle.ga_dap_queries.specs.Readings.{exception_filter, exception_object, exception_of};
 
-use ga_dap_views::named_doing;
+use ga_dap_views::thread_title;
 use ga_grid::NodeId;
 use ga_lab::Lab;
 use serde_json::{Value, json};
@@ -42,7 +42,7 @@ pub fn exception_info(
 ) -> Result<Value, AllocError>
     ensures { IfOk result (λ v. view v ≡ exception_of lab.now stuck node.number) }
 {
-    let description = named_doing(alloc, "node ", lab, node)?;
+    let description = thread_title(alloc, "node ", lab, node)?;
     described(
         alloc,
         filter_of(lab.node(node).stop(), stuck),

@@ -2,8 +2,8 @@
 
 ghost use Rattle.std.specs.Prelude.{◌≡◌, ◌≤◌, option_map, IfSome};
 ghost use Rattle.serde_json.specs.View.{view};
-ghost use Rattle.ga_scheduler.specs.Schedules.{at_random};
-ghost use Rattle.ga_dap_queries.specs.Launching.{limit_asked, seed_asked, schedule_asked, stops_on_entry};
+ghost use Rattle.ga_scheduler.specs.Schedules.{random};
+ghost use Rattle.ga_dap_queries.specs.Launching.{parse_limit, seed_asked, parse_schedule, stops_on_entry};
 
 use crate::arguments::flag_at;
 use ga_dap_protocol::{number_at, text_at};
@@ -14,8 +14,8 @@ use serde_json::Value;
 const USUAL_LIMIT: u64 = 4_000_000;
 
 /// How many events are to be kept at most, where that can be.
-pub fn limit_asked(arguments: &Value) -> Option<u32>
-    ensures value { result ≡ limit_asked (view arguments.now) }
+pub fn parse_limit(arguments: &Value) -> Option<u32>
+    ensures value { result ≡ parse_limit (view arguments.now) }
     ensures most { IfSome result (λ limit. limit ≤ 4000000) }
 {
     if arguments.get("limit").is_none() {
@@ -40,26 +40,26 @@ fn seed_asked(arguments: &Value) -> Option<u32>
 
 /// An order that is drawn, where its seed can be.
 fn drawn_order(arguments: &Value) -> Option<Schedule>
-    ensures { result ≡ option_map at_random (seed_asked (view arguments.now)) }
+    ensures { result ≡ option_map random (seed_asked (view arguments.now)) }
 {
     match seed_asked(arguments) {
-        Some(seed) => Some(Schedule::at_random(u64::from(seed))),
+        Some(seed) => Some(Schedule::random(u64::from(seed))),
         None => None,
     }
 }
 
 /// The order in which the nodes are to make their events, where there is such a one.
-pub fn schedule_asked(arguments: &Value) -> Option<Schedule>
-    ensures { result ≡ schedule_asked (view arguments.now) }
+pub fn parse_schedule(arguments: &Value) -> Option<Schedule>
+    ensures { result ≡ parse_schedule (view arguments.now) }
 {
     if arguments.get("order").is_none() {
-        return Some(Schedule::in_rounds());
+        return Some(Schedule::round_robin());
     }
     let order = text_at(arguments, "order")?;
     if order == "rounds" {
-        Some(Schedule::in_rounds())
+        Some(Schedule::round_robin())
     } else if order == "greedy" {
-        Some(Schedule::greedily())
+        Some(Schedule::greedy())
     } else if order == "random" {
         drawn_order(arguments)
     } else {

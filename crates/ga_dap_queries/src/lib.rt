@@ -15,16 +15,20 @@ mod stuck;
 mod telling;
 mod watching;
 
-pub use arguments::{framed_node_asked, node_asked, values_at};
+pub use arguments::{framed_node_asked, thread_argument, values_at};
 pub use capabilities::initialize;
 pub use debuggee::Debuggee;
-pub use disassembling::{cell_referred, cells_on, offset_at, tell_instructions};
+pub use disassembling::{addresses_after, offset_at, resolve_memory_reference, tell_instructions};
 pub use evaluating::{asked_variable, evaluate};
 pub use exceptions::exception_info;
-pub use launch::{limit_asked, schedule_asked, stops_on_entry};
+pub use launch::{parse_limit, parse_schedule, stops_on_entry};
 pub use naming::add_name;
-pub use readings::{tell_exception, tell_scopes, tell_stack, tell_threads, tell_variables};
-pub use request_name::{RequestName, request_named};
-pub use stuck::is_stuck;
-pub use telling::{first_shown, shown_nodes, tell_changed, tell_hit, tell_output, tell_stopped};
+pub use readings::{
+    respond_scopes, respond_stack_trace, respond_threads, respond_variables, tell_exception,
+};
+pub use request_name::{RequestName, parse_request_name};
+pub use stuck::is_deadlocked;
+pub use telling::{
+    emit_breakpoint_hit, emit_output, emit_stopped, emit_thread_changes, first_shown, shown_nodes,
+};
 pub use watching::tell_data_info;

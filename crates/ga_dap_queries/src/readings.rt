@@ -6,10 +6,10 @@ ghost use Rattle.ga_dap_queries.specs.Sending.{Sends, Message};
 ghost use Rattle.ga_dap_views.specs.Variables.{is_memory_scope};
 ghost use Rattle.ga_dap_queries.specs.Readings.{is_kind_asked, no_variables, variables_asked, TellsVariables, AnswersThreads, AnswersStack, AnswersScopes, AnswersVariables, AnswersException};
 
-use crate::arguments::{framed_node_asked, node_asked, number_given_or, scope_asked};
+use crate::arguments::{framed_node_asked, number_given_or, scope_argument, thread_argument};
 use crate::debuggee::Debuggee;
 use crate::exceptions::exception_info;
-use crate::stuck::is_stuck;
+use crate::stuck::is_deadlocked;
 use ga_dap_protocol::{ClientRequest, Outbox, text_at};
 use ga_dap_views::{Scope, scopes, stack_trace, threads, variables};
 use ga_grid::NodeId;
@@ -19,7 +19,7 @@ use std::alloc::{AllocError, Global};
 
 /// `threads`.
 #[tactic(auto, using(crate::proofs::Sent::ok_then, crate::proofs::Sent::answers_so))]
-pub fn tell_threads(
+pub fn respond_threads(
     alloc: Global,
     program: &Debuggee,
     request: &ClientRequest,
@@ -33,7 +33,7 @@ pub fn tell_threads(
 }
 
 /// `stackTrace`.
-pub fn tell_stack(
+pub fn respond_stack_trace(
     alloc: Global,
     program: &Debuggee,
     request: &ClientRequest,
@@ -42,7 +42,7 @@ pub fn tell_stack(
     ensures sent { OnOk result ((message : Message) × AnswersStack program.now request.now message × Sends out.old message out.new) }
     ensures err { OnErr result (out.new ≡ out.old) }
 {
-    match node_asked(&request.arguments) {
+    match thread_argument(&request.arguments) {
         None => out.refuse(request, "stackTrace: no such thread"),
         Some(node) => {
             let start = number_given_or(&request.arguments, "startFrame", 0);
@@ -55,7 +55,7 @@ pub fn tell_stack(
 }
 
 /// `scopes`.
-pub fn tell_scopes(
+pub fn respond_scopes(
     alloc: Global,
     request: &ClientRequest,
     out: &mut Outbox,
@@ -73,7 +73,7 @@ pub fn tell_scopes(
 }
 
 /// `variables`.
-pub fn tell_variables(
+pub fn respond_variables(
     alloc: Global,
     program: &Debuggee,
     request: &ClientRequest,
@@ -82,7 +82,7 @@ pub fn tell_variables(
     ensures sent { OnOk result ((message : Message) × AnswersVariables program.now request.now message × Sends out.old message out.new) }
     ensures err { OnErr result (out.new ≡ out.old) }
 {
-    match scope_asked(&request.arguments) {
+    match scope_argument(&request.arguments) {
         None => out.refuse(request, "variables: no such reference"),
         Some(at) => tell_variables_at(alloc, program, request, at, out),
     }
@@ -151,7 +151,7 @@ fn tell_variables_at(
 {
     let start = number_given_or(&request.arguments, "start", 0);
     let count = number_given_or(&request.arguments, "count", 0);
-    let stuck = is_stuck(program.lab.chip(), at.0);
+    let stuck = is_deadlocked(program.lab.chip(), at.0);
     let asked = is_kind_asked(at.1, text_at(&request.arguments, "filter"));
     let body = variables_asked(alloc, &program.lab, asked, stuck, at, start, count)?;
     out.respond(request, body)
@@ -167,10 +167,10 @@ pub fn tell_exception(
     ensures sent { OnOk result ((message : Message) × AnswersException program.now request.now message × Sends out.old message out.new) }
     ensures err { OnErr result (out.new ≡ out.old) }
 {
-    match node_asked(&request.arguments) {
+    match thread_argument(&request.arguments) {
         None => out.refuse(request, "exceptionInfo: no such thread"),
         Some(node) => {
-            let stuck = is_stuck(program.lab.chip(), node);
+            let stuck = is_deadlocked(program.lab.chip(), node);
             let body = exception_info(alloc, &program.lab, stuck, node)?;
             out.respond(request, body)
         }

@@ -105,7 +105,7 @@ fn command_at(place: usize) -> RequestName
 }
 
 /// The request of a name, where it is known.
-pub fn request_named(name: &str) -> Option<RequestName>
+pub fn parse_request_name(name: &str) -> Option<RequestName>
     ensures found { IfSome result (λ command. command_name command ≡ name.now) }
     ensures none { IfNone result ((command : ACommand) → command_name command ≢ name.now) }
 {

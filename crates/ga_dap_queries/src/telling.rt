@@ -23,7 +23,7 @@ fn output_body(alloc: Global, category: &str, text: &str) -> Result<Value, Alloc
 }
 
 /// `output` (Debug Adapter Protocol, "OutputEvent").
-pub fn tell_output(
+pub fn emit_output(
     alloc: Global,
     category: &str,
     text: &str,
@@ -33,7 +33,7 @@ pub fn tell_output(
     ensures err { OnErr result (out.new ≡ out.old) }
 {
     let body = output_body(alloc, category, text)?;
-    out.tell("output", body)
+    out.add_event("output", body)
 }
 
 fn thread_reason(started: bool) -> &'static str
@@ -50,7 +50,7 @@ fn thread_body(alloc: Global, reason: &str, node: NodeId) -> Result<Value, Alloc
 }
 
 /// `thread` (Debug Adapter Protocol, "ThreadEvent").
-pub fn tell_thread(
+pub fn emit_thread(
     alloc: Global,
     started: bool,
     node: NodeId,
@@ -60,7 +60,7 @@ pub fn tell_thread(
     ensures err { OnErr result (out.new ≡ out.old) }
 {
     let body = thread_body(alloc, thread_reason(started), node)?;
-    out.tell("thread", body)
+    out.add_event("thread", body)
 }
 
 /// The nodes that have something to show.
@@ -78,7 +78,7 @@ pub fn shown_nodes(lab: &Lab, programs: &[NodeId]) -> [bool; 144]
 
 /// Sends the nodes that have something to show and had not, and the other way round.
 #[tactic(auto, using(crate::proofs::Sent::none_changed, crate::proofs::Sent::next_changed))]
-pub fn tell_changed(
+pub fn emit_thread_changes(
     alloc: Global,
     before: &[bool; 144],
     now: &[bool; 144],
@@ -112,8 +112,8 @@ fn tell_if_changed(
     ensures sent { OnOk result (SendsAll out.old (changed_messages before now node.number) out.new) }
 {
     match (before, now) {
-        (false, true) => tell_thread(alloc, true, node, out),
-        (true, false) => tell_thread(alloc, false, node, out),
+        (false, true) => emit_thread(alloc, true, node, out),
+        (true, false) => emit_thread(alloc, false, node, out),
         (false, false) => Ok(()),
         (true, true) => Ok(()),
     }
@@ -151,7 +151,7 @@ fn stopped_body(
 }
 
 /// `stopped` (Debug Adapter Protocol, "StoppedEvent"): the chip is stopped.
-pub fn tell_stopped(
+pub fn emit_stopped(
     alloc: Global,
     reason: &str,
     description: &str,
@@ -162,7 +162,7 @@ pub fn tell_stopped(
     ensures err { OnErr result (out.new ≡ out.old) }
 {
     let body = stopped_body(alloc, reason, description, node)?;
-    out.tell("stopped", body)
+    out.add_event("stopped", body)
 }
 
 /// The numbers of some breakpoints.
@@ -211,7 +211,7 @@ fn hit_body(
 }
 
 /// `stopped` at breakpoints (Debug Adapter Protocol, "StoppedEvent"): the chip is stopped.
-pub fn tell_hit(
+pub fn emit_breakpoint_hit(
     alloc: Global,
     reason: &str,
     description: &str,
@@ -223,5 +223,5 @@ pub fn tell_hit(
     ensures err { OnErr result (out.new ≡ out.old) }
 {
     let body = hit_body(alloc, reason, description, node, ids)?;
-    out.tell("stopped", body)
+    out.add_event("stopped", body)
 }

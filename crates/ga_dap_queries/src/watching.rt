@@ -12,12 +12,12 @@ ghost use Rattle.ga_dap_views.specs.declared.variable.Variable.TheVariants.{Cell
 ghost use Rattle.ga_dap_queries.specs.Sending.{Sends, Message};
 ghost use Rattle.ga_dap_queries.specs.Watching.{watched_object, unwatched_object, cell_description, ram_cell_named, watched_cell, watched_in, watched_of_scope, AnswersDataInfo};
 
-use crate::arguments::scope_asked;
+use crate::arguments::scope_argument;
 use crate::naming::add_name;
 use ga_dap_protocol::{ClientRequest, Outbox, text_at};
 use ga_dap_views::{Scope, chip_address};
 use ga_grid::NodeId;
-use ga_text::byte_of;
+use ga_text::parse_hex_byte;
 use serde_json::{Value, json};
 use std::alloc::{AllocError, Global};
 
@@ -94,7 +94,7 @@ fn cell_in_brackets(text: &[u8]) -> Option<u8>
     ensures { option_map (λ cell. Cell cell) result ≡ cell_in_brackets text.now }
 {
     if text.len() == 4 && text[0] == b'[' && text[3] == b']' {
-        byte_of(&text[1..3])
+        parse_hex_byte(&text[1..3])
     } else {
         None
     }
@@ -179,7 +179,7 @@ pub fn tell_data_info(
     ensures sent { OnOk result ((message : Message) × AnswersDataInfo request.now message × Sends out.old message out.new) }
     ensures err { OnErr result (out.new ≡ out.old) }
 {
-    let at = scope_asked(&request.arguments);
+    let at = scope_argument(&request.arguments);
     let body = watched_of_scope(alloc, at, text_at(&request.arguments, "name"))?;
     out.respond(request, body)
 }

@@ -10,7 +10,7 @@ use Rattle.serde_json.specs.declared.value.Value.{Value}
 use Rattle.ga_grid.specs.declared.node_id.NodeId.{NodeId}
 use Rattle.ga_lab.specs.Machine.{State}
 use Rattle.ga_dap_views.specs.Threads.{has_thread, thread_in, with_threads}
-use Rattle.ga_debug_info.specs.declared.notes.Notes.{Notes}
+use Rattle.ga_debug_info.specs.declared.notes.DebugInfo.{DebugInfo}
 use Rattle.ga_dap_views.specs.declared.frames.SourceFile.{SourceFile}
 use Rattle.ga_dap_views.specs.Calls.{open_calls}
 use Rattle.ga_dap_views.specs.Frames.{frame, level_spot, stack_object, stack_trace}
@@ -82,7 +82,7 @@ places_so first end total start count at size =
     ∙ ap (λ (z : ℕ). range_with_len z many) at
     ∙ from_min total start many few
 
-pub stack_so : (file : SourceFile) (notes : Notes) (s : State) (node : NodeId) (start count total : ℕ) (list : List Data) (range : List ℕ) → total ≡ length (open_calls s node) + 1
+pub stack_so : (file : SourceFile) (notes : DebugInfo) (s : State) (node : NodeId) (start count total : ℕ) (list : List Data) (range : List ℕ) → total ≡ length (open_calls s node) + 1
     → list ≡ map (λ (k : ℕ). frame file notes node k (level_spot s node k)) range → range ≡ places_asked total start count
     → stack_object (array (items_of list)) total ≡ stack_trace file notes s node start count
 stack_so file notes s node start count total list range many are places =

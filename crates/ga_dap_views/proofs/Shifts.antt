@@ -10,12 +10,12 @@ use Rattle.ga_ports.specs.declared.address.Target.{Target}
 use Rattle.ga_ports.specs.declared.address.Target.TheVariants as target
 use Rattle.ga_node.specs.Record.{NodeRecord}
 use Rattle.ga_node.specs.Changes.{Change}
-use Rattle.ga_node.specs.Table.{Access, Plain, Reads, Writes, t, r, is_extended, found, stored, followed, carried_out, does, fetches, due_of, posts, halts, with_kind, done_by, own_event, own}
+use Rattle.ga_node.specs.Table.{Access, Plain, Reads, Writes, t, r, is_extended, found, stored, followed, carried_out, opcode_effect, fetches, next_action_of, posts, stop_effect, with_kind, done_by, own_event, own}
 use Rattle.ga_node.specs.declared.kind.Kind.{Kind}
 use Rattle.ga_node.specs.declared.kind.Kind.TheVariants as kind
 use Rattle.ga_node.specs.declared.seen.Seen.{Seen}
-use Rattle.ga_node.specs.declared.due.Due.{Due}
-use Rattle.ga_node.specs.declared.due.Due.TheVariants as due
+use Rattle.ga_node.specs.declared.due.NextAction.{NextAction}
+use Rattle.ga_node.specs.declared.due.NextAction.TheVariants as due
 use Rattle.ga_node.specs.declared.wait.Wait.{Wait}
 use Rattle.ga_node.specs.declared.wait.Wait.TheVariants as wait
 use Rattle.ga_node.specs.declared.wait.Reader.{Reader}
@@ -29,8 +29,8 @@ use Rattle.ga_event.specs.Flow.{Flow, Flows, Same, Move, PushData, PopData, Push
 use Rattle.ga_provenance.specs.Origins.{node_after, flow_told, flow_at}
 use Rattle.ga_provenance.proofs.Ran.{WasNext, ran_so}
 use Rattle.ga_dap_views.specs.Calls.{kept_from, is_call_op, is_call, is_calling}
-use Rattle.ga_dap_views.specs.declared.calls.Shift.{Shift}
-use Rattle.ga_dap_views.specs.declared.calls.Shift.TheVariants as shift
+use Rattle.ga_dap_views.specs.declared.calls.ReturnStackEffect.{ReturnStackEffect}
+use Rattle.ga_dap_views.specs.declared.calls.ReturnStackEffect.TheVariants as shift
 use Rattle.ga_dap_views.specs.inner.{shift_op, shift_kind, shift_told, shift_at, entry_before, is_calls}
 
 -- ---- one entry
@@ -139,7 +139,7 @@ write_told ran (target.Rom c) n more last is = is
 write_told ran target.Io n more last is = is
 write_told ran (target.Ports sides) n more last is = at_port (is_single sides)
   where
-    at_port : (single : Bool) → shift_kind (cond single (posts (wait.Write (side_of sides))) (halts 1)).0 last ≡ shift.Stays
+    at_port : (single : Bool) → shift_kind (cond single (posts (wait.Write (side_of sides))) (stop_effect 1)).0 last ≡ shift.Stays
     at_port true = refl
     at_port false = refl
 write_told ran target.Bad n more last is = refl
@@ -152,13 +152,13 @@ all_told ran reader (Writes address more) seen n last is = write_told ran (class
 
 -- ---- each opcode
 
-abbrev Shifts : Due → Seen → NodeRecord → ℕ → Type 0
+abbrev Shifts : NextAction → Seen → NodeRecord → ℕ → Type 0
 Shifts what seen n p = kept_from (moved_all (moves_by what n) Same (Return p)) p ≡ entry_before (shift_kind (done_by what seen n).0 (r n == 0)) p
 
 rests : (o : Op) (seen : Seen) (n : NodeRecord) (p : ℕ) → all_keep (moves o n) ≡ true → shift_kind (kind.Run (code_of o)) (r n == 0) ≡ shift.Stays → Shifts (due.Run o) seen n p
 rests o seen n p keep is =
     ap (λ (f : Flow). kept_from f p) (stays_over (moves o n) Same p keep) ∙ stays p
-    ∙ sym (ap (λ (z : Shift). entry_before z p) (all_told (kind.Run (code_of o)) Stack (does o n) seen n (r n == 0) is))
+    ∙ sym (ap (λ (z : ReturnStackEffect). entry_before z p) (all_told (kind.Run (code_of o)) Stack (opcode_effect o n) seen n (r n == 0) is))
 
 counts : (last : Bool) (p : ℕ) (ends goes : List Move) → kept_from (moved_all ends Same (Return p)) p ≡ entry_before shift.Pops p
     → kept_from (moved_all goes Same (Return p)) p ≡ entry_before shift.Replaces p
@@ -188,16 +188,16 @@ op_shifts op.StoreB seen n p = rests op.StoreB seen n p (keep_write (classified 
 op_shifts op.Store seen n p = rests op.Store seen n p (keep_write (classified n.a) (PopData ∷ GoOn ∷ []) refl) refl
 op_shifts o seen n p = rests o seen n p refl refl
 
-due_shifts : (what : Due) (seen : Seen) (n : NodeRecord) (p : ℕ) → Shifts what seen n p
+due_shifts : (what : NextAction) (seen : Seen) (n : NodeRecord) (p : ℕ) → Shifts what seen n p
 unfolding keeps all_keep
 due_shifts due.Fetch seen n p =
     ap (λ (f : Flow). kept_from f p) (stays_over (moves_by due.Fetch n) Same p (keep_read (classified n.p) (λ word. SetI word ∷ SetP (from P) ∷ StartAgain ∷ []) (λ word. refl))) ∙ stays p
-    ∙ sym (ap (λ (z : Shift). entry_before z p) (all_told kind.Fetch Instruction (fetches n) seen n (r n == 0) refl))
+    ∙ sym (ap (λ (z : ReturnStackEffect). entry_before z p) (all_told kind.Fetch Instruction (fetches n) seen n (r n == 0) refl))
 due_shifts (due.Run o) seen n p = op_shifts o seen n p
 
 own_shifts : (seen : Seen) (n : NodeRecord) (p : ℕ) → kept_from (own_flow n (Return p)) p ≡ entry_before (shift_kind (own seen n).0 (r n == 0)) p
 unfolding own_flow own own_event
-own_shifts seen n p = due_shifts (due_of n) seen n p
+own_shifts seen n p = due_shifts (next_action_of n) seen n p
 
 -- ---- both ends of a pass
 

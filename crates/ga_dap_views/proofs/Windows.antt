@@ -7,11 +7,11 @@ use Rattle.std.proofs.lemmas.List.{map-append}
 use Rattle.std.proofs.lemmas.List.FromFn.{filter_of_map_range_with_len_more}
 use Rattle.ga_grid.specs.declared.node_id.NodeId.{NodeId}
 use Rattle.ga_lab.specs.Machine.{State}
-use Rattle.ga_dap_views.specs.Calls.{put_by, is_calling, open_call}
+use Rattle.ga_dap_views.specs.Calls.{pushed_by_step, is_calling, open_call}
 use Rattle.ga_dap_views.specs.declared.calls.OpenCall.{OpenCall}
 use Rattle.ga_dap_views.specs.declared.calls.Window.{Window}
-use Rattle.ga_dap_views.specs.declared.calls.Shift.{Shift}
-use Rattle.ga_dap_views.specs.declared.calls.Shift.TheVariants as shift
+use Rattle.ga_dap_views.specs.declared.calls.ReturnStackEffect.{ReturnStackEffect}
+use Rattle.ga_dap_views.specs.declared.calls.ReturnStackEffect.TheVariants as shift
 use Rattle.ga_dap_views.specs.inner.{shift_at, entry_before, is_calls, picked, put_first, IsBefore}
 use Rattle.ga_dap_views.proofs.Shifts.{shifted, calls_so}
 
@@ -27,14 +27,14 @@ same_picked : (calls : ℕ → Bool) (f g : ℕ → ℕ) (a b n : ℕ) → ((i :
 same_picked calls f g a b n same = ap (filter calls) (same_map f g a b n same)
 
 -- where an entry comes from, by what the step did
-abbrev came : Shift → (ℕ → ℕ) → ℕ → ℕ → ℕ
+abbrev came : ReturnStackEffect → (ℕ → ℕ) → ℕ → ℕ → ℕ
 came by f new p = unwrap_or (option_map f (entry_before by p)) new
 
-came_from : (by : Shift) (f : ℕ → ℕ) (new p from : ℕ) → entry_before by p ≡ Some from → came by f new p ≡ f from
+came_from : (by : ReturnStackEffect) (f : ℕ → ℕ) (new p from : ℕ) → entry_before by p ≡ Some from → came by f new p ≡ f from
 came_from by f new p from is = ap (λ (o : Option ℕ). unwrap_or (option_map f o) new) is
 
 -- none of them is new
-pub all_before : (by : Shift) (calls : ℕ → Bool) (f : ℕ → ℕ) (new a b n : ℕ) → put_first by a new ≡ [] → ((i : ℕ) → i < n → entry_before by (a + i) ≡ Some (b + i))
+pub all_before : (by : ReturnStackEffect) (calls : ℕ → Bool) (f : ℕ → ℕ) (new a b n : ℕ) → put_first by a new ≡ [] → ((i : ℕ) → i < n → entry_before by (a + i) ≡ Some (b + i))
     → picked calls (came by f new) a n ≡ put_first by a new ++ picked calls f b n
 all_before by calls f new a b n none moves =
     same_picked calls (came by f new) f a b n (λ i lt. came_from by f new (a + i) (b + i) (moves i lt)) ∙ ap (λ (xs : List ℕ). xs ++ picked calls f b n) (sym none)
@@ -44,7 +44,7 @@ with_first true new rest = refl
 with_first false new rest = refl
 
 -- the first of them is new
-pub first_new : (by : Shift) (calls : ℕ → Bool) (f : ℕ → ℕ) (new a b n m : ℕ) → a ≡ 0 → n ≡ suc m → calls new ≡ is_calls by → entry_before by 0 ≡ None
+pub first_new : (by : ReturnStackEffect) (calls : ℕ → Bool) (f : ℕ → ℕ) (new a b n m : ℕ) → a ≡ 0 → n ≡ suc m → calls new ≡ is_calls by → entry_before by 0 ≡ None
     → ((i : ℕ) → i < m → entry_before by (1 + i) ≡ Some (b + i)) → picked calls (came by f new) a n ≡ put_first by a new ++ picked calls f b m
 first_new by calls f new a b n m top more called none moves =
     let g = came by f new in
@@ -67,7 +67,7 @@ stays_put : (some other : Option ℕ) (p : ℕ) → 0 < p → cond (p == 0) some
 stays_put some other p below = ap (λ (b : Bool). cond b some other) (below_top p below)
 
 -- the window begins below the top
-pub none_first : (by : Shift) (a new : ℕ) → 0 < a → put_first by a new ≡ []
+pub none_first : (by : ReturnStackEffect) (a new : ℕ) → 0 < a → put_first by a new ≡ []
 none_first by a new some = go (is_calls by)
   where
     go : (called : Bool) → cond (called && (a == 0)) (new ∷ []) [] ≡ []
@@ -99,18 +99,18 @@ last_copy calls f new a n m more last called =
     ∙ append-nil (picked calls g a m)
     ∙ rest
 
-open_back : (s : State) (node : NodeId) (k a n : ℕ) (by : Shift) → by ≡ shift_at s node.number k
-    → picked (is_calling s node) (put_by s node (suc k)) a n ≡ picked (is_calling s node) (came by (put_by s node k) (suc k)) a n
+open_back : (s : State) (node : NodeId) (k a n : ℕ) (by : ReturnStackEffect) → by ≡ shift_at s node.number k
+    → picked (is_calling s node) (pushed_by_step s node (suc k)) a n ≡ picked (is_calling s node) (came by (pushed_by_step s node k) (suc k)) a n
 open_back s node k a n by is =
-    same_picked (is_calling s node) (put_by s node (suc k)) (came by (put_by s node k) (suc k)) a a n
-    (λ i lt. ap (λ (o : Option ℕ). unwrap_or (option_map (put_by s node k) o) (suc k)) (shifted s node.number k (a + i) ∙ ap (λ (z : Shift). entry_before z (a + i)) (sym is)))
+    same_picked (is_calling s node) (pushed_by_step s node (suc k)) (came by (pushed_by_step s node k) (suc k)) a a n
+    (λ i lt. ap (λ (o : Option ℕ). unwrap_or (option_map (pushed_by_step s node k) o) (suc k)) (shifted s node.number k (a + i) ∙ ap (λ (z : ReturnStackEffect). entry_before z (a + i)) (sym is)))
 
 -- the calls that are listed, and those still to be followed
 abbrev pub Follows : State → NodeId → List OpenCall → List OpenCall → ℕ → ℕ → ℕ → Type 0
-Follows s node all told step a n = all ≡ told ++ map (open_call s node) (picked (is_calling s node) (put_by s node step) a n)
+Follows s node all told step a n = all ≡ told ++ map (open_call s node) (picked (is_calling s node) (pushed_by_step s node step) a n)
 
 -- over a step
-pub call_on : (s : State) (node : NodeId) (step : ℕ) (by : Shift) (window before : Window) (all told more : List OpenCall) → 0 < step → by ≡ shift_at s node.number (step - 1)
+pub call_on : (s : State) (node : NodeId) (step : ℕ) (by : ReturnStackEffect) (window before : Window) (all told more : List OpenCall) → 0 < step → by ≡ shift_at s node.number (step - 1)
     → IsBefore by window before → Follows s node all told step window.place window.left → more ≡ told ++ map (open_call s node) (put_first by window.place step)
     → Follows s node all more (step - 1) before.place before.left
 call_on s node step by window before all told more some is moves follows grown =
@@ -118,11 +118,11 @@ call_on s node step by window before all told more some is moves follows grown =
     let at : step ≡ suc k = omega arith in
     let calling = is_calling s node in
     let f = open_call s node in
-    let rest : List ℕ = picked calling (put_by s node k) before.place before.left in
+    let rest : List ℕ = picked calling (pushed_by_step s node k) before.place before.left in
     follows
-    ∙ ap (λ (z : ℕ). told ++ map f (picked calling (put_by s node z) window.place window.left)) at
+    ∙ ap (λ (z : ℕ). told ++ map f (picked calling (pushed_by_step s node z) window.place window.left)) at
     ∙ ap (λ (z : List ℕ). told ++ map f z) (open_back s node k window.place window.left by is)
-    ∙ ap (λ (z : List ℕ). told ++ map f z) (moves calling (put_by s node k) (suc k) (calls_so s node k ∙ ap is_calls (sym is)))
+    ∙ ap (λ (z : List ℕ). told ++ map f z) (moves calling (pushed_by_step s node k) (suc k) (calls_so s node k ∙ ap is_calls (sym is)))
     ∙ ap (λ (z : List OpenCall). told ++ z) (map-append f (put_first by window.place (suc k)) rest)
     ∙ sym (append_assoc told (map f (put_first by window.place (suc k))) (map f rest))
     ∙ ap (λ (z : ℕ). (told ++ map f (put_first by window.place z)) ++ map f rest) (sym at)
@@ -131,22 +131,22 @@ call_on s node step by window before all told more some is moves follows grown =
 -- nothing is left of a window, and nothing is put by none of the steps
 pub none_left : (s : State) (node : NodeId) (all told : List OpenCall) (step a n : ℕ) → n ≡ 0 → Follows s node all told step a n → told ≡ all
 none_left s node all told step a n none follows =
-    sym (follows ∙ ap (λ (z : ℕ). told ++ map (open_call s node) (picked (is_calling s node) (put_by s node step) a z)) none ∙ append-nil told)
+    sym (follows ∙ ap (λ (z : ℕ). told ++ map (open_call s node) (picked (is_calling s node) (pushed_by_step s node step) a z)) none ∙ append-nil told)
 
-none_put : (s : State) (node : NodeId) (a n : ℕ) → picked (is_calling s node) (put_by s node 0) a n ≡ []
+none_put : (s : State) (node : NodeId) (a n : ℕ) → picked (is_calling s node) (pushed_by_step s node 0) a n ≡ []
 none_put s node a zero = refl
 none_put s node a (suc n) = none_put s node (a + 1) n
 
 pub none_before : (s : State) (node : NodeId) (all told : List OpenCall) (step a n : ℕ) → step ≡ 0 → Follows s node all told step a n → told ≡ all
 none_before s node all told step a n first follows =
     sym (follows
-    ∙ ap (λ (z : ℕ). told ++ map (open_call s node) (picked (is_calling s node) (put_by s node z) a n)) first
+    ∙ ap (λ (z : ℕ). told ++ map (open_call s node) (picked (is_calling s node) (pushed_by_step s node z) a n)) first
     ∙ ap (λ (z : List ℕ). told ++ map (open_call s node) z) (none_put s node a n)
     ∙ append-nil told)
 
 -- the new entry is that of a call and first in the window, or it is not
-pub put_none : (by : Shift) (a new : ℕ) → (is_calls by && a == 0) ≡ false → put_first by a new ≡ []
+pub put_none : (by : ReturnStackEffect) (a new : ℕ) → (is_calls by && a == 0) ≡ false → put_first by a new ≡ []
 put_none by a new is = ap (λ (b : Bool). cond b (new ∷ []) []) is
 
-pub put_one : (by : Shift) (a new : ℕ) → (is_calls by && a == 0) ≡ true → put_first by a new ≡ new ∷ []
+pub put_one : (by : ReturnStackEffect) (a new : ℕ) → (is_calls by && a == 0) ≡ true → put_first by a new ≡ new ∷ []
 put_one by a new is = ap (λ (b : Bool). cond b (new ∷ []) []) is

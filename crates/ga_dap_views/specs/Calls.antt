@@ -15,7 +15,7 @@ use Rattle.ga_event.specs.declared.flow.part.Part.TheVariants as part
 use Rattle.ga_event.specs.Flow.{Flow, Same}
 use Rattle.ga_provenance.specs.Origins.{flow_at}
 use Rattle.ga_dap_views.specs.declared.calls.OpenCall.{OpenCall}
-use Rattle.ga_dap_views.specs.Spots.{spot_behind}
+use Rattle.ga_dap_views.specs.Spots.{slot_address_after}
 
 -- The place of an entry on the return stack before a step, by its place after the step. The words are in a ring: a pop leaves a
 -- copy of the second word in the last place, which is no entry. A word that was pushed, exchanged or counted down is a new one.
@@ -24,14 +24,14 @@ kept_from (Same (part.Return from)) place = if place == 8 && from == 1 then None
 kept_from _ place = None
 
 -- for each place of the return stack, the place that its entry after a node's step k + 1 had before the step
-abbrev pub entries_from : State → NodeId → ℕ → List (Option ℕ)
-entries_from s node k = map (λ place. kept_from (flow_at s node.number k (part.Return place)) place) (range_with_len 0 9)
+abbrev pub return_entry_sources : State → NodeId → ℕ → List (Option ℕ)
+return_entry_sources s node k = map (λ place. kept_from (flow_at s node.number k (part.Return place)) place) (range_with_len 0 9)
 
 -- Which of a node's first steps put the entry that is at a place after them; 0 if it was there at load.
-abbrev pub put_by : State → NodeId → ℕ → ℕ → ℕ
-put_by s node zero place = 0
-put_by s node (suc k) place =
-    unwrap_or (option_map (put_by s node k) (kept_from (flow_at s node.number k (part.Return place)) place)) (suc k)
+abbrev pub pushed_by_step : State → NodeId → ℕ → ℕ → ℕ
+pushed_by_step s node zero place = 0
+pushed_by_step s node (suc k) place =
+    unwrap_or (option_map (pushed_by_step s node k) (kept_from (flow_at s node.number k (part.Return place)) place)) (suc k)
 
 -- whether a step, as made, is a call
 abbrev pub is_call_op : Op → Bool
@@ -49,11 +49,11 @@ is_calling s node (suc k) = is_call (slice_get (history_of s node.number) k)
 -- A call is open while the address that it put on the return stack is there: the numbers of such steps, the newest first. The
 -- stack has nine places.
 abbrev pub open_steps : State → NodeId → ℕ → List ℕ
-open_steps s node step = filter (is_calling s node) (map (put_by s node step) (range_with_len 0 9))
+open_steps s node step = filter (is_calling s node) (map (pushed_by_step s node step) (range_with_len 0 9))
 
 -- an open call, with the node's position before its step
 abbrev pub open_call : State → NodeId → ℕ → OpenCall
-open_call s node step = record { step = step; at = spot_behind s node (step - 1) }
+open_call s node step = record { step = step; at = slot_address_after s node (step - 1) }
 
 abbrev pub open_calls : State → NodeId → List OpenCall
 open_calls s node = map (open_call s node) (open_steps s node (steps_of node.number s.kept))

@@ -8,14 +8,14 @@ use Rattle.ga_text.specs.Digits.{decimal3_of}
 use Rattle.ga_grid.specs.Grid.{yxx_of}
 use Rattle.ga_grid.specs.declared.node_id.NodeId.{NodeId}
 use Rattle.ga_lab.specs.Machine.{State}
-use Rattle.ga_debug_info.specs.declared.notes.Notes.{Notes}
+use Rattle.ga_debug_info.specs.declared.notes.DebugInfo.{DebugInfo}
 use Rattle.ga_debug_info.specs.declared.wording.SlotWord.{SlotWord}
-use Rattle.ga_dap_views.specs.declared.spots.Spot.{Spot}
+use Rattle.ga_dap_views.specs.declared.spots.SlotAddress.{SlotAddress}
 use Rattle.ga_dap_views.specs.declared.calls.OpenCall.{OpenCall}
 use Rattle.ga_dap_views.specs.declared.frames.SourceFile.{SourceFile}
 use Rattle.ga_dap_views.specs.Calls.{open_calls}
 use Rattle.ga_dap_views.specs.Json.{whole_number, array_of}
-use Rattle.ga_dap_views.specs.Labels.{cell_words, spot_word}
+use Rattle.ga_dap_views.specs.Labels.{cell_words, source_word_of_slot}
 use Rattle.ga_dap_views.specs.Numbers.{frame_of, chip_address}
 use Rattle.ga_dap_views.specs.Spots.{present_spot}
 use Rattle.ga_dap_views.specs.Variables.{memory_reference, places_asked}
@@ -43,30 +43,30 @@ outside_frame id name =
     (member (codes "presentationHint") (string (codes "subtle")) no_members)))))
 
 -- the name of a frame
-abbrev pub place_words : Notes → NodeId → Option Spot → Text
+abbrev pub place_words : DebugInfo → NodeId → Option SlotAddress → Text
 place_words notes node None = codes "outside its memory"
 place_words notes node (Some spot) = cell_words notes node spot.cell
 
-abbrev pub frame_name : Notes → NodeId → Option Spot → Text
+abbrev pub frame_name : DebugInfo → NodeId → Option SlotAddress → Text
 frame_name notes node spot = decimal3_of (yxx_of node.number) ++ codes " " ++ place_words notes node spot
 
 abbrev pub frame_on : SourceFile → ℕ → Text → Text → Option SlotWord → Data
 frame_on file id name pointer None = bare_frame id name pointer
 frame_on file id name pointer (Some word) = lined_frame (source_object file) id name pointer word.line word.column
 
-abbrev pub frame_at : SourceFile → Notes → NodeId → ℕ → Text → Option Spot → Data
+abbrev pub frame_at : SourceFile → DebugInfo → NodeId → ℕ → Text → Option SlotAddress → Data
 frame_at file notes node id name None = outside_frame id name
-frame_at file notes node id name (Some spot) = frame_on file id name (memory_reference (chip_address node.number spot.cell)) (spot_word notes node spot)
+frame_at file notes node id name (Some spot) = frame_on file id name (memory_reference (chip_address node.number spot.cell)) (source_word_of_slot notes node spot)
 
-abbrev pub frame : SourceFile → Notes → NodeId → ℕ → Option Spot → Data
+abbrev pub frame : SourceFile → DebugInfo → NodeId → ℕ → Option SlotAddress → Data
 frame file notes node level spot = frame_at file notes node (frame_of node.number level) (frame_name notes node spot) spot
 
 -- the positions of the frames: that of the node itself, then those of the calls
-abbrev pub call_spot : Option OpenCall → Option Spot
+abbrev pub call_spot : Option OpenCall → Option SlotAddress
 call_spot None = None
 call_spot (Some call) = call.at
 
-abbrev pub level_spot : State → NodeId → ℕ → Option Spot
+abbrev pub level_spot : State → NodeId → ℕ → Option SlotAddress
 level_spot s node zero = present_spot s node
 level_spot s node (suc k) = call_spot (slice_get (open_calls s node) k)
 
@@ -74,7 +74,7 @@ level_spot s node (suc k) = call_spot (slice_get (open_calls s node) k)
 unfoldable pub stack_object : Data → ℕ → Data
 stack_object frames total = object (member (codes "stackFrames") frames (member (codes "totalFrames") (whole_number total) no_members))
 
-abbrev pub stack_trace : SourceFile → Notes → State → NodeId → ℕ → ℕ → Data
+abbrev pub stack_trace : SourceFile → DebugInfo → State → NodeId → ℕ → ℕ → Data
 stack_trace file notes s node start count =
     let total = length (open_calls s node) + 1 in
     stack_object (array_of (λ k. frame file notes node k (level_spot s node k)) (places_asked total start count)) total

@@ -1,6 +1,6 @@
 pub mod Numbers
 pub mod Json
-pub mod Doing
+pub mod Activity
 pub mod Threads
 pub mod Shown
 pub mod Variables

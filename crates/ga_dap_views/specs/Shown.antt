@@ -3,7 +3,7 @@ use Rattle.std.specs.Prelude.{ℕ, ◌+◌, ◌==◌, ◌<◌, if◌then◌else�
 use Rattle.ga_text.specs.Lines.{Text}
 use Rattle.ga_text.specs.Digits.{hex2_of}
 use Rattle.ga_ports.specs.declared.side.Side.TheVariants.{Right, Down, Left, Up}
-use Rattle.ga_dap_views.specs.Doing.{side_name}
+use Rattle.ga_dap_views.specs.Activity.{side_name}
 use Rattle.ga_dap_views.specs.declared.variable.Variable.{Variable}
 use Rattle.ga_dap_views.specs.declared.variable.Variable.TheVariants.{State, Step, P, A, B, I, Slot, Carry, Io, DataWord, ReturnWord, Cell, Neighbour, Stuck}
 use Rattle.ga_dap_views.specs.declared.scope.Scope.{Scope}

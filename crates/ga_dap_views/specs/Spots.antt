@@ -8,19 +8,19 @@ use Rattle.ga_lab.specs.Machine.{State}
 use Rattle.ga_debug_info.specs.Source.{cell_of_address}
 use Rattle.ga_provenance.specs.Origins.{node_after}
 use Rattle.ga_provenance.specs.Fetched.{fetched_cell}
-use Rattle.ga_dap_views.specs.declared.spots.Spot.{Spot}
+use Rattle.ga_dap_views.specs.declared.spots.SlotAddress.{SlotAddress}
 
-abbrev pub spot : ℕ → ℕ → Spot
-spot slot cell = record { cell = cell; slot = slot }
+abbrev pub slot_address : ℕ → ℕ → SlotAddress
+slot_address slot cell = record { cell = cell; slot = slot }
 
 -- In slot 4 a fetch is due; else the node carries out a word that was fetched from this cell, came over a port or was there at
 -- load.
-abbrev pub spot_by : NodeRecord → Option ℕ → Option Spot
-spot_by n fetched = if n.slot == 4 then option_map (spot 0) (cell_of_address n.p) else option_map (spot n.slot) fetched
+abbrev pub spot_by : NodeRecord → Option ℕ → Option SlotAddress
+spot_by n fetched = if n.slot == 4 then option_map (slot_address 0) (cell_of_address n.p) else option_map (slot_address n.slot) fetched
 
 -- the position of a node after `step` of its steps
-abbrev pub spot_behind : State → NodeId → ℕ → Option Spot
-spot_behind s node step = spot_by (node_after s node.number step) (fetched_cell s node step)
+abbrev pub slot_address_after : State → NodeId → ℕ → Option SlotAddress
+slot_address_after s node step = spot_by (node_after s node.number step) (fetched_cell s node step)
 
-abbrev pub present_spot : State → NodeId → Option Spot
-present_spot s node = spot_behind s node (steps_of node.number s.kept)
+abbrev pub present_spot : State → NodeId → Option SlotAddress
+present_spot s node = slot_address_after s node (steps_of node.number s.kept)

@@ -10,7 +10,7 @@ use Rattle.ga_grid.specs.declared.node_id.NodeId.{NodeId}
 use Rattle.ga_text.specs.Lines.{Text}
 use Rattle.ga_event.specs.Told.{steps_of}
 use Rattle.ga_lab.specs.Machine.{State, chip_of}
-use Rattle.ga_dap_views.specs.Doing.{named_activity}
+use Rattle.ga_dap_views.specs.Activity.{named_activity}
 use Rattle.ga_dap_views.specs.Json.{whole_number, array_of, object_of}
 use Rattle.ga_dap_views.specs.Numbers.{thread_of}
 

@@ -10,7 +10,7 @@ use Rattle.ga_grid.specs.Grid.{neighbour_of}
 use Rattle.ga_grid.specs.Chip.{record_at}
 use Rattle.ga_event.specs.Told.{steps_of}
 use Rattle.ga_lab.specs.Machine.{State, chip_of, word_at}
-use Rattle.ga_dap_views.specs.Doing.{activity, named_activity, valued_word}
+use Rattle.ga_dap_views.specs.Activity.{activity, named_activity, valued_word}
 use Rattle.ga_dap_views.specs.Json.{whole_number, array_of, object_of}
 use Rattle.ga_dap_views.specs.Numbers.{chip_address, reference_of}
 use Rattle.ga_dap_views.specs.Shown.{variable_count, variable_at, variable_name}

@@ -3,12 +3,12 @@
 ghost use Rattle.std.specs.Prelude.{◌≡◌, ◌<◌, ◌≤◌, ◌+◌, ◌-◌, ◌==◌, ◌&&◌, ◌++◌, Bool, length, map, IfSome, IfNone};
 ghost use Rattle.arrayvec.specs.ArrayVec.{array_vec_len};
 ghost use Rattle.ga_node.specs.Table.{r};
-ghost use Rattle.ga_lab.specs.Machine.{standing};
+ghost use Rattle.ga_lab.specs.Machine.{node_at_step};
 ghost use Rattle.ga_provenance.specs.Origins.{node_after};
 ghost use Rattle.ga_dap_views.specs.Calls.{open_call, open_calls};
 ghost use Rattle.ga_dap_views.specs.inner.{counted, shift_op, shift_at, is_calls, put_first, IsBefore};
 
-use crate::spots::{Spot, spot_back};
+use crate::spots::{SlotAddress, slot_address_at};
 use arrayvec::ArrayVec;
 use ga_grid::NodeId;
 use ga_lab::{Lab, Made, Walk};
@@ -24,12 +24,12 @@ pub struct OpenCall {
     /// The number of the call's step.
     pub step: u32,
     /// The node's position before the call's step; none if its code was in no memory.
-    pub at: Option<Spot>,
+    pub at: Option<SlotAddress>,
 }
 
 /// What a step does to the entries of the return stack.
 #[derive(Clone, Copy)]
-pub(crate) enum Shift {
+pub(crate) enum ReturnStackEffect {
     /// Each entry keeps its place.
     Stays,
     /// A call puts an entry on top.
@@ -50,17 +50,17 @@ struct Window {
 }
 
 /// What an opcode does to the entries of the return stack; none where R decides it.
-fn shift_of(op: Op) -> Option<Shift>
+fn shift_of(op: Op) -> Option<ReturnStackEffect>
     ensures sure { IfSome result (λ shift. (last : Bool) → shift ≡ shift_op op last) }
     ensures unsure { IfNone result ((last : Bool) → counted last ≡ shift_op op last) }
 {
     match op {
-        Op::Return | Op::Pop => Some(Shift::Pops),
-        Op::Execute => Some(Shift::Replaces),
-        Op::Call => Some(Shift::Calls),
-        Op::Push => Some(Shift::Pushes),
+        Op::Return | Op::Pop => Some(ReturnStackEffect::Pops),
+        Op::Execute => Some(ReturnStackEffect::Replaces),
+        Op::Call => Some(ReturnStackEffect::Calls),
+        Op::Push => Some(ReturnStackEffect::Pushes),
         Op::Unext | Op::Next => None,
-        _ => Some(Shift::Stays),
+        _ => Some(ReturnStackEffect::Stays),
     }
 }
 
@@ -68,7 +68,7 @@ fn shift_of(op: Op) -> Option<Shift>
 fn counts_out(walk: &mut Walk<'_>, at: u32) -> bool
     requires order { at ≤ walk.old.step }
     ensures value { result ≡ (r (node_after walk.old.machine walk.old.node.number at) == 0) }
-    ensures walk { walk.new ≡ standing walk.old.machine walk.old.node at }
+    ensures walk { walk.new ≡ node_at_step walk.old.machine walk.old.node at }
 {
     // Called for its contract: the node has the walk's number of steps.
     walk.step();
@@ -77,11 +77,16 @@ fn counts_out(walk: &mut Walk<'_>, at: u32) -> bool
 }
 
 /// What the step at a place does to the entries of the return stack. The node is walked back there only where R decides it.
-pub(crate) fn shift_by(lab: &Lab, walk: &mut Walk<'_>, node: NodeId, at: u32) -> Shift
-    requires walk { walk.old ≡ standing lab.now node walk.old.step }
+pub(crate) fn return_stack_effect(
+    lab: &Lab,
+    walk: &mut Walk<'_>,
+    node: NodeId,
+    at: u32,
+) -> ReturnStackEffect
+    requires walk { walk.old ≡ node_at_step lab.now node walk.old.step }
     requires order { at ≤ walk.old.step }
     ensures shift { result ≡ shift_at lab.now node.number at }
-    ensures walk { walk.new ≡ standing lab.now node walk.new.step }
+    ensures walk { walk.new ≡ node_at_step lab.now node walk.new.step }
     ensures order { at ≤ walk.new.step }
 {
     let Some(
@@ -89,17 +94,17 @@ pub(crate) fn shift_by(lab: &Lab, walk: &mut Walk<'_>, node: NodeId, at: u32) ->
             kind: Kind::Run(code),
             ..
         },
-    ) = lab.told(node, at)
+    ) = lab.made_by_step(node, at)
     else {
-        return Shift::Stays;
+        return ReturnStackEffect::Stays;
     };
     match shift_of(Op::from_code(code % 32)) {
         Some(shift) => shift,
         None => {
             if counts_out(walk, at) {
-                Shift::Pops
+                ReturnStackEffect::Pops
             } else {
-                Shift::Replaces
+                ReturnStackEffect::Replaces
             }
         }
     }
@@ -110,9 +115,9 @@ fn before_push(window: Window) -> Window
     requires some { 0 < window.left }
     requires within { window.place + window.left ≤ 9 }
     ensures within { result.place + result.left ≤ 9 }
-    ensures room { length (put_first Shift.Calls window.place 0) + result.left ≤ window.left }
-    ensures calls { IsBefore Shift.Calls window result }
-    ensures pushes { IsBefore Shift.Pushes window result }
+    ensures room { length (put_first ReturnStackEffect.Calls window.place 0) + result.left ≤ window.left }
+    ensures calls { IsBefore ReturnStackEffect.Calls window result }
+    ensures pushes { IsBefore ReturnStackEffect.Pushes window result }
 {
     let Window { place, left } = window;
     if place == 0 {
@@ -134,7 +139,7 @@ fn before_pop(window: Window) -> Window
     requires within { window.place + window.left ≤ 9 }
     ensures within { result.place + result.left ≤ 9 }
     ensures room { result.left ≤ window.left }
-    ensures before { IsBefore Shift.Pops window result }
+    ensures before { IsBefore ReturnStackEffect.Pops window result }
 {
     let Window { place, left } = window;
     if place + left == 9 {
@@ -156,7 +161,7 @@ fn before_exchange(window: Window) -> Window
     requires within { window.place + window.left ≤ 9 }
     ensures within { result.place + result.left ≤ 9 }
     ensures room { result.left ≤ window.left }
-    ensures before { IsBefore Shift.Replaces window result }
+    ensures before { IsBefore ReturnStackEffect.Replaces window result }
 {
     let Window { place, left } = window;
     if place == 0 {
@@ -170,7 +175,7 @@ fn before_exchange(window: Window) -> Window
 }
 
 /// The places of a window's entries before a step with this effect on them.
-fn window_before(window: Window, shift: Shift) -> Window
+fn window_before(window: Window, shift: ReturnStackEffect) -> Window
     requires some { 0 < window.left }
     requires within { window.place + window.left ≤ 9 }
     ensures within { result.place + result.left ≤ 9 }
@@ -178,20 +183,20 @@ fn window_before(window: Window, shift: Shift) -> Window
     ensures before { IsBefore shift window result }
 {
     match shift {
-        Shift::Stays => window,
-        Shift::Calls => before_push(window),
-        Shift::Pushes => before_push(window),
-        Shift::Pops => before_pop(window),
-        Shift::Replaces => before_exchange(window),
+        ReturnStackEffect::Stays => window,
+        ReturnStackEffect::Calls => before_push(window),
+        ReturnStackEffect::Pushes => before_push(window),
+        ReturnStackEffect::Pops => before_pop(window),
+        ReturnStackEffect::Replaces => before_exchange(window),
     }
 }
 
 /// Whether a step put a call's entry at the first place of a window.
-fn puts_call(window: Window, shift: Shift) -> bool
+fn puts_call(window: Window, shift: ReturnStackEffect) -> bool
     ensures { result ≡ (is_calls shift && window.place == 0) }
 {
     match shift {
-        Shift::Calls => window.place == 0,
+        ReturnStackEffect::Calls => window.place == 0,
         _ => false,
     }
 }
@@ -202,23 +207,23 @@ fn add_call(
     walk: &mut Walk<'_>,
     node: NodeId,
     window: Window,
-    shift: Shift,
+    shift: ReturnStackEffect,
     step: u32,
     calls: &mut ArrayVec<OpenCall, RETURN_PLACES>,
 )
-    requires walk { walk.old ≡ standing lab.now node walk.old.step }
+    requires walk { walk.old ≡ node_at_step lab.now node walk.old.step }
     requires order { step - 1 ≤ walk.old.step }
     requires some { 0 < step }
     requires room { array_vec_len calls.old < 9 }
     ensures calls { calls.new.items ≡ calls.old.items ++ map (open_call lab.now node) (put_first shift window.place step) }
     ensures len { array_vec_len calls.new ≡ array_vec_len calls.old + length (put_first shift window.place 0) }
-    ensures walk { walk.new ≡ standing lab.now node walk.new.step }
+    ensures walk { walk.new ≡ node_at_step lab.now node walk.new.step }
     ensures order { step - 1 ≤ walk.new.step }
 {
     if !puts_call(window, shift) {
         return;
     }
-    let at = spot_back(lab, walk, node, step - 1);
+    let at = slot_address_at(lab, walk, node, step - 1);
     calls.push(OpenCall { step, at });
 }
 
@@ -235,7 +240,7 @@ pub fn open_calls(lab: &Lab, node: NodeId) -> ArrayVec<OpenCall, RETURN_PLACES>
         if window.left == 0 {
             return calls;
         }
-        let shift = shift_by(lab, &mut walk, node, step - 1);
+        let shift = return_stack_effect(lab, &mut walk, node, step - 1);
         add_call(lab, &mut walk, node, window, shift, step, &mut calls);
         window = window_before(window, shift);
         step -= 1;

@@ -14,11 +14,11 @@ ghost use Rattle.ga_dap_views.specs.Disassembly.{target_words, has_address, ends
 
 use crate::frames::{SourceFile, source_object};
 use crate::json::object_with;
-use crate::labels::{add_label, label_of_cell, note_of_cell};
+use crate::labels::{add_label, label_of_cell, source_text_of_cell};
 use crate::numbers::chip_address;
 use crate::spots::memory_cell;
-use crate::texts::{add_hex3, add_hex6, address_text, numbered};
-use ga_debug_info::{Name, Note, Notes};
+use crate::texts::{add_hex3, add_hex6, address_text, text_with_number};
+use ga_debug_info::{CellSource, DebugInfo, LabelAddress};
 use ga_grid::NodeId;
 use ga_lab::Lab;
 use ga_ports::advance_p;
@@ -48,7 +48,7 @@ fn ends_word(op: Op) -> bool
 }
 
 /// The label at an address.
-fn target_label(notes: &Notes, node: NodeId, address: u32) -> Option<&Name>
+fn target_label(notes: &DebugInfo, node: NodeId, address: u32) -> Option<&LabelAddress>
     ensures { option_map (λ name. name.now) result ≡ option_and_then (label_of_cell notes.now.names.items node) (cell_of_address address) }
 {
     let cell = memory_cell(address)?;
@@ -59,7 +59,7 @@ fn target_label(notes: &Notes, node: NodeId, address: u32) -> Option<&Name>
 fn add_target(
     alloc: Global,
     text: &mut String,
-    notes: &Notes,
+    notes: &DebugInfo,
     node: NodeId,
     address: u32,
 ) -> Result<(), AllocError>
@@ -85,7 +85,7 @@ fn add_op(text: &mut String, op: Op, slot: u8) -> Result<(), AllocError>
 fn add_address(
     alloc: Global,
     text: &mut String,
-    notes: &Notes,
+    notes: &DebugInfo,
     node: NodeId,
     p: u32,
     word: Word18,
@@ -108,7 +108,7 @@ fn add_address(
 fn add_slots(
     alloc: Global,
     text: &mut String,
-    notes: &Notes,
+    notes: &DebugInfo,
     node: NodeId,
     p: u32,
     word: Word18,
@@ -127,7 +127,7 @@ fn add_slots(
 }
 
 /// Whether a cell is a literal or data, by its source.
-fn is_data(note: Option<&Note>) -> bool
+fn is_data(note: Option<&CellSource>) -> bool
     ensures { result ≡ is_data (option_map (λ one. one.now) note.entry) }
 {
     match note {
@@ -139,15 +139,15 @@ fn is_data(note: Option<&Note>) -> bool
 /// What a cell with this word holds.
 fn instruction_text(
     alloc: Global,
-    notes: &Notes,
+    notes: &DebugInfo,
     node: NodeId,
     cell: u8,
     word: Word18,
 ) -> Result<String, AllocError>
     ensures { IfOk result (λ text. string_bytes text ≡ instruction_words notes.now node cell word) }
 {
-    if is_data(note_of_cell(notes, node, cell)) {
-        return numbered(alloc, "word ", word.get());
+    if is_data(source_text_of_cell(notes, node, cell)) {
+        return text_with_number(alloc, "word ", word.get());
     }
     let mut text = String::new(alloc);
     add_slots(
@@ -187,7 +187,7 @@ fn put_line(
     alloc: Global,
     members: &mut Map<String, Value>,
     file: SourceFile<'_>,
-    note: Option<&Note>,
+    note: Option<&CellSource>,
 ) -> Result<(), AllocError>
     ensures { OnOk result (members_view members.new.entries ≡ with_source_line file.entry (option_map (λ one. one.now) note.entry) (members_view members.old.entries)) }
 {
@@ -203,7 +203,7 @@ fn put_line(
 fn put_label(
     alloc: Global,
     members: &mut Map<String, Value>,
-    name: Option<&Name>,
+    name: Option<&LabelAddress>,
 ) -> Result<(), AllocError>
     ensures { OnOk result (members_view members.new.entries ≡ with_label (option_map (λ one. one.now) name.entry) (members_view members.old.entries)) }
 {
@@ -217,7 +217,7 @@ fn put_label(
 /// A cell as the instruction at an address of the chip.
 fn instruction_members(
     alloc: Global,
-    notes: &Notes,
+    notes: &DebugInfo,
     node: NodeId,
     cell: u8,
     word: Word18,
@@ -242,7 +242,7 @@ fn instruction(
     alloc: Global,
     file: SourceFile<'_>,
     lab: &Lab,
-    notes: &Notes,
+    notes: &DebugInfo,
     node: NodeId,
     cell: u8,
     address: u32,
@@ -252,7 +252,12 @@ fn instruction(
 {
     let word = lab.memory(node, cell);
     let mut members = instruction_members(alloc, notes, node, cell, word, address)?;
-    put_line(alloc, &mut members, file, note_of_cell(notes, node, cell))?;
+    put_line(
+        alloc,
+        &mut members,
+        file,
+        source_text_of_cell(notes, node, cell),
+    )?;
     put_label(alloc, &mut members, label_of_cell(notes, node, cell))?;
     Ok(Value::Object(members))
 }
@@ -298,7 +303,7 @@ fn instruction_at(
     alloc: Global,
     file: SourceFile<'_>,
     lab: &Lab,
-    notes: &Notes,
+    notes: &DebugInfo,
     node: NodeId,
     address: u32,
 ) -> Result<Value, AllocError>
@@ -317,7 +322,7 @@ fn instructions(
     alloc: Global,
     file: SourceFile<'_>,
     lab: &Lab,
-    notes: &Notes,
+    notes: &DebugInfo,
     node: NodeId,
     first: u32,
     end: u32,
@@ -344,7 +349,7 @@ pub fn disassembled(
     alloc: Global,
     file: SourceFile<'_>,
     lab: &Lab,
-    notes: &Notes,
+    notes: &DebugInfo,
     node: NodeId,
     first: u32,
     count: u32,

@@ -3,7 +3,7 @@
 ghost use Rattle.std.specs.Prelude.{◌≡◌, ◌++◌, codes, string_bytes, IfOk, OnOk};
 ghost use Rattle.ga_node.specs.Record.{record_of};
 ghost use Rattle.ga_lab.specs.Machine.{chip_of};
-ghost use Rattle.ga_dap_views.specs.Doing.{side_name, behind_named, set_names, stop_words, activity_by, named_activity};
+ghost use Rattle.ga_dap_views.specs.Activity.{side_name, behind_named, set_names, stop_words, activity_by, named_activity};
 
 use crate::texts::add_node;
 use ga_grid::NodeId;
@@ -69,7 +69,7 @@ fn waiting(alloc: Global, before: &str, sides: PortSet) -> Result<String, AllocE
 }
 
 /// What a node does.
-pub(crate) fn doing(alloc: Global, node: &Node) -> Result<String, AllocError>
+pub(crate) fn node_activity(alloc: Global, node: &Node) -> Result<String, AllocError>
     ensures { IfOk result (λ text. string_bytes text ≡ activity_by (record_of node.now).wait (record_of node.now).stop) }
 {
     match node.wait() {
@@ -84,7 +84,7 @@ pub(crate) fn doing(alloc: Global, node: &Node) -> Result<String, AllocError>
 }
 
 /// The name of a node and what it does, after a text.
-pub fn named_doing(
+pub fn thread_title(
     alloc: Global,
     before: &str,
     lab: &Lab,
@@ -92,7 +92,7 @@ pub fn named_doing(
 ) -> Result<String, AllocError>
     ensures { IfOk result (λ text. string_bytes text ≡ before.now ++ named_activity (chip_of lab.now) node.number) }
 {
-    let does = doing(alloc, lab.node(node))?;
+    let does = node_activity(alloc, lab.node(node))?;
     let mut text = String::from_str(alloc, before)?;
     add_node(&mut text, node)?;
     text.push_str(" ")?;

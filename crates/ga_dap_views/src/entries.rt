@@ -3,32 +3,32 @@
 ghost use Rattle.std.specs.Prelude.{◌≡◌, ◌<◌, ◌≤◌, map, IfSome};
 ghost use Rattle.std.specs.List.{range_with_len};
 ghost use Rattle.ga_event.specs.Told.{steps_of};
-ghost use Rattle.ga_dap_views.specs.Calls.{put_by, is_calling, entries_from};
+ghost use Rattle.ga_dap_views.specs.Calls.{pushed_by_step, is_calling, return_entry_sources};
 ghost use Rattle.ga_dap_views.specs.inner.{entry_before};
 
-use crate::calls::{Shift, shift_by};
+use crate::calls::{ReturnStackEffect, return_stack_effect};
 use ga_grid::NodeId;
 use ga_lab::{Lab, Made};
 use ga_node::Kind;
 use ga_slots::Op;
 
 /// The place of an entry before a step, by its place after it.
-fn entry_before(shift: Shift, place: u8) -> Option<u8>
+fn entry_before(shift: ReturnStackEffect, place: u8) -> Option<u8>
     requires { place < 9 }
     ensures value { result ≡ entry_before shift place }
     ensures in_range { IfSome result (λ from. from < 9) }
 {
     match shift {
-        Shift::Stays => Some(place),
-        Shift::Calls => place.checked_sub(1),
-        Shift::Pushes => place.checked_sub(1),
-        Shift::Pops => if place == 8 { None } else { Some(place + 1) },
-        Shift::Replaces => if place == 0 { None } else { Some(place) },
+        ReturnStackEffect::Stays => Some(place),
+        ReturnStackEffect::Calls => place.checked_sub(1),
+        ReturnStackEffect::Pushes => place.checked_sub(1),
+        ReturnStackEffect::Pops => if place == 8 { None } else { Some(place + 1) },
+        ReturnStackEffect::Replaces => if place == 0 { None } else { Some(place) },
     }
 }
 
 /// The place of each entry before a shift; none if it is new, or a copy in the last place.
-fn entries_before(shift: Shift) -> [Option<u8>; 9]
+fn entries_before(shift: ReturnStackEffect) -> [Option<u8>; 9]
     ensures { result ≡ map (entry_before shift) (range_with_len 0 9) }
 {
     [
@@ -47,27 +47,27 @@ fn entries_before(shift: Shift) -> [Option<u8>; 9]
 /// For each place of the return stack, the place that its entry after a node's next step had before it, where the node had made
 /// `step` steps; none if the step put it there.
 #[tactic(auto, using(crate::proofs::Putting::entries_so))]
-pub fn entries_from(lab: &Lab, node: NodeId, step: u32) -> [Option<u8>; 9]
+pub fn return_entry_sources(lab: &Lab, node: NodeId, step: u32) -> [Option<u8>; 9]
     requires { step ≤ steps_of node.number lab.now.kept }
-    ensures { result ≡ entries_from lab.now node step }
+    ensures { result ≡ return_entry_sources lab.now node step }
 {
     let mut walk = lab.walk(node, step);
-    entries_before(shift_by(lab, &mut walk, node, step))
+    entries_before(return_stack_effect(lab, &mut walk, node, step))
 }
 
 /// The number of the step that put the entry at a place of the return stack after `step` steps of a node; 0 if it was there at
 /// load. Takes time linear in the number of steps that the node made since.
-pub fn put_by(lab: &Lab, node: NodeId, step: u32, behind: u8) -> u32
+pub fn pushed_by_step(lab: &Lab, node: NodeId, step: u32, behind: u8) -> u32
     requires step { step ≤ steps_of node.number lab.now.kept }
     requires place { behind < 9 }
-    ensures value { result ≡ put_by lab.now node step behind }
+    ensures value { result ≡ pushed_by_step lab.now node step behind }
     ensures within { result ≤ step }
 {
     let mut walk = lab.walk(node, step);
     let mut left = step;
     let mut place = behind;
     'following: while left > 0 {
-        let shift = shift_by(lab, &mut walk, node, left - 1);
+        let shift = return_stack_effect(lab, &mut walk, node, left - 1);
         match entry_before(shift, place) {
             Some(from) => place = from,
             None => return left,
@@ -84,7 +84,7 @@ pub fn is_calling(lab: &Lab, node: NodeId, step: u32) -> bool
     if step == 0 {
         return false;
     }
-    match lab.told(node, step - 1) {
+    match lab.made_by_step(node, step - 1) {
         Some(
             Made::Own {
                 kind: Kind::Run(code),

@@ -9,11 +9,11 @@ ghost use Rattle.ga_dap_views.specs.Frames.{source_object, lined_frame, bare_fra
 ghost use Rattle.ga_dap_views.specs.Variables.{memory_reference, places_asked};
 
 use crate::calls::{OpenCall, open_calls};
-use crate::labels::{add_cell, spot_word};
+use crate::labels::{add_cell, source_word_of_slot};
 use crate::numbers::{chip_address, frame_of};
-use crate::spots::{Spot, spot_behind};
+use crate::spots::{SlotAddress, slot_address_after};
 use crate::texts::{add_node, address_text};
-use ga_debug_info::{Notes, SlotWord};
+use ga_debug_info::{DebugInfo, SlotWord};
 use ga_grid::NodeId;
 use ga_lab::Lab;
 use serde_json::{Value, json, push};
@@ -70,9 +70,9 @@ fn outside_frame(alloc: Global, id: u64, name: &str) -> Result<Value, AllocError
 fn add_place(
     alloc: Global,
     text: &mut String,
-    notes: &Notes,
+    notes: &DebugInfo,
     node: NodeId,
-    spot: Option<Spot>,
+    spot: Option<SlotAddress>,
 ) -> Result<(), AllocError>
     ensures { OnOk result (string_bytes text.new ≡ string_bytes text.old ++ place_words notes.now node spot) }
 {
@@ -84,9 +84,9 @@ fn add_place(
 
 fn frame_name(
     alloc: Global,
-    notes: &Notes,
+    notes: &DebugInfo,
     node: NodeId,
-    spot: Option<Spot>,
+    spot: Option<SlotAddress>,
 ) -> Result<String, AllocError>
     ensures { IfOk result (λ text. string_bytes text ≡ frame_name notes.now node spot) }
 {
@@ -123,10 +123,10 @@ fn frame_on(
 fn frame(
     alloc: Global,
     file: SourceFile<'_>,
-    notes: &Notes,
+    notes: &DebugInfo,
     node: NodeId,
     level: u8,
-    spot: Option<Spot>,
+    spot: Option<SlotAddress>,
 ) -> Result<Value, AllocError>
     requires { level < 16 }
     ensures { IfOk result (λ v. view v ≡ frame file.entry notes.now node level spot) }
@@ -136,7 +136,7 @@ fn frame(
     match spot {
         None => outside_frame(alloc, id, name.as_str()),
         Some(spot) => {
-            let word = spot_word(notes, node, spot);
+            let word = source_word_of_slot(notes, node, spot);
             frame_on(
                 alloc,
                 file,
@@ -150,7 +150,7 @@ fn frame(
 }
 
 /// The position of a call, of those in a list.
-fn call_spot(calls: &[OpenCall], place: u8) -> Option<Spot>
+fn call_spot(calls: &[OpenCall], place: u8) -> Option<SlotAddress>
     ensures { result ≡ call_spot (slice_get calls.now place) }
 {
     match calls.get(usize::from(place)) {
@@ -160,12 +160,12 @@ fn call_spot(calls: &[OpenCall], place: u8) -> Option<Spot>
 }
 
 /// The position of the frame of a level.
-fn level_spot(lab: &Lab, node: NodeId, calls: &[OpenCall], level: u8) -> Option<Spot>
+fn level_spot(lab: &Lab, node: NodeId, calls: &[OpenCall], level: u8) -> Option<SlotAddress>
     requires { calls.now ≡ open_calls lab.now node }
     ensures { result ≡ level_spot lab.now node level }
 {
     if level == 0 {
-        return spot_behind(lab, node, lab.steps(node));
+        return slot_address_after(lab, node, lab.steps(node));
     }
     call_spot(calls, level - 1)
 }
@@ -175,7 +175,7 @@ fn frames(
     alloc: Global,
     file: SourceFile<'_>,
     lab: &Lab,
-    notes: &Notes,
+    notes: &DebugInfo,
     node: NodeId,
     calls: &[OpenCall],
     first: u8,
@@ -231,7 +231,7 @@ fn stack_body(
     alloc: Global,
     file: SourceFile<'_>,
     lab: &Lab,
-    notes: &Notes,
+    notes: &DebugInfo,
     node: NodeId,
     calls: &[OpenCall],
     start: u64,
@@ -257,7 +257,7 @@ pub fn stack_trace(
     alloc: Global,
     file: SourceFile<'_>,
     lab: &Lab,
-    notes: &Notes,
+    notes: &DebugInfo,
     node: NodeId,
     start: u64,
     count: u64,

@@ -4,11 +4,11 @@ ghost use Rattle.std.specs.Prelude.{◌≡◌, ◌++◌, ◌/◌, ◌*◌, ◌%�
 ghost use Rattle.std.specs.Str.Lossy.{utf8_lossy};
 ghost use Rattle.ga_debug_info.specs.Notes.{is_note_of};
 ghost use Rattle.ga_debug_info.specs.Source.{nearest_found};
-ghost use Rattle.ga_dap_views.specs.Labels.{is_same_cell, is_name_at, place_of_label, label_of_cell, label_near, behind_words, cell_words, note_of_cell, spot_word, line_at, is_on_line, line_start};
+ghost use Rattle.ga_dap_views.specs.Labels.{is_same_cell, is_name_at, place_of_label, label_of_cell, label_near, behind_words, cell_words, source_text_of_cell, source_word_of_slot, line_at, is_on_line, line_start};
 
-use crate::spots::{Spot, memory_cell};
+use crate::spots::{SlotAddress, memory_cell};
 use crate::texts::add_hex2;
-use ga_debug_info::{Name, Note, Notes, SlotWord, ToldWord};
+use ga_debug_info::{CellSource, DebugInfo, DisplayedWord, LabelAddress, SlotWord};
 use ga_grid::NodeId;
 use std::alloc::{AllocError, Global};
 
@@ -22,20 +22,20 @@ fn is_same_cell(cell: u8, found: Option<u8>) -> bool
 }
 
 /// Whether a label of the node is at the cell.
-fn is_name_at(name: &Name, node: NodeId, cell: u8) -> bool
+fn is_name_at(name: &LabelAddress, node: NodeId, cell: u8) -> bool
     ensures { result ≡ is_name_at node cell name.now }
 {
     name.node == node && is_same_cell(cell, memory_cell(name.address))
 }
 
-fn place_of_label(names: &[Name], node: NodeId, cell: u8) -> Option<usize>
+fn place_of_label(names: &[LabelAddress], node: NodeId, cell: u8) -> Option<usize>
     ensures { result ≡ place_of_label names.now node cell }
 {
     names.iter().position(|name| is_name_at(name, node, cell))
 }
 
 /// The place of the label at a cell, or of the nearest before it in the same memory.
-fn place_near(names: &[Name], node: NodeId, cell: u8) -> Option<usize>
+fn place_near(names: &[LabelAddress], node: NodeId, cell: u8) -> Option<usize>
     ensures { result ≡ nearest_found (place_of_label names.now node) (cell / 64 * 64) (cell % 64) }
 {
     let first = cell / 64 * 64;
@@ -50,7 +50,7 @@ fn place_near(names: &[Name], node: NodeId, cell: u8) -> Option<usize>
 }
 
 /// The label at a cell.
-pub(crate) fn label_of_cell(notes: &Notes, node: NodeId, cell: u8) -> Option<&Name>
+pub(crate) fn label_of_cell(notes: &DebugInfo, node: NodeId, cell: u8) -> Option<&LabelAddress>
     ensures { option_map (λ name. name.now) result ≡ label_of_cell notes.now.names.items node cell }
 {
     let place = place_of_label(notes.names.as_slice(), node, cell)?;
@@ -58,7 +58,7 @@ pub(crate) fn label_of_cell(notes: &Notes, node: NodeId, cell: u8) -> Option<&Na
 }
 
 /// The label at a cell, or the nearest before it in the same memory.
-fn label_near(notes: &Notes, node: NodeId, cell: u8) -> Option<&Name>
+fn label_near(notes: &DebugInfo, node: NodeId, cell: u8) -> Option<&LabelAddress>
     ensures { option_map (λ name. name.now) result ≡ label_near notes.now.names.items node cell }
 {
     let place = place_near(notes.names.as_slice(), node, cell)?;
@@ -76,7 +76,11 @@ fn add_behind(text: &mut String, behind: u8) -> Result<(), AllocError>
 }
 
 /// Adds the text of a label.
-pub(crate) fn add_label(alloc: Global, text: &mut String, name: &Name) -> Result<(), AllocError>
+pub(crate) fn add_label(
+    alloc: Global,
+    text: &mut String,
+    name: &LabelAddress,
+) -> Result<(), AllocError>
     ensures { OnOk result (string_bytes text.new ≡ string_bytes text.old ++ utf8_lossy name.now.text.items) }
 {
     let label = String::from_utf8_lossy(alloc, name.text.as_slice())?;
@@ -87,7 +91,7 @@ pub(crate) fn add_label(alloc: Global, text: &mut String, name: &Name) -> Result
 pub(crate) fn add_cell(
     alloc: Global,
     text: &mut String,
-    notes: &Notes,
+    notes: &DebugInfo,
     node: NodeId,
     cell: u8,
 ) -> Result<(), AllocError>
@@ -106,14 +110,14 @@ pub(crate) fn add_cell(
 }
 
 /// The note of the source for a cell.
-pub(crate) fn note_of_cell(notes: &Notes, node: NodeId, cell: u8) -> Option<&Note>
-    ensures { option_map (λ note. note.now) result ≡ note_of_cell notes.now node cell }
+pub(crate) fn source_text_of_cell(notes: &DebugInfo, node: NodeId, cell: u8) -> Option<&CellSource>
+    ensures { option_map (λ note. note.now) result ≡ source_text_of_cell notes.now node cell }
 {
     let place = place_of_note(notes.notes.as_slice(), node, cell)?;
     notes.notes.get(place)
 }
 
-fn place_of_note(notes: &[Note], node: NodeId, cell: u8) -> Option<usize>
+fn place_of_note(notes: &[CellSource], node: NodeId, cell: u8) -> Option<usize>
     ensures { result ≡ position (is_note_of node cell) notes.now }
 {
     notes
@@ -122,24 +126,28 @@ fn place_of_note(notes: &[Note], node: NodeId, cell: u8) -> Option<usize>
 }
 
 /// The word of the source from which a slot comes.
-pub(crate) fn spot_word(notes: &Notes, node: NodeId, spot: Spot) -> Option<SlotWord>
-    ensures { result ≡ spot_word notes.now node spot }
+pub(crate) fn source_word_of_slot(
+    notes: &DebugInfo,
+    node: NodeId,
+    spot: SlotAddress,
+) -> Option<SlotWord>
+    ensures { result ≡ source_word_of_slot notes.now node spot }
 {
     notes.slot_word(node, spot.cell, usize::from(spot.slot))
 }
 
 /// The line of a slot in the source.
-pub fn line_at(notes: &Notes, node: NodeId, spot: Spot) -> Option<u32>
+pub fn line_at(notes: &DebugInfo, node: NodeId, spot: SlotAddress) -> Option<u32>
     ensures { result ≡ line_at notes.now node spot }
 {
-    match spot_word(notes, node, spot) {
+    match source_word_of_slot(notes, node, spot) {
         Some(word) => Some(word.line),
         None => None,
     }
 }
 
 /// The first word of a line from which a slot of an instruction word of the node comes.
-pub fn line_start(notes: &Notes, node: NodeId, line: u32) -> Option<SlotWord>
+pub fn line_start(notes: &DebugInfo, node: NodeId, line: u32) -> Option<SlotWord>
     ensures { result ≡ line_start notes.now node line }
 {
     let place = place_on_line(notes.words.as_slice(), node, line)?;
@@ -149,14 +157,14 @@ pub fn line_start(notes: &Notes, node: NodeId, line: u32) -> Option<SlotWord>
     }
 }
 
-fn place_on_line(words: &[ToldWord], node: NodeId, line: u32) -> Option<usize>
+fn place_on_line(words: &[DisplayedWord], node: NodeId, line: u32) -> Option<usize>
     ensures { result ≡ position (is_on_line node line) words.now }
 {
     words.iter().position(|told| is_on_line(told, node, line))
 }
 
 /// Whether a slot of an instruction word of the node comes from a word, and that is on the line.
-fn is_on_line(told: &ToldWord, node: NodeId, line: u32) -> bool
+fn is_on_line(told: &DisplayedWord, node: NodeId, line: u32) -> bool
     ensures { result ≡ is_on_line node line told.now }
 {
     let word = told.word;

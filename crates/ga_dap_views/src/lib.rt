@@ -19,17 +19,17 @@ mod variable;
 
 pub use calls::{OpenCall, open_calls};
 pub use disassembly::disassembled;
-pub use doing::named_doing;
-pub use entries::{entries_from, is_calling, put_by};
+pub use doing::thread_title;
+pub use entries::{is_calling, pushed_by_step, return_entry_sources};
 pub use frames::{SourceFile, stack_trace};
 pub use labels::{line_at, line_start};
 pub use listing::{scopes, variables};
 pub use numbers::{
-    cell_of_chip, chip_address, frame_of, node_of_frame, node_of_thread, reference_of, referred,
-    thread_of,
+    cell_at_chip_address, chip_address, frame_of, node_of_frame, node_of_thread, reference_of,
+    resolve_reference, thread_of,
 };
 pub use scope::Scope;
-pub use spots::{Spot, memory_cell, slot_and_p, spot_back, spot_behind};
+pub use spots::{SlotAddress, memory_cell, slot_address_after, slot_address_at, slot_and_p};
 pub use thread::{has_thread, threads};
 pub use values::value_of;
-pub use variable::{Variable, count_of, variable_name, variable_of};
+pub use variable::{Variable, count_variables, variable_name, variable_of};

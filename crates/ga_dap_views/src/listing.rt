@@ -11,7 +11,7 @@ use crate::numbers::{chip_address, reference_of};
 use crate::scope::Scope;
 use crate::texts::address_text;
 use crate::values::value_of;
-use crate::variable::{Variable, count_of, variable_name, variable_of};
+use crate::variable::{Variable, count_variables, variable_name, variable_of};
 use ga_grid::NodeId;
 use ga_lab::Lab;
 use serde_json::{Value, json, push};
@@ -175,7 +175,7 @@ pub fn variables(
 ) -> Result<Value, AllocError>
     ensures { IfOk result (λ v. view v ≡ variables_in lab.now stuck at.0.number at.1 start count) }
 {
-    let size = u64::from(count_of(at.1));
+    let size = u64::from(count_variables(at.1));
     let left = size.saturating_sub(start);
     let many = if count == 0 { left } else { count.min(left) };
     let first = start.min(size);

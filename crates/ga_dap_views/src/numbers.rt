@@ -82,7 +82,7 @@ pub fn reference_of(node: NodeId, scope: Scope) -> u64
 }
 
 /// The node and the scope whose variables a reference is, where there are.
-pub fn referred(reference: u64) -> Option<(NodeId, Scope)>
+pub fn resolve_reference(reference: u64) -> Option<(NodeId, Scope)>
     ensures found { IfSome result (λ at. reference_of at.0.number at.1 ≡ reference) }
     ensures none { IfNone result ((n : ℕ) (scope : ScopeKind) → n < 144 → reference_of n scope ≢ reference) }
 {
@@ -104,7 +104,7 @@ pub fn chip_address(node: NodeId, cell: u8) -> u32
 }
 
 /// The node and the cell of an address of the chip, where there are.
-pub fn cell_of_chip(address: u64) -> Option<(NodeId, u8)>
+pub fn cell_at_chip_address(address: u64) -> Option<(NodeId, u8)>
     ensures found { IfSome result (λ at. chip_address at.0.number at.1 ≡ address) }
     ensures none { IfNone result ((n cell : ℕ) → n < 144 → cell < 256 → chip_address n cell ≢ address) }
 {

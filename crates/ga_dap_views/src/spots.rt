@@ -3,19 +3,19 @@
 ghost use Rattle.std.specs.Prelude.{◌≡◌, ◌≤◌, option_map};
 ghost use Rattle.ga_node.specs.Record.{record_of};
 ghost use Rattle.ga_event.specs.Told.{steps_of};
-ghost use Rattle.ga_lab.specs.Machine.{standing};
+ghost use Rattle.ga_lab.specs.Machine.{node_at_step};
 ghost use Rattle.ga_debug_info.specs.Source.{cell_of_address};
-ghost use Rattle.ga_dap_views.specs.Spots.{spot, spot_behind};
+ghost use Rattle.ga_dap_views.specs.Spots.{slot_address, slot_address_after};
 
 use ga_grid::NodeId;
 use ga_lab::{Lab, Walk};
 use ga_node::{Node, Place};
 use ga_ports::{Target, classify};
-use ga_provenance::fetched_near;
+use ga_provenance::fetched_cell_at;
 
 /// A slot of a cell.
 #[derive(Clone, Copy, PartialEq, Eq, Debug)]
-pub struct Spot {
+pub struct SlotAddress {
     /// The cell: 0 to 63 of RAM, 128 to 191 of ROM.
     pub cell: u8,
     /// The slot: 0 to 3.
@@ -44,37 +44,42 @@ pub fn slot_and_p(node: &Node) -> (u8, u32)
 
 /// The position of a node at the step of a walk of it. Takes time linear in the number of steps that it made since the fetch of
 /// its instruction word.
-fn spot_at(lab: &Lab, walk: &Walk<'_>, node: NodeId) -> Option<Spot>
-    requires { walk.now ≡ standing lab.now node walk.now.step }
-    ensures { result ≡ spot_behind lab.now node walk.now.step }
+fn spot_at(lab: &Lab, walk: &Walk<'_>, node: NodeId) -> Option<SlotAddress>
+    requires { walk.now ≡ node_at_step lab.now node walk.now.step }
+    ensures { result ≡ slot_address_after lab.now node walk.now.step }
 {
     let step = walk.step();
     let (slot, p) = slot_and_p(walk.node());
     if slot == 4 {
         return due_spot(p);
     }
-    match fetched_near(lab, walk, node, node, step) {
-        Some(cell) => Some(Spot { cell, slot }),
+    match fetched_cell_at(lab, walk, node, node, step) {
+        Some(cell) => Some(SlotAddress { cell, slot }),
         None => None,
     }
 }
 
 /// The position of a node that is to fetch at this address.
-fn due_spot(p: u32) -> Option<Spot>
-    ensures { result ≡ option_map (spot 0) (cell_of_address p) }
+fn due_spot(p: u32) -> Option<SlotAddress>
+    ensures { result ≡ option_map (slot_address 0) (cell_of_address p) }
 {
     match memory_cell(p) {
-        Some(cell) => Some(Spot { cell, slot: 0 }),
+        Some(cell) => Some(SlotAddress { cell, slot: 0 }),
         None => None,
     }
 }
 
 /// The position of a node after `step` of its steps, to which it is walked back.
-pub fn spot_back(lab: &Lab, walk: &mut Walk<'_>, node: NodeId, step: u32) -> Option<Spot>
-    requires walk { walk.old ≡ standing lab.now node walk.old.step }
+pub fn slot_address_at(
+    lab: &Lab,
+    walk: &mut Walk<'_>,
+    node: NodeId,
+    step: u32,
+) -> Option<SlotAddress>
+    requires walk { walk.old ≡ node_at_step lab.now node walk.old.step }
     requires order { step ≤ walk.old.step }
-    ensures spot { result ≡ spot_behind lab.now node step }
-    ensures walk { walk.new ≡ standing lab.now node step }
+    ensures spot { result ≡ slot_address_after lab.now node step }
+    ensures walk { walk.new ≡ node_at_step lab.now node step }
 {
     walk.back_to(step);
     spot_at(lab, walk, node)
@@ -83,9 +88,9 @@ pub fn spot_back(lab: &Lab, walk: &mut Walk<'_>, node: NodeId, step: u32) -> Opt
 /// The position of a node after `step` of its steps: the slot that it carried out next, or that of the cell that it fetched
 /// next. None if its code was in no memory. Takes time linear in the number of steps that the node made since, or since the
 /// fetch before.
-pub fn spot_behind(lab: &Lab, node: NodeId, step: u32) -> Option<Spot>
+pub fn slot_address_after(lab: &Lab, node: NodeId, step: u32) -> Option<SlotAddress>
     requires { step ≤ steps_of node.number lab.now.kept }
-    ensures { result ≡ spot_behind lab.now node step }
+    ensures { result ≡ slot_address_after lab.now node step }
 {
     spot_at(lab, &lab.walk(node, step), node)
 }

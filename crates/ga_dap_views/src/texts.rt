@@ -5,7 +5,7 @@ ghost use Rattle.hex.specs.Hex.{lower_digits};
 ghost use Rattle.ga_word.specs.Word.{hex6_of};
 ghost use Rattle.ga_grid.specs.Grid.{yxx_of};
 ghost use Rattle.ga_text.specs.Digits.{decimal3_of, hex2_of};
-ghost use Rattle.ga_dap_views.specs.Doing.{negative_text, valued_word};
+ghost use Rattle.ga_dap_views.specs.Activity.{negative_text, valued_word};
 ghost use Rattle.ga_dap_views.specs.Variables.{memory_reference};
 ghost use Rattle.ga_dap_views.specs.Disassembly.{hex3_of};
 
@@ -70,7 +70,11 @@ pub(crate) fn add_hex6(text: &mut String, value: u32) -> Result<(), AllocError>
 }
 
 /// A number in decimal digits, after a text.
-pub(crate) fn numbered(alloc: Global, before: &str, number: u32) -> Result<String, AllocError>
+pub(crate) fn text_with_number(
+    alloc: Global,
+    before: &str,
+    number: u32,
+) -> Result<String, AllocError>
     ensures { IfOk result (λ text. string_bytes text ≡ before.now ++ decimal number) }
 {
     format!(in alloc; "{before}{number}")

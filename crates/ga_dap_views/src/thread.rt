@@ -7,7 +7,7 @@ ghost use Rattle.ga_node.specs.Record.{record_of};
 ghost use Rattle.ga_dap_views.specs.Json.{array_of, object_of};
 ghost use Rattle.ga_dap_views.specs.Threads.{named_thread, thread_in, has_thread, is_in_memory, is_among_nodes, with_threads, threads_in};
 
-use crate::doing::named_doing;
+use crate::doing::thread_title;
 use crate::json::object_with;
 use crate::numbers::thread_of;
 use ga_grid::NodeId;
@@ -29,7 +29,7 @@ fn thread_object(alloc: Global, node: NodeId, name: &str) -> Result<Value, Alloc
 fn thread(alloc: Global, lab: &Lab, node: NodeId) -> Result<Value, AllocError>
     ensures { IfOk result (λ v. view v ≡ thread_in lab.now node.number) }
 {
-    let name = named_doing(alloc, "", lab, node)?;
+    let name = thread_title(alloc, "", lab, node)?;
     thread_object(alloc, node, name.as_str())
 }
 

@@ -7,8 +7,8 @@ ghost use Rattle.ga_lab.specs.Machine.{chip_of};
 ghost use Rattle.ga_dap_views.specs.Shown.{IsVariable};
 ghost use Rattle.ga_dap_views.specs.Variables.{slot_words, neighbour_words, stuck_words, variable_value};
 
-use crate::doing::{doing, named_doing};
-use crate::texts::{numbered, word_text};
+use crate::doing::{node_activity, thread_title};
+use crate::texts::{text_with_number, word_text};
 use crate::variable::Variable;
 use ga_grid::{NodeId, neighbour};
 use ga_lab::Lab;
@@ -22,7 +22,7 @@ fn slot_text(alloc: Global, slot: u32) -> Result<String, AllocError>
     if slot == 4 {
         String::from_str(alloc, "4, a fetch is due")
     } else {
-        numbered(alloc, "", slot)
+        text_with_number(alloc, "", slot)
     }
 }
 
@@ -32,7 +32,7 @@ fn neighbour_text(alloc: Global, lab: &Lab, node: NodeId, side: Side) -> Result<
 {
     match neighbour(node, side) {
         None => String::from_str(alloc, "none"),
-        Some(other) => named_doing(alloc, "", lab, other),
+        Some(other) => thread_title(alloc, "", lab, other),
     }
 }
 
@@ -56,14 +56,14 @@ pub fn value_of(
 {
     let at = lab.node(node);
     match variable {
-        Variable::State => doing(alloc, at),
-        Variable::Step => numbered(alloc, "", lab.steps(node)),
+        Variable::State => node_activity(alloc, at),
+        Variable::Step => text_with_number(alloc, "", lab.steps(node)),
         Variable::P => word_text(alloc, at.get(Place::P)),
         Variable::A => word_text(alloc, at.get(Place::A)),
         Variable::B => word_text(alloc, at.get(Place::B)),
         Variable::I => word_text(alloc, at.get(Place::I)),
         Variable::Slot => slot_text(alloc, at.get(Place::Slot)),
-        Variable::Carry => numbered(alloc, "", at.get(Place::Carry)),
+        Variable::Carry => text_with_number(alloc, "", at.get(Place::Carry)),
         Variable::Io => word_text(alloc, at.get(Place::Io)),
         Variable::DataWord(place) => word_text(alloc, at.d(place)),
         Variable::ReturnWord(place) => word_text(alloc, at.r(place)),

@@ -5,7 +5,7 @@ ghost use Rattle.ga_dap_views.specs.Shown.{IsVariable, variable_at, variable_cou
 
 use crate::doing::side_name;
 use crate::scope::Scope;
-use crate::texts::{cell_name, numbered};
+use crate::texts::{cell_name, text_with_number};
 use ga_ports::Side;
 use std::alloc::{AllocError, Global};
 
@@ -68,7 +68,7 @@ const LINKS: [Variable; 5] = [
 ];
 
 /// How many variables a scope has.
-pub fn count_of(scope: Scope) -> u8
+pub fn count_variables(scope: Scope) -> u8
     ensures { result ≡ variable_count scope }
 {
     match scope {
@@ -114,9 +114,9 @@ pub fn variable_name(alloc: Global, variable: Variable) -> Result<String, AllocE
         Variable::Io => String::from_str(alloc, "io"),
         Variable::DataWord(0) => String::from_str(alloc, "t"),
         Variable::DataWord(1) => String::from_str(alloc, "s"),
-        Variable::DataWord(place) => numbered(alloc, "d", u32::from(place)),
+        Variable::DataWord(place) => text_with_number(alloc, "d", u32::from(place)),
         Variable::ReturnWord(0) => String::from_str(alloc, "r"),
-        Variable::ReturnWord(place) => numbered(alloc, "r", u32::from(place)),
+        Variable::ReturnWord(place) => text_with_number(alloc, "r", u32::from(place)),
         Variable::Cell(address) => cell_name(alloc, address),
         Variable::Neighbour(side) => String::from_str(alloc, side_name(side)),
         Variable::Stuck => String::from_str(alloc, "stuck"),

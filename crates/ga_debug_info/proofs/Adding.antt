@@ -11,7 +11,7 @@ use Rattle.ga_debug_info.specs.declared.wording.Begun.{Begun}
 use Rattle.ga_debug_info.specs.Source.{Named, named_at, named_among, literals_told, label_cell, marked_by, last_marked, nearest_found, label_before}
 use Rattle.ga_debug_info.specs.Notes.{Worded, slot_worded, slots_worded}
 use Rattle.std.specs.Option.{option_or}
-use Rattle.ga_parser.specs.declared.item.Asked.{Asked}
+use Rattle.ga_parser.specs.declared.item.LocatedRequest.{LocatedRequest}
 use Rattle.ga_source.specs.declared.program.Program.{Program}
 use Rattle.ga_parser.specs.declared.item.Request.TheVariants.{Mark}
 use Rattle.ga_debug_info.specs.inner.{label_at, IsMarked}
@@ -122,13 +122,13 @@ none_noted zero cell = refl
 none_noted (suc n) zero = refl
 none_noted (suc n) (suc cell) = none_noted n cell
 
-pub last_none : (program : Program) (cell n : ℕ) (asked all : List Asked) (labels : List (Option ℕ)) → labels ≡ replicate n None → asked ≡ all → option_or (last_marked program cell asked) (label_at labels cell) ≡ last_marked program cell all
+pub last_none : (program : Program) (cell n : ℕ) (asked all : List LocatedRequest) (labels : List (Option ℕ)) → labels ≡ replicate n None → asked ≡ all → option_or (last_marked program cell asked) (label_at labels cell) ≡ last_marked program cell all
 last_none program cell n asked all labels none same =
     let here : label_at labels cell ≡ None = ap (λ (noted : List (Option ℕ)). label_at noted cell) none ∙ none_noted n cell in
     ap (option_or (last_marked program cell asked)) here ∙ (or_none (last_marked program cell asked) ∙ ap (last_marked program cell) same)
 
 -- a request more was noted
-pub last_more : (program : Program) (cell : ℕ) (asked : List Asked) (i : ℕ) (d : Asked) (was now all : Option ℕ) → i < length asked → now ≡ option_or (marked_by program cell (get_or asked i d).request) was → option_or (last_marked program cell (drop i asked)) was ≡ all → option_or (last_marked program cell (drop (i + 1) asked)) now ≡ all
+pub last_more : (program : Program) (cell : ℕ) (asked : List LocatedRequest) (i : ℕ) (d : LocatedRequest) (was now all : Option ℕ) → i < length asked → now ≡ option_or (marked_by program cell (get_or asked i d).request) was → option_or (last_marked program cell (drop i asked)) was ≡ all → option_or (last_marked program cell (drop (i + 1) asked)) now ≡ all
 unfolding last_marked
 last_more program cell asked i d was now all within marked before =
     let left = last_marked program cell (drop (i + 1) asked) in
@@ -136,7 +136,7 @@ last_more program cell asked i d was now all within marked before =
     ap (option_or left) marked ∙ (sym (or_assoc left _ was) ∙ (ap (λ (found : Option ℕ). option_or found was) (sym step) ∙ before))
 
 -- all were
-pub last_all : (program : Program) (cell : ℕ) (asked : List Asked) (i : ℕ) (now all : Option ℕ) → length asked ≤ i → option_or (last_marked program cell (drop i asked)) now ≡ all → now ≡ all
+pub last_all : (program : Program) (cell : ℕ) (asked : List LocatedRequest) (i : ℕ) (now all : Option ℕ) → length asked ≤ i → option_or (last_marked program cell (drop i asked)) now ≡ all → now ≡ all
 unfolding last_marked
 last_all program cell asked i now all past before =
     let none : last_marked program cell (drop i asked) ≡ None = at_drop_all (last_marked program cell) asked i past in

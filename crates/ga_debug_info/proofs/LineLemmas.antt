@@ -4,12 +4,12 @@ use Rattle.std.proofs.Common.{◌≡◌, ◌∙◌, ℕ, zero, suc, ◌+◌, ◌
 use Rattle.std.specs.Str.{IsTrimAscii}
 use Rattle.std.proofs.lemmas.List.{drop_all, drop_more}
 use Rattle.std.proofs.lemmas.Str.Ascii.{trim_ascii_is}
-use Rattle.ga_parser.specs.Saying.{parted, source_lines, unmarked}
+use Rattle.ga_parser.specs.Saying.{parted, source_lines, strip_bom}
 use Rattle.ga_text.specs.Lines.{lines_of}
 use Rattle.ga_parser.proofs.Scanning.{first_split}
 use Rattle.ga_debug_info.specs.Source.{without_front, trimmed, bare_line}
 use Rattle.ga_debug_info.specs.declared.wording.SlotWord.{SlotWord}
-use Rattle.ga_debug_info.specs.declared.wording.ToldWord.{ToldWord}
+use Rattle.ga_debug_info.specs.declared.wording.DisplayedWord.{DisplayedWord}
 use Rattle.ga_debug_info.specs.Notes.{nearer_word, nearest_word}
 
 -- ---- the first line
@@ -61,13 +61,13 @@ none_left (b ∷ text) left none = absurd (omega arith)
 -- ---- a line by its number
 
 -- the first line behind some
-pub line_found : (source rest first bare : List ℕ) (before line : ℕ) → before ≡ line - 1 → source_lines rest ≡ drop before (source_lines source) → first ≡ get_or (source_lines rest) 0 [] → bare ≡ unmarked line first → bare ≡ bare_line source line
+pub line_found : (source rest first bare : List ℕ) (before line : ℕ) → before ≡ line - 1 → source_lines rest ≡ drop before (source_lines source) → first ≡ get_or (source_lines rest) 0 [] → bare ≡ strip_bom line first → bare ≡ bare_line source line
 line_found source rest first bare before line e behind is own =
     let at : before + 0 ≡ line - 1 = omega arith in
     let same : first ≡ get_or (source_lines source) (line - 1) [] =
     is ∙ (ap (λ (lines : List (List ℕ)). get_or lines 0 []) behind
     ∙ (get_or-drop before (source_lines source) 0 [] ∙ ap (λ (n : ℕ). get_or (source_lines source) n []) at)) in
-    own ∙ ap (unmarked line) same
+    own ∙ ap (strip_bom line) same
 
 -- without white space at its ends
 pub trimmed_line : (bare text found : List ℕ) → bare ≡ text → IsTrimAscii bare found → found ≡ trimmed text
@@ -80,12 +80,12 @@ all_past count text past = sym (drop_all count text past)
 -- ---- the word that comes first from a line on, as it is looked for
 
 -- one word more
-pub one_nearer : (line : ℕ) (best next : Option SlotWord) (all : List ToldWord) (i : ℕ) (d : ToldWord) (found : Option SlotWord) → i < length all → next ≡ nearer_word line best (get_or all i d).word → nearest_word line best (drop i all) ≡ found → nearest_word line next (drop (i + 1) all) ≡ found
+pub one_nearer : (line : ℕ) (best next : Option SlotWord) (all : List DisplayedWord) (i : ℕ) (d : DisplayedWord) (found : Option SlotWord) → i < length all → next ≡ nearer_word line best (get_or all i d).word → nearest_word line best (drop i all) ≡ found → nearest_word line next (drop (i + 1) all) ≡ found
 unfolding nearest_word
 one_nearer line best next all i d found within is before =
     ap (λ (b : Option SlotWord). nearest_word line b (drop (i + 1) all)) is ∙ (sym (ap (nearest_word line best) (drop_more all i d within)) ∙ before)
 
 -- none is left
-pub none_nearer : (line : ℕ) (best : Option SlotWord) (all : List ToldWord) (i : ℕ) (found : Option SlotWord) → length all ≤ i → nearest_word line best (drop i all) ≡ found → best ≡ found
+pub none_nearer : (line : ℕ) (best : Option SlotWord) (all : List DisplayedWord) (i : ℕ) (found : Option SlotWord) → length all ≤ i → nearest_word line best (drop i all) ≡ found → best ≡ found
 unfolding nearest_word
 none_nearer line best all i found past before = sym (ap (nearest_word line best) (drop_all i all past)) ∙ before

@@ -10,15 +10,15 @@ use Rattle.ga_source.specs.declared.group.Group.{Group}
 use Rattle.ga_source.specs.declared.program.Program.{Program}
 use Rattle.ga_source.specs.declared.program.Assembled.{Assembled}
 use Rattle.ga_parser.specs.declared.scan.Token.{Token}
-use Rattle.ga_parser.specs.Saying.{all_said, all_in, columns_of, columns_in}
-use Rattle.ga_source.specs.Mending.{with_numbers, IsAssembledOf}
+use Rattle.ga_parser.specs.Saying.{token_contents, all_in, columns_of, columns_in}
+use Rattle.ga_source.specs.Recovery.{with_numbers, IsAssembledOf}
 use Rattle.ga_debug_info.specs.declared.wording.SlotWord.{SlotWord}
-use Rattle.ga_debug_info.specs.declared.wording.ToldWord.{ToldWord}
+use Rattle.ga_debug_info.specs.declared.wording.DisplayedWord.{DisplayedWord}
 use Rattle.ga_debug_info.specs.declared.wording.Begun.{Begun}
-use Rattle.ga_debug_info.specs.Source.{cell_of_address, bare_line, trimmed, line_in, is_long_line, is_code, literals_told, named_by, names_of, noted_by, notes_of}
-use Rattle.ga_debug_info.specs.declared.notes.Note.{Note}
-use Rattle.ga_debug_info.specs.declared.notes.Name.{Name}
-use Rattle.ga_debug_info.specs.declared.notes.Notes.{Notes}
+use Rattle.ga_debug_info.specs.Source.{cell_of_address, bare_line, trimmed, line_in, is_long_line, is_code, literals_told, named_by, names_of, noted_by, debug_info_of}
+use Rattle.ga_debug_info.specs.declared.notes.CellSource.{CellSource}
+use Rattle.ga_debug_info.specs.declared.notes.LabelAddress.{LabelAddress}
+use Rattle.ga_debug_info.specs.declared.notes.DebugInfo.{DebugInfo}
 
 -- ---- words by their numbers
 
@@ -58,7 +58,7 @@ pub record Worded : Type 0 where
   pub word : SlotWord
   pub text : List ℕ
 
-abbrev pub worded_by : ToldWord → Worded
+abbrev pub worded_by : DisplayedWord → Worded
 worded_by told = record { word = told.word; text = told.text.items }
 
 -- The last slot that has the word of this one: the last item has the slots behind it too.
@@ -118,10 +118,10 @@ abbrev pub all_worded : List ℕ → List Token → List Program → List Worded
 all_worded source words programs = flat_map (program_worded source words) programs
 
 -- These are the words of the slots of a source: its words were numbered and assembled, and each slot has the word of its item.
-pub record AreSlotWords (source : List ℕ) (told : List ToldWord) : Type 0 where
+pub record AreSlotWords (source : List ℕ) (told : List DisplayedWord) : Type 0 where
   pub words : List Token
   pub all : Assembled
-  pub said : all_said words ≡ all_in source
+  pub said : token_contents words ≡ all_in source
   pub columns : columns_of words ≡ columns_in source
   pub assembled : IsAssembledOf (with_numbers 1 words) all
   pub told_words : map worded_by told ≡ all_worded source words all.programs.items
@@ -129,32 +129,32 @@ pub record AreSlotWords (source : List ℕ) (told : List ToldWord) : Type 0 wher
 -- ---- what a source says of the cells of its chip
 
 -- the note is of this cell of the node
-abbrev pub is_note_of : NodeId → ℕ → Note → Bool
+abbrev pub is_note_of : NodeId → ℕ → CellSource → Bool
 is_note_of node cell note = note.node.number == node.number && note.cell == cell
 
 -- the note is of an instruction word of the node that this line begins
-abbrev pub is_begun : NodeId → ℕ → Note → Bool
+abbrev pub is_begun : NodeId → ℕ → CellSource → Bool
 is_begun node line note = note.is_code && note.node.number == node.number && note.line == line
 
 -- the name is one that the node has
-abbrev pub is_node_name : NodeId → List ℕ → Name → Bool
+abbrev pub is_node_name : NodeId → List ℕ → LabelAddress → Bool
 is_node_name node text name = name.node.number == node.number && bytes_eq name.text.items text
 
-abbrev pub text_in : Option Note → List ℕ
+abbrev pub text_in : Option CellSource → List ℕ
 text_in (Some note) = note.text.items
 text_in None = []
 
 -- what the first note of a cell says
-abbrev pub first_note_text : List Note → NodeId → Option ℕ → List ℕ
+abbrev pub first_note_text : List CellSource → NodeId → Option ℕ → List ℕ
 first_note_text notes node (Some cell) = text_in (option_and_then (slice_get notes) (position (is_note_of node cell) notes))
 first_note_text notes node None = []
 
-abbrev pub long_in : Option Note → Bool
+abbrev pub long_in : Option CellSource → Bool
 long_in (Some note) = note.is_long
 long_in None = false
 
 -- whether what the first note of a cell says ends before a word
-abbrev pub first_note_is_long : List Note → NodeId → Option ℕ → Bool
+abbrev pub first_note_is_long : List CellSource → NodeId → Option ℕ → Bool
 first_note_is_long notes node (Some cell) = long_in (option_and_then (slice_get notes) (position (is_note_of node cell) notes))
 first_note_is_long notes node None = false
 
@@ -165,22 +165,22 @@ abbrev pub worded_slot : ℕ → ℕ
 worded_slot slot = if nat_lt slot 4 then slot else 0
 
 -- the word is that of the slot of a cell
-abbrev pub is_slot_word : NodeId → ℕ → ℕ → ToldWord → Bool
+abbrev pub is_slot_word : NodeId → ℕ → ℕ → DisplayedWord → Bool
 is_slot_word node cell slot told =
     told.word.node.number == node.number && told.word.cell == cell && nat_le told.word.first (worded_slot slot) && nat_le (worded_slot slot) told.word.last
 
-abbrev pub told_word_of : List ToldWord → NodeId → ℕ → ℕ → Option ToldWord
+abbrev pub told_word_of : List DisplayedWord → NodeId → ℕ → ℕ → Option DisplayedWord
 told_word_of told node cell slot = option_and_then (slice_get told) (position (is_slot_word node cell slot) told)
 
-abbrev pub slot_word_of : List ToldWord → NodeId → ℕ → ℕ → Option SlotWord
-slot_word_of told node cell slot = option_map (λ (one : ToldWord). one.word) (told_word_of told node cell slot)
+abbrev pub slot_word_of : List DisplayedWord → NodeId → ℕ → ℕ → Option SlotWord
+slot_word_of told node cell slot = option_map (λ (one : DisplayedWord). one.word) (told_word_of told node cell slot)
 
-abbrev pub text_of_word : Option ToldWord → List ℕ
+abbrev pub text_of_word : Option DisplayedWord → List ℕ
 text_of_word (Some told) = told.text.items
 text_of_word None = []
 
 -- what the word says of a slot
-abbrev pub slot_text : List ToldWord → NodeId → Option ℕ → ℕ → List ℕ
+abbrev pub slot_text : List DisplayedWord → NodeId → Option ℕ → ℕ → List ℕ
 slot_text told node (Some cell) slot = text_of_word (told_word_of told node cell slot)
 slot_text told node None slot = []
 
@@ -192,29 +192,29 @@ is_nearer line (Some best) word = (word.is_code && nat_le line word.line) && nat
 abbrev pub nearer_word : ℕ → Option SlotWord → SlotWord → Option SlotWord
 nearer_word line best word = if is_nearer line best word then Some word else best
 
-unfoldable pub nearest_word : ℕ → Option SlotWord → List ToldWord → Option SlotWord
+unfoldable pub nearest_word : ℕ → Option SlotWord → List DisplayedWord → Option SlotWord
 nearest_word line best [] = best
 nearest_word line best (told ∷ rest) = nearest_word line (nearer_word line best told.word) rest
 
 -- ---- addresses
 
 -- the address of the first instruction word that a line begins
-abbrev pub line_address : List Note → NodeId → ℕ → Option ℕ
+abbrev pub line_address : List CellSource → NodeId → ℕ → Option ℕ
 line_address notes node line =
-    option_map (λ (note : Note). note.address) (option_and_then (slice_get notes) (position (is_begun node line) notes))
+    option_map (λ (note : CellSource). note.address) (option_and_then (slice_get notes) (position (is_begun node line) notes))
 
-abbrev pub address_in : Option Name → Option ℕ
-address_in found = option_map (λ (name : Name). name.address) found
+abbrev pub address_in : Option LabelAddress → Option ℕ
+address_in found = option_map (λ (name : LabelAddress). name.address) found
 
 -- the address of the first name that is this one of the node
-abbrev pub address_of : List Name → NodeId → List ℕ → Option ℕ
+abbrev pub address_of : List LabelAddress → NodeId → List ℕ → Option ℕ
 address_of names node text = address_in (option_and_then (slice_get names) (position (is_node_name node text) names))
 
 -- ---- the notes of a source
 
 -- The notes are those that the source and its programs give: the names of the labels, of each cell what the source says of it, and of
 -- each slot its word.
-pub record AreOfSource (source : List ℕ) (programs : List Program) (notes : Notes) : Type 0 where
+pub record AreOfSource (source : List ℕ) (programs : List Program) (notes : DebugInfo) : Type 0 where
   pub labels : map named_by notes.names.items ≡ names_of programs
-  pub cells : map noted_by notes.notes.items ≡ notes_of source programs
+  pub cells : map noted_by notes.notes.items ≡ debug_info_of source programs
   pub slots : AreSlotWords source notes.words.items

@@ -14,13 +14,13 @@ use Rattle.ga_parser.specs.declared.item.Item.{Item}
 use Rattle.ga_parser.specs.declared.item.Item.TheVariants.{Literal, Cell}
 use Rattle.ga_parser.specs.declared.item.Request.{Request}
 use Rattle.ga_parser.specs.declared.item.Request.TheVariants.{Mark}
-use Rattle.ga_parser.specs.declared.item.Asked.{Asked}
+use Rattle.ga_parser.specs.declared.item.LocatedRequest.{LocatedRequest}
 use Rattle.ga_source.specs.declared.group.Group.{Group}
 use Rattle.ga_source.specs.declared.program.Program.{Program}
-use Rattle.ga_parser.specs.Saying.{source_lines, unmarked, has_bytes}
+use Rattle.ga_parser.specs.Saying.{source_lines, strip_bom, has_bytes}
 use Rattle.ga_source.specs.Reading.{are_both, p_behind}
-use Rattle.ga_debug_info.specs.declared.notes.Note.{Note}
-use Rattle.ga_debug_info.specs.declared.notes.Name.{Name}
+use Rattle.ga_debug_info.specs.declared.notes.CellSource.{CellSource}
+use Rattle.ga_debug_info.specs.declared.notes.LabelAddress.{LabelAddress}
 
 -- ---- the names of labels
 
@@ -30,7 +30,7 @@ pub record Named : Type 0 where
   pub text : List ℕ
   pub address : ℕ
 
-abbrev pub named_by : Name → Named
+abbrev pub named_by : LabelAddress → Named
 named_by name = record { node = name.node; text = name.text.items; address = name.address }
 
 -- a label, where it has a name and stands at an address
@@ -80,7 +80,7 @@ marked_by program cell (Mark label) = if are_both (label_cell program label) (So
 marked_by program cell _ = None
 
 -- the label that requests mark last in the cell
-unfoldable pub last_marked : Program → ℕ → List Asked → Option ℕ
+unfoldable pub last_marked : Program → ℕ → List LocatedRequest → Option ℕ
 last_marked program cell [] = None
 last_marked program cell (asked ∷ rest) = option_or (last_marked program cell rest) (marked_by program cell asked.request)
 
@@ -107,7 +107,7 @@ trimmed text = without_back (without_front text)
 
 -- A line of the source by its number from 1 on, empty where there is none.
 abbrev pub bare_line : List ℕ → ℕ → List ℕ
-bare_line source line = unmarked line (slice_index_or (source_lines source) (line - 1) [])
+bare_line source line = strip_bom line (slice_index_or (source_lines source) (line - 1) [])
 
 -- A line of the source by its number, without white space at its ends. (A carriage return at its end is white space.)
 abbrev pub line_in : List ℕ → ℕ → List ℕ
@@ -133,7 +133,7 @@ pub record Noted : Type 0 where
   pub is_long : Bool
   pub text : List ℕ
 
-abbrev pub noted_by : Note → Noted
+abbrev pub noted_by : CellSource → Noted
 noted_by note = record { node = note.node; cell = note.cell; address = note.address; line = note.line; is_code = note.is_code; is_long = note.is_long; text = note.text.items }
 
 -- an address in three hexadecimal digits
@@ -198,5 +198,5 @@ group_noted source program group =
 abbrev pub notes_in : List ℕ → Program → List Noted
 notes_in source program = flat_map (group_noted source program) program.groups.items
 
-abbrev pub notes_of : List ℕ → List Program → List Noted
-notes_of source programs = flat_map (notes_in source) programs
+abbrev pub debug_info_of : List ℕ → List Program → List Noted
+debug_info_of source programs = flat_map (notes_in source) programs

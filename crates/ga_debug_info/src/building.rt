@@ -6,9 +6,9 @@ ghost use Rattle.ga_debug_info.specs.Source.{named_by, named_at, names_in, label
 ghost use Rattle.ga_source.specs.Reading.{p_behind};
 ghost use Rattle.ga_debug_info.specs.inner.{IsMarked};
 
-use crate::label::{Marked, cell_of, name_of};
+use crate::label::{LastLabels, cell_of, name_of};
 use crate::line::{Lines, is_long};
-use crate::notes::{Name, Note, Notes};
+use crate::notes::{CellSource, DebugInfo, LabelAddress};
 use crate::wording::slot_words;
 use ga_grid::NodeId;
 use ga_ports::advance_p;
@@ -28,7 +28,11 @@ struct CellAt {
 ///
 /// # Errors
 /// Memory is wanting.
-pub fn notes_of(alloc: Global, source: &[u8], programs: &[Program<'_>]) -> Result<Notes, AllocError>
+pub fn debug_info_of(
+    alloc: Global,
+    source: &[u8],
+    programs: &[Program<'_>],
+) -> Result<DebugInfo, AllocError>
     ensures { IfOk result (λ notes. AreOfSource source.now programs.now notes) }
 {
     let mut lines = Lines::new(source);
@@ -39,7 +43,7 @@ pub fn notes_of(alloc: Global, source: &[u8], programs: &[Program<'_>]) -> Resul
         add_cells(alloc, &mut notes, program, &mut lines)?;
     }
     let words = slot_words(alloc, source)?;
-    Ok(Notes {
+    Ok(DebugInfo {
         notes,
         names,
         words,
@@ -47,7 +51,11 @@ pub fn notes_of(alloc: Global, source: &[u8], programs: &[Program<'_>]) -> Resul
 }
 
 /// Adds the labels of a program that have a name.
-fn add_names(alloc: Global, names: &mut Vec<Name>, program: &Program<'_>) -> Result<(), AllocError>
+fn add_names(
+    alloc: Global,
+    names: &mut Vec<LabelAddress>,
+    program: &Program<'_>,
+) -> Result<(), AllocError>
     ensures { OnOk result (map named_by names.new.items ≡ map named_by names.old.items ++ names_in program.now) }
 {
     for (label, address) in program.names.iter().zip(&program.labels) {
@@ -59,7 +67,7 @@ fn add_names(alloc: Global, names: &mut Vec<Name>, program: &Program<'_>) -> Res
 /// Adds a label, where it has a name and stands at an address.
 fn add_name(
     alloc: Global,
-    names: &mut Vec<Name>,
+    names: &mut Vec<LabelAddress>,
     node: NodeId,
     label: &Label<'_>,
     address: Option<u32>,
@@ -74,7 +82,7 @@ fn add_name(
     }
     let mut text = Vec::new(alloc);
     text.extend_from_slice(label.name)?;
-    names.push(Name {
+    names.push(LabelAddress {
         node,
         text,
         address,
@@ -85,14 +93,14 @@ fn add_name(
 /// Adds the cells of a program.
 fn add_cells(
     alloc: Global,
-    notes: &mut Vec<Note>,
+    notes: &mut Vec<CellSource>,
     program: &Program<'_>,
     lines: &mut Lines<'_>,
 ) -> Result<(), AllocError>
     ensures notes { OnOk result (map noted_by notes.new.items ≡ map noted_by notes.old.items ++ notes_in lines.old program.now) }
     ensures same { lines.new ≡ lines.old }
 {
-    let marked = Marked::of(program);
+    let marked = LastLabels::of(program);
     for group in &program.groups {
         add_group(alloc, notes, program, &marked, group, lines)?;
     }
@@ -102,9 +110,9 @@ fn add_cells(
 /// Adds the instruction word and the literals of a group, or its cell of data.
 fn add_group(
     alloc: Global,
-    notes: &mut Vec<Note>,
+    notes: &mut Vec<CellSource>,
     program: &Program<'_>,
-    marked: &Marked,
+    marked: &LastLabels,
     group: &Group,
     lines: &mut Lines<'_>,
 ) -> Result<(), AllocError>
@@ -140,9 +148,9 @@ pub(crate) fn is_code(group: &Group) -> bool
 /// Adds the cell of an item's literal, where it has one, from P on, and tells P behind it.
 fn add_literal(
     alloc: Global,
-    notes: &mut Vec<Note>,
+    notes: &mut Vec<CellSource>,
     program: &Program<'_>,
-    marked: &Marked,
+    marked: &LastLabels,
     p: u32,
     item: Item,
     line: u32,
@@ -168,9 +176,9 @@ fn add_literal(
 /// Adds the cell at an address, where it names one.
 fn add_cell(
     alloc: Global,
-    notes: &mut Vec<Note>,
+    notes: &mut Vec<CellSource>,
     program: &Program<'_>,
-    marked: &Marked,
+    marked: &LastLabels,
     given: CellAt,
     lines: &mut Lines<'_>,
 ) -> Result<(), AllocError>
@@ -184,7 +192,7 @@ fn add_cell(
     let label = marked.before(cell);
     let text = note_text(alloc, program, given.address, label, given.line, lines)?;
     let is_long = is_long(lines.line(given.line));
-    notes.push(Note {
+    notes.push(CellSource {
         node: program.node,
         cell,
         address: given.address,

@@ -23,9 +23,9 @@ const FAULT_ROOM: usize = 2304;
 type FaultText = ArrayVec<u8, FAULT_ROOM>;
 
 /// Tells the fault of a source.
-pub fn tell_fault<E: Write>(errors: &mut E, fault: Fault<'_>) {
+pub fn report_fault<E: Write>(errors: &mut E, fault: Fault<'_>) {
     match fault.cause {
-        SourceCause::Memory => tell_memory(errors),
+        SourceCause::Memory => report_out_of_memory(errors),
         _ => tell(errors, fault_text(fault).as_slice()),
     }
 }
@@ -172,12 +172,12 @@ fn push_shown_byte(out: &mut FaultText, byte: u8)
 }
 
 /// Tells that there was no memory.
-pub fn tell_memory<E: Write>(errors: &mut E) {
+pub fn report_out_of_memory<E: Write>(errors: &mut E) {
     tell(errors, b"ga144: no memory\n");
 }
 
 /// Tells that the source goes past its bound.
-pub fn tell_long<E: Write>(errors: &mut E) {
+pub fn report_input_too_long<E: Write>(errors: &mut E) {
     tell(errors, b"ga144: the source has more than 16777216 bytes\n");
 }
 
@@ -198,10 +198,14 @@ fn tell_store<E: Write>(errors: &mut E, store: Store) {
 }
 
 /// Tells the stores over code of all programs, or that memory was refused, and then it is false.
-pub fn tell_stores<E: Write>(alloc: Global, errors: &mut E, assembled: &Assembled<'_>) -> bool {
+pub fn report_code_stores<E: Write>(
+    alloc: Global,
+    errors: &mut E,
+    assembled: &Assembled<'_>,
+) -> bool {
     for program in &assembled.programs {
         let Ok(stores) = stores_over_code(alloc, program) else {
-            tell_memory(errors);
+            report_out_of_memory(errors);
             return false;
         };
         for store in &stores {
@@ -212,7 +216,7 @@ pub fn tell_stores<E: Write>(alloc: Global, errors: &mut E, assembled: &Assemble
 }
 
 /// Tells of each node of an image the fields that source doesn't say, in their order in an image.
-pub fn tell_unsaid<E: Write>(errors: &mut E, chip: &Chip) {
+pub fn report_unrepresented<E: Write>(errors: &mut E, chip: &Chip) {
     let fresh = Node::new(0);
     for number in 0..NODES as u8 {
         let id = NodeId::new(number);

@@ -14,11 +14,11 @@ const CELLS: usize = 192;
 
 /// The labels with a name that stand last at each cell of a node, by their numbers.
 #[derive(Clone, Copy)]
-pub(crate) struct Marked {
+pub(crate) struct LastLabels {
     labels: [Option<usize>; CELLS],
 }
 
-impl Marked {
+impl LastLabels {
     pub(crate) fn of(program: &Program<'_>) -> Self
         ensures { IsMarked program.now result.labels }
     {
@@ -26,7 +26,7 @@ impl Marked {
         for asked in &program.asked {
             mark(&mut labels, program, asked.request);
         }
-        Marked { labels }
+        LastLabels { labels }
     }
 
     /// The label that stands last at or before a cell, in the same memory.

@@ -3,16 +3,19 @@
 #![tactic(auto)]
 
 mod building;
-mod edited;
+mod editor_artifact;
 mod faults;
 mod label;
 mod line;
 mod notes;
 mod wording;
 
-pub use building::notes_of;
-pub use edited::{Edited, edited_image, edited_source, tell_edited};
-pub use faults::{push_fault, tell_fault, tell_long, tell_memory, tell_stores, tell_unsaid};
+pub use building::debug_info_of;
+pub use editor_artifact::{EditorArtifact, edited_image, edited_source, report_editor_artifact};
+pub use faults::{
+    push_fault, report_code_stores, report_fault, report_input_too_long, report_out_of_memory,
+    report_unrepresented,
+};
 pub use line::Lines;
-pub use notes::{Name, Note, Notes};
-pub use wording::{SlotWord, ToldWord};
+pub use notes::{CellSource, DebugInfo, LabelAddress};
+pub use wording::{DisplayedWord, SlotWord};

@@ -5,7 +5,7 @@ ghost use Rattle.ga_parser.specs.Saying.{source_lines};
 ghost use Rattle.ga_debug_info.specs.Source.{bare_line, line_in, is_long_line};
 ghost use Rattle.ga_debug_info.specs.Notes.{quoted_from};
 
-use ga_source::unmarked;
+use ga_source::strip_bom;
 use std::marker::Model;
 
 /// How many bytes of a line are told whole.
@@ -78,7 +78,7 @@ impl<'s> Lines<'s> {
         self.rest = behind(self.source, self.before, self.rest, before);
         self.before = before;
         let (first, _) = first_line(self.rest);
-        unmarked(number, first)
+        strip_bom(number, first)
     }
 }
 

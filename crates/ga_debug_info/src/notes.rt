@@ -3,13 +3,13 @@
 ghost use Rattle.std.specs.Prelude.{◌≡◌, position};
 ghost use Rattle.ga_debug_info.specs.Notes.{is_note_of, is_begun, is_node_name, worded_slot as slot_worded_by, is_slot_word, is_nearer as is_nearer_word, nearer_word};
 
-use crate::wording::{SlotWord, ToldWord};
+use crate::wording::{DisplayedWord, SlotWord};
 use ga_grid::NodeId;
 use std::alloc::Global;
 
 /// What the source says of a cell that it gives.
 #[derive(Drop)]
-pub struct Note {
+pub struct CellSource {
     pub node: NodeId,
     /// 0 to 63 of RAM, 128 to 191 of ROM.
     pub cell: u8,
@@ -27,7 +27,7 @@ pub struct Note {
 
 /// A label of a node.
 #[derive(Drop)]
-pub struct Name {
+pub struct LabelAddress {
     pub node: NodeId,
     pub text: Vec<u8>,
     /// P at the label: 10 bits.
@@ -36,14 +36,14 @@ pub struct Name {
 
 /// What a source says of the cells of its chip. An image says nothing.
 #[derive(Drop)]
-pub struct Notes {
-    pub notes: Vec<Note>,
-    pub names: Vec<Name>,
+pub struct DebugInfo {
+    pub notes: Vec<CellSource>,
+    pub names: Vec<LabelAddress>,
     /// The words of the slots, in the order of the source.
-    pub words: Vec<ToldWord>,
+    pub words: Vec<DisplayedWord>,
 }
 
-impl Notes {
+impl DebugInfo {
     ghost use Rattle.std.specs.Prelude.{◌≡◌, [], None, Some, option_map};
     ghost use Rattle.ga_debug_info.specs.Notes.{first_note_text, first_note_is_long, slot_text, slot_word_of, nearest_word, line_address, address_of};
 
@@ -53,7 +53,7 @@ impl Notes {
         ensures names { result.names.items ≡ [] }
         ensures words { result.words.items ≡ [] }
     {
-        Notes {
+        DebugInfo {
             notes: Vec::new(alloc),
             names: Vec::new(alloc),
             words: Vec::new(alloc),
@@ -82,7 +82,7 @@ impl Notes {
     }
 
     /// Whether what is said of a cell ends before a word: the line is long that gives it.
-    pub fn is_long(&self, node: NodeId, cell: Option<u8>) -> bool
+    pub fn is_truncated(&self, node: NodeId, cell: Option<u8>) -> bool
         ensures { result ≡ first_note_is_long self.now.notes.items node cell }
     {
         let Some(cell) = cell else {
@@ -160,42 +160,42 @@ impl Notes {
 }
 
 /// Whether a note is of this cell.
-fn is_of(note: &Note, node: NodeId, cell: u8) -> bool
+fn is_of(note: &CellSource, node: NodeId, cell: u8) -> bool
     ensures { result ≡ is_note_of node cell note.now }
 {
     note.node == node && note.cell == cell
 }
 
 /// Where the first note of a cell stands.
-fn note_place(notes: &[Note], node: NodeId, cell: u8) -> Option<usize>
+fn note_place(notes: &[CellSource], node: NodeId, cell: u8) -> Option<usize>
     ensures { result ≡ position (is_note_of node cell) notes.now }
 {
     notes.iter().position(|note| is_of(note, node, cell))
 }
 
 /// Whether a note is of an instruction word of the node that this line begins.
-fn is_begun(note: &Note, node: NodeId, line: u32) -> bool
+fn is_begun(note: &CellSource, node: NodeId, line: u32) -> bool
     ensures { result ≡ is_begun node line note.now }
 {
     note.is_code && note.node == node && note.line == line
 }
 
 /// Where the first note stands of an instruction word of the node that this line begins.
-fn begun_place(notes: &[Note], node: NodeId, line: u32) -> Option<usize>
+fn begun_place(notes: &[CellSource], node: NodeId, line: u32) -> Option<usize>
     ensures { result ≡ position (is_begun node line) notes.now }
 {
     notes.iter().position(|note| is_begun(note, node, line))
 }
 
 /// Whether a name is this one of the node.
-fn is_named(name: &Name, node: NodeId, text: &[u8]) -> bool
+fn is_named(name: &LabelAddress, node: NodeId, text: &[u8]) -> bool
     ensures { result ≡ is_node_name node text.now name.now }
 {
     name.node == node && name.text.as_slice() == text
 }
 
 /// Where the first name stands that is this one of the node.
-fn name_place(names: &[Name], node: NodeId, text: &[u8]) -> Option<usize>
+fn name_place(names: &[LabelAddress], node: NodeId, text: &[u8]) -> Option<usize>
     ensures { result ≡ position (is_node_name node text.now) names.now }
 {
     names.iter().position(|name| is_named(name, node, text))
@@ -209,7 +209,7 @@ fn worded_slot(slot: usize) -> usize
 }
 
 /// Whether a word is that of a slot of a cell.
-fn is_word_of(told: &ToldWord, node: NodeId, cell: u8, slot: usize) -> bool
+fn is_word_of(told: &DisplayedWord, node: NodeId, cell: u8, slot: usize) -> bool
     ensures { result ≡ is_slot_word node cell slot told.now }
 {
     let slot = worded_slot(slot);
@@ -218,7 +218,7 @@ fn is_word_of(told: &ToldWord, node: NodeId, cell: u8, slot: usize) -> bool
 }
 
 /// Where the first word stands that is that of a slot of a cell.
-fn word_place(words: &[ToldWord], node: NodeId, cell: u8, slot: usize) -> Option<usize>
+fn word_place(words: &[DisplayedWord], node: NodeId, cell: u8, slot: usize) -> Option<usize>
     ensures { result ≡ position (is_slot_word node cell slot) words.now }
 {
     words

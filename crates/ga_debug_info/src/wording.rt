@@ -2,7 +2,7 @@
 
 ghost use Rattle.std.specs.Prelude.{◌≡◌, ◌<◌, ◌++◌, ◌∷◌, [], map, length, slice_index, drop, decimal, codes, IfOk, OnOk};
 ghost use Rattle.ga_source.specs.Reading.{p_behind};
-ghost use Rattle.ga_parser.specs.Saying.{all_said, all_in, columns_of, columns_in};
+ghost use Rattle.ga_parser.specs.Saying.{token_contents, all_in, columns_of, columns_in};
 ghost use Rattle.ga_debug_info.specs.Notes.{word_line as line_by_number, word_column as column_by_number, quoted_word, quoted_if_long, worded_by, last_slot as last_slot_of, word_in_slot as word_by_slot, word_told, slots_worded, address_worded, literal_worded, group_worded, program_worded, all_worded, AreSlotWords};
 
 use crate::building::{is_code, push_number};
@@ -10,7 +10,7 @@ use crate::label::cell_of;
 use crate::line::{Lines, is_long};
 use ga_grid::NodeId;
 use ga_ports::advance_p;
-use ga_source::{Group, Item, Program, Token, assemble_numbered, source_words};
+use ga_source::{Group, Item, Program, Token, assemble_by_word_number, source_words};
 use std::alloc::{AllocError, Global};
 
 /// The word of the source from which slots of a cell come.
@@ -31,7 +31,7 @@ pub struct SlotWord {
 
 /// The word from which slots of a cell come, and how it is told.
 #[derive(Drop)]
-pub struct ToldWord {
+pub struct DisplayedWord {
     pub word: SlotWord,
     /// Line, column and the text from the word on, where the line is long that begins the cell; else empty.
     pub text: Vec<u8>,
@@ -50,11 +50,11 @@ pub(crate) struct Begun {
 ///
 /// # Errors
 /// Memory is wanting, or the source can't be assembled.
-pub(crate) fn slot_words(alloc: Global, source: &[u8]) -> Result<Vec<ToldWord>, AllocError>
+pub(crate) fn slot_words(alloc: Global, source: &[u8]) -> Result<Vec<DisplayedWord>, AllocError>
     ensures { IfOk result (λ told. AreSlotWords source.now told.items) }
 {
     let words = source_words(alloc, source)?;
-    let Ok(all) = assemble_numbered(alloc, words.as_slice()) else {
+    let Ok(all) = assemble_by_word_number(alloc, words.as_slice()) else {
         return Err(AllocError);
     };
     let mut lines = Lines::new(source);
@@ -68,7 +68,7 @@ fn add_programs(
     programs: &[Program<'_>],
     words: &[Token<'_>],
     lines: &mut Lines<'_>,
-) -> Result<Vec<ToldWord>, AllocError>
+) -> Result<Vec<DisplayedWord>, AllocError>
     ensures words { IfOk result (λ told. map worded_by told.items ≡ all_worded lines.old words.now programs.now) }
     ensures same { lines.new ≡ lines.old }
 {
@@ -82,7 +82,7 @@ fn add_programs(
 /// Adds the words of the slots that a program gives.
 fn add_program(
     alloc: Global,
-    told: &mut Vec<ToldWord>,
+    told: &mut Vec<DisplayedWord>,
     program: &Program<'_>,
     words: &[Token<'_>],
     lines: &mut Lines<'_>,
@@ -99,7 +99,7 @@ fn add_program(
 /// Adds the words of the slots of a group: of its own cell, and of its literals.
 fn add_group(
     alloc: Global,
-    told: &mut Vec<ToldWord>,
+    told: &mut Vec<DisplayedWord>,
     node: NodeId,
     group: &Group,
     words: &[Token<'_>],
@@ -130,7 +130,7 @@ fn add_group(
 /// Adds the word of an item's literal, where it has one, from P on, and tells P behind it.
 fn add_literal(
     alloc: Global,
-    told: &mut Vec<ToldWord>,
+    told: &mut Vec<DisplayedWord>,
     node: NodeId,
     p: u32,
     item: Item,
@@ -152,7 +152,7 @@ fn add_literal(
 /// Adds the words of the slots of the cell at an address, where it names one, whose items have these words.
 fn add_cell(
     alloc: Global,
-    told: &mut Vec<ToldWord>,
+    told: &mut Vec<DisplayedWord>,
     node: NodeId,
     is_code: bool,
     address: u32,
@@ -189,7 +189,7 @@ fn first_of(numbers: &[u32]) -> u32
 /// Adds the words of the slots of a cell, whose items have these words.
 fn add_slots(
     alloc: Global,
-    told: &mut Vec<ToldWord>,
+    told: &mut Vec<DisplayedWord>,
     cell: Begun,
     numbers: &[u32],
     words: &[Token<'_>],
@@ -227,7 +227,7 @@ fn word_in_slot(cell: Begun, size: usize, slot: usize, number: u32, words: &[Tok
 /// Adds a word of a cell that begins in a line.
 fn add_word(
     alloc: Global,
-    told: &mut Vec<ToldWord>,
+    told: &mut Vec<DisplayedWord>,
     begun: u32,
     word: SlotWord,
     lines: &mut Lines<'_>,
@@ -236,7 +236,7 @@ fn add_word(
     ensures same { lines.new ≡ lines.old }
 {
     let text = quoted(alloc, begun, word.line, word.column, lines)?;
-    told.push(ToldWord { word, text })?;
+    told.push(DisplayedWord { word, text })?;
     Ok(())
 }
 

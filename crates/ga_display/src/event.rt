@@ -9,8 +9,8 @@ use ga_grid::NodeId;
 use ga_lab::{LabFault, Made};
 use ga_node::Kind;
 use ga_text::{
-    LINE_ROOM, NUMBER_ROOM, hex2, push_eight, push_node_spaced, push_number, push_spaced,
-    push_step, push_text,
+    MAX_LINE_BYTES, MAX_NUMBER_DIGITS, hex2, push_eight, push_node_spaced, push_number,
+    push_spaced, push_step, push_text,
 };
 use ga_word::Word18;
 
@@ -18,12 +18,12 @@ use ga_word::Word18;
 static FETCH: [u8; 7] = *b" fetch\n";
 
 /// The most bytes of what an event of a node's own was, with its line feed.
-const KIND_ROOM: usize = b" stop \n".len() + NUMBER_ROOM;
+const KIND_ROOM: usize = b" stop \n".len() + MAX_NUMBER_DIGITS;
 
 /// Adds the text of an event.
 #[inline(always)]
 pub fn push_made<const ROOM: usize>(out: &mut ArrayVec<u8, ROOM>, made: Made)
-    requires { array_vec_len out.old + LINE_ROOM ≤ ROOM }
+    requires { array_vec_len out.old + MAX_LINE_BYTES ≤ ROOM }
     ensures { out.new.items ≡ out.old.items ++ made_text made }
 {
     match made {
@@ -48,7 +48,7 @@ pub fn push_made<const ROOM: usize>(out: &mut ArrayVec<u8, ROOM>, made: Made)
 #[inline(always)]
 fn push_near<const ROOM: usize>(out: &mut ArrayVec<u8, ROOM>, node: NodeId, step: u32, kind: Kind)
     requires small { step < 100000000 }
-    requires room { array_vec_len out.old + LINE_ROOM ≤ ROOM }
+    requires room { array_vec_len out.old + MAX_LINE_BYTES ≤ ROOM }
     ensures { out.new.items ≡ out.old.items ++ made_text (Own node step kind) }
 {
     push_node_spaced(out, node);
@@ -59,7 +59,7 @@ fn push_near<const ROOM: usize>(out: &mut ArrayVec<u8, ROOM>, node: NodeId, step
 /// Adds the text of an event of a node's own, whose number has any length.
 #[inline(never)]
 fn push_far<const ROOM: usize>(out: &mut ArrayVec<u8, ROOM>, node: NodeId, step: u32, kind: Kind)
-    requires { array_vec_len out.old + LINE_ROOM ≤ ROOM }
+    requires { array_vec_len out.old + MAX_LINE_BYTES ≤ ROOM }
     ensures { out.new.items ≡ out.old.items ++ made_text (Own node step kind) }
 {
     push_step(out, node, step);
@@ -73,7 +73,7 @@ fn push_pass<const ROOM: usize>(
     reader: (NodeId, u32),
     word: Word18,
 )
-    requires { array_vec_len out.old + LINE_ROOM ≤ ROOM }
+    requires { array_vec_len out.old + MAX_LINE_BYTES ≤ ROOM }
     ensures { out.new.items ≡ out.old.items ++ made_text (Pass writer.0 writer.1 reader.0 reader.1 word) }
 {
     push_text(out, b"pass ");
@@ -134,7 +134,7 @@ fn push_end<const ROOM: usize>(out: &mut ArrayVec<u8, ROOM>, kind: Kind)
 /// The text of a refused call.
 pub fn refusal_text(fault: LabFault) -> &'static [u8]
     ensures text { result.now ≡ refusal_text fault }
-    ensures len { length result.now ≤ LINE_ROOM }
+    ensures len { length result.now ≤ MAX_LINE_BYTES }
 {
     match fault {
         LabFault::Waiting => b"no 1 waiting\n",

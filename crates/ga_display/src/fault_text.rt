@@ -6,7 +6,7 @@ use ga_image::ImageFault;
 use ga_text::{TextBuffer, push_number, push_text};
 
 /// Puts the text of a refused image.
-pub fn put_fault(out: &mut TextBuffer, fault: ImageFault)
+pub fn write_image_fault(out: &mut TextBuffer, fault: ImageFault)
     ensures { out.new.items ≡ image_fault_text fault }
 {
     out.clear();

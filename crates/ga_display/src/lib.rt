@@ -4,11 +4,11 @@
 mod event;
 mod fault_text;
 mod node_text;
-mod saying;
 mod wording;
+mod writing;
 
 pub use event::{push_made, refusal_text};
-pub use fault_text::put_fault;
-pub use node_text::{say_memory, say_node};
-pub use saying::{say_chain_count, say_counts, say_made, say_removed, say_trace};
+pub use fault_text::write_image_fault;
+pub use node_text::{write_memory, write_node};
 pub use wording::{Wording, advice_text, advised_text};
+pub use writing::{write_chain_head, write_counts, write_event, write_removed, write_trace_head};

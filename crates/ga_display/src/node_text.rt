@@ -4,15 +4,15 @@ ghost use Rattle.arrayvec.specs.ArrayVec.{array_vec_len};
 ghost use Rattle.ga_word.specs.Word.{hex6_of};
 ghost use Rattle.ga_node.specs.Record.{record_of};
 ghost use Rattle.ga_text.specs.Digits.{words_text};
-ghost use Rattle.ga_text.specs.Output.{SaysExactly};
+ghost use Rattle.ga_text.specs.Output.{WritesExactly};
 ghost use Rattle.ga_display.specs.Texts.{node_text, memory_text, state_text, sides_text, register_text, registers_text, flags_text, stacks_text};
 
 use arrayvec::ArrayVec;
 use ga_grid::NodeId;
 use ga_node::{Node, Place, Wait};
 use ga_text::{
-    LINE_ROOM, NUMBER_ROOM, Spoken, WORD_ROOM, Writer, hex2, push_digit, push_node_spaced,
-    push_number, push_spaced, push_text, push_word,
+    MAX_LINE_BYTES, MAX_NUMBER_DIGITS, WORD_DIGITS, WriteResult, Writer, hex2, push_digit,
+    push_node_spaced, push_number, push_spaced, push_text, push_word,
 };
 use ga_word::Word18;
 use std::io::Write;
@@ -27,40 +27,40 @@ const RETURN_WORDS: u8 = 9;
 const SET_ROOM: usize = b"rdlu".len();
 
 /// The most bytes of whether a node runs, waits or is stopped.
-const STATE_ROOM: usize = b"stop ".len() + NUMBER_ROOM;
+const STATE_ROOM: usize = b"stop ".len() + MAX_NUMBER_DIGITS;
 
 /// The bytes of a register: a space, its name, a space and a word.
-const REGISTER_ROOM: usize = b" p ".len() + WORD_ROOM;
+const REGISTER_ROOM: usize = b" p ".len() + WORD_DIGITS;
 
 /// The bytes of P, A, B and I.
 const REGISTERS_ROOM: usize = 4 * REGISTER_ROOM;
 
 /// The bytes of the slot, the carry and `io`.
-const FLAGS_ROOM: usize = b" slot 4 carry 1 io ".len() + WORD_ROOM;
+const FLAGS_ROOM: usize = b" slot 4 carry 1 io ".len() + WORD_DIGITS;
 
 /// The bytes of the words of each stack, each after a space.
-const DATA_ROOM: usize = 10 * (1 + WORD_ROOM);
+const DATA_ROOM: usize = 10 * (1 + WORD_DIGITS);
 
-const RETURNS_ROOM: usize = 9 * (1 + WORD_ROOM);
+const RETURNS_ROOM: usize = 9 * (1 + WORD_DIGITS);
 
 /// The bytes of both stacks, each after its name.
 const STACKS_ROOM: usize = b" d".len() + DATA_ROOM + b" r".len() + RETURNS_ROOM;
 
-/// Writes the text of a node, as `say` does.
+/// Writes the text of a node, as `write_text` does.
 ///
 /// # Errors
 /// A write failed.
-pub fn say_node<W: Write>(writer: &mut Writer<'_, W>, node: NodeId, at: &Node) -> Spoken
-    ensures { SaysExactly result (node_text node (record_of at.now)) W.contents writer.old writer.new }
+pub fn write_node<W: Write>(writer: &mut Writer<'_, W>, node: NodeId, at: &Node) -> WriteResult
+    ensures { WritesExactly result (node_text node (record_of at.now)) W.contents writer.old writer.new }
 {
-    writer.make_room(LINE_ROOM)?;
+    writer.make_room(MAX_LINE_BYTES)?;
     push_node_line(&mut writer.pending, node, at);
     Ok(())
 }
 
 /// Adds the text of a node.
 fn push_node_line<const ROOM: usize>(out: &mut ArrayVec<u8, ROOM>, node: NodeId, at: &Node)
-    requires { array_vec_len out.old + LINE_ROOM ≤ ROOM }
+    requires { array_vec_len out.old + MAX_LINE_BYTES ≤ ROOM }
     ensures { out.new.items ≡ out.old.items ++ node_text node (record_of at.now) }
 {
     push_text(out, b"node ");
@@ -72,19 +72,19 @@ fn push_node_line<const ROOM: usize>(out: &mut ArrayVec<u8, ROOM>, node: NodeId,
     push_text(out, b"\n");
 }
 
-/// Writes the word at an address of a node's memory, as `say` does.
+/// Writes the word at an address of a node's memory, as `write_text` does.
 ///
 /// # Errors
 /// A write failed.
-pub fn say_memory<W: Write>(
+pub fn write_memory<W: Write>(
     writer: &mut Writer<'_, W>,
     node: NodeId,
     address: u8,
     word: Word18,
-) -> Spoken
-    ensures { SaysExactly result (memory_text node address word) W.contents writer.old writer.new }
+) -> WriteResult
+    ensures { WritesExactly result (memory_text node address word) W.contents writer.old writer.new }
 {
-    writer.make_room(LINE_ROOM)?;
+    writer.make_room(MAX_LINE_BYTES)?;
     let out = &mut writer.pending;
     push_text(out, b"mem ");
     push_node_spaced(out, node);
@@ -203,9 +203,9 @@ fn push_stacks<const ROOM: usize>(out: &mut ArrayVec<u8, ROOM>, node: &Node)
 /// Adds a space, and a value of at most 18 bits as a word.
 fn push_value<const ROOM: usize>(out: &mut ArrayVec<u8, ROOM>, value: u32)
     requires small { value < 2 ^ 18 }
-    requires room { array_vec_len out.old + 1 + WORD_ROOM ≤ ROOM }
+    requires room { array_vec_len out.old + 1 + WORD_DIGITS ≤ ROOM }
     ensures text { out.new.items ≡ out.old.items ++ (codes " " ++ hex6_of value) }
-    ensures len { array_vec_len out.new ≡ array_vec_len out.old + 1 + WORD_ROOM }
+    ensures len { array_vec_len out.new ≡ array_vec_len out.old + 1 + WORD_DIGITS }
 {
     push_spaced(out, Word18::truncated(value));
 }

@@ -4,7 +4,7 @@ ghost use Rattle.ga_display.specs.Texts.{advice_text, advised_text, refused_text
 
 use crate::event::refusal_text;
 use ga_lab::LabFault;
-use ga_text::LINE_ROOM;
+use ga_text::MAX_LINE_BYTES;
 
 /// How a session words its refusals.
 #[derive(Clone, Copy, PartialEq, Eq, Debug)]
@@ -20,7 +20,7 @@ impl Wording {
     #[inline(always)]
     pub fn refusal(self, fault: LabFault) -> &'static [u8]
         ensures text { result.now ≡ refused_text self fault }
-        ensures len { length result.now ≤ LINE_ROOM }
+        ensures len { length result.now ≤ MAX_LINE_BYTES }
     {
         match self {
             Wording::Brief => refusal_text(fault),
@@ -32,7 +32,7 @@ impl Wording {
 /// The text of a refused call in a session of `explore`: if the history is full, it adds what to do.
 pub fn advised_text(fault: LabFault) -> &'static [u8]
     ensures text { result.now ≡ advised_text fault }
-    ensures len { length result.now ≤ LINE_ROOM }
+    ensures len { length result.now ≤ MAX_LINE_BYTES }
 {
     match fault {
         LabFault::Full => {

@@ -3,8 +3,8 @@ use Rattle.std.proofs.Common.{◌≡◌, ◌≢◌, ℕ, ◌<◌, Bool, true, fa
 use Rattle.std.proofs.lemmas.List.{set-set, set-get_or, get_or-set_same, get_or-set_other, length-set}
 use Rattle.ga_node.specs.Record.{NodeState, NodeRecord, record_of}
 use Rattle.ga_node.specs.State.{restored, AreFit, IsApart}
-use Rattle.ga_node.specs.Table.{t, own, looks, looks_by, due_of, refusal, sent, taken}
-use Rattle.ga_node.specs.declared.due.Due.{Due}
+use Rattle.ga_node.specs.Table.{t, own, looks, looks_by, next_action_of, refusal, sent, taken}
+use Rattle.ga_node.specs.declared.due.NextAction.{NextAction}
 use Rattle.ga_node.specs.declared.seen.Seen.{Seen}
 use Rattle.ga_node.proofs.Looks.{own_blind, looks_due}
 use Rattle.ga_node.proofs.Restoring.{apart_from_ready}
@@ -25,7 +25,7 @@ use Rattle.ga_node.specs.declared.wait.Wait.{Wait}
 use Rattle.std.proofs.lemmas.Bool.{and_parts, eqb-true}
 use Rattle.ga_grid.specs.Grid.{neighbour_of}
 use Rattle.ga_grid.proofs.NodeIds.{neighbour_of-other}
-use Rattle.ga_event.specs.Apply.{Did, Carried, seen_from, is_number, is_open, unmatched, after_own, after_pass, unless, apply, cause_of}
+use Rattle.ga_event.specs.Apply.{Did, Carried, neighbour_states, is_number, is_open, unmatched, after_own, after_pass, when_allowed, apply, cause_of}
 use Rattle.ga_event.specs.Undo.{cause_with, own_effect, restored_at, CanRestore, IsApplied}
 
 -- a node written back
@@ -38,14 +38,14 @@ restored_back chip n new saved l back =
 
 -- what the node does where its sides show what they showed the code
 own_done : (chip : List NodeState) (node : NodeId) (new : NodeState) (kind : Kind) → refusal (record_of (node_at chip node.number)) ≡ None
-    → (kind, record_of new) ≡ own (seen_from (records_of chip) node.number) (record_of (node_at chip node.number))
+    → (kind, record_of new) ≡ own (neighbour_states (records_of chip) node.number) (record_of (node_at chip node.number))
     → apply (records_of chip) (event.Own node) ≡ Some (records_of (with_node chip node.number new), Did kind)
 own_done chip node new kind ready made =
     let n = node.number in
-    let seen : Seen = seen_from (records_of chip) n in
+    let seen : Seen = neighbour_states (records_of chip) n in
     let read : record_at (records_of chip) n ≡ record_of (node_at chip n) = record_at-records_of chip n in
-    ap (λ z. unless (refusal z) (after_own (records_of chip) n (own seen z))) read
-    ∙ ap (λ z. unless z (after_own (records_of chip) n (own seen (record_of (node_at chip n))))) ready
+    ap (λ z. when_allowed (refusal z) (after_own (records_of chip) n (own seen z))) read
+    ∙ ap (λ z. when_allowed z (after_own (records_of chip) n (own seen (record_of (node_at chip n))))) ready
     ∙ ap (λ z. Some (after_own (records_of chip) n z)) (sym made)
     ∙ ap (λ z. Some (z, Did kind)) (sym (records_of-with_node chip n new))
 
@@ -57,13 +57,13 @@ own_ready chip n new saved l back fit apart = record {
 }
 
 -- what the code showed the node matters only where it looks
-shown_same : (chip : List NodeState) (n : ℕ) (seen : Seen) (at : NodeRecord) (look : Bool) → looks at ≡ look → (look ≡ true → seen ≡ seen_from (records_of chip) n) → own seen at ≡ own (seen_from (records_of chip) n) at
+shown_same : (chip : List NodeState) (n : ℕ) (seen : Seen) (at : NodeRecord) (look : Bool) → looks at ≡ look → (look ≡ true → seen ≡ neighbour_states (records_of chip) n) → own seen at ≡ own (neighbour_states (records_of chip) n) at
 shown_same chip n seen at true is given = ap (λ z. own z at) (given refl)
-shown_same chip n seen at false is given = own_blind seen (seen_from (records_of chip) n) at is
+shown_same chip n seen at false is given = own_blind seen (neighbour_states (records_of chip) n) at is
 
 own_applied : (chip : List NodeState) (node : NodeId) (new : NodeState) (kind : Kind) (saved : List (Place × ℕ)) (seen : Seen) (look : Bool) → node.number < length chip
     → refusal (record_of (node_at chip node.number)) ≡ None → IsApart (node_at chip node.number)
-    → looks (record_of (node_at chip node.number)) ≡ look → (look ≡ true → seen ≡ seen_from (records_of chip) node.number)
+    → looks (record_of (node_at chip node.number)) ≡ look → (look ≡ true → seen ≡ neighbour_states (records_of chip) node.number)
     → (kind, record_of new) ≡ own seen (record_of (node_at chip node.number)) → {changes : List Change} → Overwrites changes (node_at chip node.number) new saved
     → IsApplied chip (event.Own node) (own_effect (record { kind = kind; look = look }) saved) (with_node chip node.number new)
 own_applied chip node new kind saved seen true l ready apart is given made saves = record {
@@ -82,9 +82,9 @@ own_applied chip node new kind saved seen false l ready apart is given made save
 }
 
 -- the same for a call that gets what the event carries out as an argument
-pub due_applied : (chip : List NodeState) (node : NodeId) (at new : NodeState) (kind : Kind) (saved : List (Place × ℕ)) (seen : Seen) (due : Due) (look : Bool) → node.number < length chip → at ≡ node_at chip node.number
-    → refusal (record_of (node_at chip node.number)) ≡ None → due ≡ due_of (record_of (node_at chip node.number))
-    → looks_by due (record_of (node_at chip node.number)) ≡ look → (look ≡ true → seen ≡ seen_from (records_of chip) node.number)
+pub due_applied : (chip : List NodeState) (node : NodeId) (at new : NodeState) (kind : Kind) (saved : List (Place × ℕ)) (seen : Seen) (due : NextAction) (look : Bool) → node.number < length chip → at ≡ node_at chip node.number
+    → refusal (record_of (node_at chip node.number)) ≡ None → due ≡ next_action_of (record_of (node_at chip node.number))
+    → looks_by due (record_of (node_at chip node.number)) ≡ look → (look ≡ true → seen ≡ neighbour_states (records_of chip) node.number)
     → (kind, record_of new) ≡ own seen (record_of at) → {changes : List Change} → Overwrites changes at new saved
     → IsApplied chip (event.Own node) (own_effect (record { kind = kind; look = look }) saved) (with_node chip node.number new)
 due_applied chip node at new kind saved seen due look l is ready due_is by given made {changes} saves =
@@ -119,7 +119,7 @@ pass_applied chip writer reader side x y word gave took lw lr other open_ told s
     record {
       of_kind = other;
       done =
-          ap (λ z. unless (unmatched z) (after_pass (records_of chip) w r (record_at (records_of chip) w) (record_at (records_of chip) r))) open_
+          ap (λ z. when_allowed (unmatched z) (after_pass (records_of chip) w r (record_at (records_of chip) w) (record_at (records_of chip) r))) open_
           ∙ ap (λ z. Some (after_pass (records_of chip) w r z (record_at (records_of chip) r))) read_w
           ∙ ap (λ z. Some (after_pass (records_of chip) w r (record_of (node_at chip w)) z)) read_r
           ∙ ap (λ z. Some (set (set (records_of chip) w (sent (record_of (node_at chip w)))) r (taken z (record_of (node_at chip r))), Carried z)) (sym told)

@@ -12,16 +12,16 @@ use Rattle.ga_node.specs.Record.{NodeRecord, HasSizes}
 use Rattle.ga_node.specs.Io.{io_word}
 use Rattle.ga_node.specs.Changes.{Change, after_changes}
 use Rattle.ga_node.specs.Changes as change
-use Rattle.ga_node.specs.Table.{t, r, posts, halts, found, stored, followed, with_kind, effect, is_extended, due_of, done_by, own_event, own, sent, taken, taking}
-use Rattle.ga_event.specs.Flow.{Flow, Same, From, Move, top, second, top_return, part_of, IsPart, moved_all, from, read_moves, write_moves, moves, moves_by, take_moves, own_flow, send_flow, take_flow, choice, target_of, test_holds, DecideAlike, Comes, chosen_by, AgreeAtParts}
+use Rattle.ga_node.specs.Table.{t, r, posts, stop_effect, found, stored, followed, with_kind, effect, is_extended, next_action_of, done_by, own_event, own, sent, taken, taking}
+use Rattle.ga_event.specs.Flow.{Flow, Same, From, Move, top, second, top_return, part_of, IsPart, moved_all, from, read_moves, write_moves, moves, moves_by, take_moves, own_flow, send_flow, take_flow, choice, target_of, test_holds, DecideAlike, IsFlowOf, chosen_by, AgreeAtParts}
 use Rattle.ga_event.specs.declared.flow.part.Part.{Part}
 use Rattle.ga_event.specs.declared.flow.part.Part.TheVariants.{Ram as OfRam, Rom as OfRom, A as OfA, P as OfP, I as OfI, Carry as OfCarry, Slot as OfSlot, Outside}
 use Rattle.ga_event.specs.Flow as move
 use Rattle.ga_node.specs.declared.seen.Seen.{Seen}
 use Rattle.ga_node.specs.declared.kind.Kind.{Kind}
 use Rattle.ga_node.specs.declared.kind.Kind.TheVariants as kind
-use Rattle.ga_node.specs.declared.due.Due.{Due}
-use Rattle.ga_node.specs.declared.due.Due.TheVariants as due
+use Rattle.ga_node.specs.declared.due.NextAction.{NextAction}
+use Rattle.ga_node.specs.declared.due.NextAction.TheVariants as due
 use Rattle.ga_node.specs.declared.wait.Wait.{Wait}
 use Rattle.ga_node.specs.declared.wait.Wait.TheVariants as wait
 use Rattle.ga_node.specs.declared.wait.Reader.{Reader}
@@ -35,7 +35,7 @@ posts_to sides = posts (wait.Write (side_of sides))
 module _ (seen other : Seen) (n m : NodeRecord) where
   -- what comes from there at the start of an event of both nodes
   abbrev Source : Flow → ℕ → ℕ → Type 0
-  Source flow x y = Comes (io_word seen) n (io_word other) m flow x y
+  Source flow x y = IsFlowOf (io_word seen) n (io_word other) m flow x y
 
   abbrev at_n : Part → ℕ
   at_n = part_of (io_word seen) n
@@ -95,7 +95,7 @@ module _ (seen other : Seen) (n m : NodeRecord) where
   unfolding stored followed
   write_row a b k mvs xs ys e rows = subst (λ b. IsRow (write_moves a mvs) (with_kind k (followed (stored a n) (λ changes. changes ++ xs))) (with_kind k (followed (stored b m) (λ changes. changes ++ ys)))) e (same a)
     where
-      ended : (single : Bool) (sides : ℕ) → IsRow (cond single (move.SetWait ∷ []) (move.SetStop ∷ [])) (cond single (posts_to sides) (halts 1)) (cond single (posts_to sides) (halts 1))
+      ended : (single : Bool) (sides : ℕ) → IsRow (cond single (move.SetWait ∷ []) (move.SetStop ∷ [])) (cond single (posts_to sides) (stop_effect 1)) (cond single (posts_to sides) (stop_effect 1))
       ended true sides = (refl, then set_wait none)
       ended false sides = (refl, then set_stop none)
 
@@ -146,15 +146,15 @@ module _ (seen other : Seen) (n m : NodeRecord) where
   effect_row op.BStore e k = (refl, then (set_b (from_one (λ v. v % 2 ^ 9) top)) (then pop_data goes_on))
   effect_row op.AStore e k = (refl, then (set_a (refl, refl)) (then pop_data goes_on))
 
-  due_row : (d : Due) → choice d n ≡ choice d m → IsRow (moves_by d n) (done_by d seen n) (done_by d other m)
+  due_row : (d : NextAction) → choice d n ≡ choice d m → IsRow (moves_by d n) (done_by d seen n) (done_by d other m)
   due_row due.Fetch e = read_row (classified n.p) (classified m.p) Instruction kind.Fetch _ _ _ (ap target_of e) (λ flow x y comes. then (set_i comes) (then (set_p (from_one advanced OfP)) (then start_again none)))
   due_row (due.Run op) e = effect_row op e (kind.Run (code_of op))
 
-  own_row : DecideAlike n m → IsRow (moves_by (due_of n) n) (own_event seen n) (own_event other m)
+  own_row : DecideAlike n m → IsRow (moves_by (next_action_of n) n) (own_event seen n) (own_event other m)
   unfolding own_event
   own_row alike =
-      subst (λ d. IsRow (moves_by (due_of n) n) (done_by (due_of n) seen n) (done_by d other m)) alike.due
-      (due_row (due_of n) (alike.choice ∙ ap (λ d. choice d m) (sym alike.due)))
+      subst (λ d. IsRow (moves_by (next_action_of n) n) (done_by (next_action_of n) seen n) (done_by d other m)) alike.due
+      (due_row (next_action_of n) (alike.choice ∙ ap (λ d. choice d m) (sym alike.due)))
 
   pub own_flows : DecideAlike n m → HasSizes n → HasSizes m → (part : Part) → IsPart part → Source (own_flow n part) (part_of (io_word seen) (own seen n).1 part) (part_of (io_word other) (own other m).1 part)
   unfolding own own_flow
@@ -171,7 +171,7 @@ module _ (seen other : Seen) (n m : NodeRecord) where
 -- ---- the halves of a transfer
 
 module _ (word : ℕ) (n : NodeRecord) (other : ℕ) (m : NodeRecord) where
-  pub sent_flows : HasSizes n → HasSizes m → (part : Part) → IsPart part → Comes word n other m (send_flow part) (part_of word (sent n) part) (part_of other (sent m) part)
+  pub sent_flows : HasSizes n → HasSizes m → (part : Part) → IsPart part → IsFlowOf word n other m (send_flow part) (part_of word (sent n) part) (part_of other (sent m) part)
   unfolding sent send_flow
   sent_flows = comes_after word n other m (then (set_wait {w = wait.Nothing}) (then pop_data (then go_on none)))
 
@@ -185,10 +185,10 @@ module _ (word : ℕ) (n : NodeRecord) (other : ℕ) (m : NodeRecord) where
   take_row wait.Nothing = none
   take_row (wait.Write side) = none
 
-  pub taken_flows : HasSizes n → HasSizes m → n.wait ≡ m.wait → (part : Part) → IsPart part → Comes word n other m (take_flow n.wait part) (part_of word (taken word n) part) (part_of other (taken other m) part)
+  pub taken_flows : HasSizes n → HasSizes m → n.wait ≡ m.wait → (part : Part) → IsPart part → IsFlowOf word n other m (take_flow n.wait part) (part_of word (taken word n) part) (part_of other (taken other m) part)
   unfolding taken take_flow
   taken_flows left right same part is =
-      subst (λ w. Comes word n other m (moved_all (take_moves n.wait) Same part) (part_of word (after_changes (taking n.wait word) n) part) (part_of other (after_changes (taking w other) m) part)) same
+      subst (λ w. IsFlowOf word n other m (moved_all (take_moves n.wait) Same part) (part_of word (after_changes (taking n.wait word) n) part) (part_of other (after_changes (taking w other) m) part)) same
       (comes_after word n other m (take_row n.wait) left right part is)
 
   pub taken_sizes : HasSizes n → HasSizes m → n.wait ≡ m.wait → HasSizes (taken word n) × HasSizes (taken other m)
@@ -199,13 +199,13 @@ module _ (word : ℕ) (n : NodeRecord) (other : ℕ) (m : NodeRecord) where
 -- ---- the same is decided in two nodes that hold the same in the parts by which an event is decided
 
 module _ (n m : NodeRecord) where
-  due_same : n.i ≡ m.i → n.slot ≡ m.slot → due_of n ≡ due_of m
+  due_same : n.i ≡ m.i → n.slot ≡ m.slot → next_action_of n ≡ next_action_of m
   due_same word slot = ap (λ i. by_slot i n.slot) word ∙ ap (by_slot m.i) slot
     where
-      by_slot : ℕ → ℕ → Due
+      by_slot : ℕ → ℕ → NextAction
       by_slot i slot = cond (slot == 4) due.Fetch (due.Run (opcode i slot))
 
-  chosen : (d : Due) → AgreeAtParts 0 n 0 m (chosen_by d) → choice d n ≡ choice d m
+  chosen : (d : NextAction) → AgreeAtParts 0 n 0 m (chosen_by d) → choice d n ≡ choice d m
   chosen due.Fetch agree = ap (λ p. At (classified p)) agree.0
   chosen (due.Run op.Unext) agree = ap (λ v. Test (v == 0)) agree.0
   chosen (due.Run op.Next) agree = ap (λ v. Test (v == 0)) agree.0
@@ -240,8 +240,8 @@ module _ (n m : NodeRecord) where
   chosen (due.Run op.BStore) agree = refl
   chosen (due.Run op.AStore) agree = refl
 
-  pub alike : AgreeAtParts 0 n 0 m (OfI ∷ OfSlot ∷ []) → AgreeAtParts 0 n 0 m (chosen_by (due_of n)) → DecideAlike n m
+  pub alike : AgreeAtParts 0 n 0 m (OfI ∷ OfSlot ∷ []) → AgreeAtParts 0 n 0 m (chosen_by (next_action_of n)) → DecideAlike n m
   alike word by = record {
     due = due_same word.0 word.1.0;
-    choice = chosen (due_of n) by ∙ ap (λ d. choice d m) (due_same word.0 word.1.0);
+    choice = chosen (next_action_of n) by ∙ ap (λ d. choice d m) (due_same word.0 word.1.0);
   }

@@ -6,9 +6,9 @@ use Rattle.ga_ports.specs.Address.{is_single}
 use Rattle.ga_ports.specs.declared.address.Target.{Target}
 use Rattle.ga_ports.specs.declared.address.Target.TheVariants as target
 use Rattle.ga_node.specs.Record.{NodeRecord}
-use Rattle.ga_node.specs.Table.{due_of}
-use Rattle.ga_node.specs.declared.due.Due.{Due}
-use Rattle.ga_node.specs.declared.due.Due.TheVariants as due
+use Rattle.ga_node.specs.Table.{next_action_of}
+use Rattle.ga_node.specs.declared.due.NextAction.{NextAction}
+use Rattle.ga_node.specs.declared.due.NextAction.TheVariants as due
 use Rattle.ga_node.specs.declared.wait.Wait.{Wait}
 use Rattle.ga_node.specs.declared.wait.Wait.TheVariants as wait
 use Rattle.ga_event.specs.declared.flow.choice.Choice.{Choice}
@@ -224,19 +224,19 @@ op_last op.BStore c = (tt, (tt, tt))
 op_last op.AStore c = (tt, (tt, tt))
 
 -- what is found before what comes next in a node, and before the halves of a transfer
-due_last : (d : Due) (c : Choice) → SlotLast (moves_where d c)
+due_last : (d : NextAction) (c : Choice) → SlotLast (moves_where d c)
 due_last due.Fetch c = read_last (target_of c) _ (λ flow. (tt, (tt, tt)))
 due_last (due.Run op) c = op_last op c
 
-pub where_found : (d : Due) (c : Choice) (part : Part) → settled (before_all (moves_where d c) (At part)) ≡ flow_where d c part
+pub where_found : (d : NextAction) (c : Choice) (part : Part) → settled (before_all (moves_where d c) (At part)) ≡ flow_where d c part
 unfolding flow_where
 where_found d c part = found_flow (moves_where d c) part (due_last d c)
 
-in_node : (d : Due) (n : NodeRecord) → moves_where d (choice d n) ≡ moves_by d n
+in_node : (d : NextAction) (n : NodeRecord) → moves_where d (choice d n) ≡ moves_by d n
 in_node due.Fetch n = refl
 in_node (due.Run op) n = refl
 
-pub own_found : (d : Due) (c : Choice) (n : NodeRecord) (part : Part) → d ≡ due_of n → c ≡ choice d n → flow_where d c part ≡ own_flow n part
+pub own_found : (d : NextAction) (c : Choice) (n : NodeRecord) (part : Part) → d ≡ next_action_of n → c ≡ choice d n → flow_where d c part ≡ own_flow n part
 unfolding flow_where own_flow
 own_found d c n part is so =
     ap (λ (moves : List Move). moved_all moves Same part) (ap (moves_where d) so ∙ in_node d n) ∙ ap (λ d. moved_all (moves_by d n) Same part) is

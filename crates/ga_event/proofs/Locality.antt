@@ -16,7 +16,7 @@ use Rattle.ga_event.specs.declared.event.Event.{Event}
 use Rattle.ga_event.specs.declared.event.Cause.{Cause}
 use Rattle.ga_event.specs.declared.event.Event.TheVariants.{Own, Pass}
 use Rattle.ga_event.specs.Touches.{nodes_of, touches, with_some, neighbours, looked_at, seen_by, meets}
-use Rattle.ga_event.specs.Apply.{Told, shows, beside_in, seen_from, is_open, unmatched, refusal_of, after_own, after_pass, unless, after, apply, is_look, cause_of, Agree, Alike}
+use Rattle.ga_event.specs.Apply.{EventOutcome, shows, beside_in, neighbour_states, is_open, unmatched, refusal_of, after_own, after_pass, when_allowed, after, apply, is_look, cause_of, Agree, BehaveAlike}
 
 pub any-append : (marks : ℕ → Bool) (a b : List ℕ) → list_any marks a ≡ true → list_any marks (a ++ b) ≡ true
 any-append marks [] b t = absurd (both_ways false refl t)
@@ -92,8 +92,8 @@ side_alike marks c d side (Some n) ns a free =
     let p : (marks n ≡ false) × (list_any marks ns ≡ false) = or_parts (marks n) (list_any marks ns) free in
     record { here = ap (λ (z : NodeRecord). shows z.wait side) (a.same n p.0); others = p.1 }
 
-sides_alike : (marks : ℕ → Bool) (c d : List NodeRecord) (n : ℕ) → Agree marks c d → list_any marks (neighbours n) ≡ false → seen_from c n ≡ seen_from d n
-unfolding neighbours seen_from
+sides_alike : (marks : ℕ → Bool) (c d : List NodeRecord) (n : ℕ) → Agree marks c d → list_any marks (neighbours n) ≡ false → neighbour_states c n ≡ neighbour_states d n
+unfolding neighbours neighbour_states
 sides_alike marks c d n a free =
     let right = side_alike marks c d Right (neighbour_of n Right) _ a free in
     let down = side_alike marks c d Down (neighbour_of n Down) _ a right.others in
@@ -102,9 +102,9 @@ sides_alike marks c d n a free =
     rw (right.here, down.here, left.here, up.here) refl
 
 -- what a node does is the same where it sees no marked node
-own_alike : (marks : ℕ → Bool) (c d : List NodeRecord) (node : NodeId) (at : NodeRecord) (look : Bool) → Agree marks c d → looks at ≡ look → list_any marks (looked_at (Own node) look) ≡ false → own (seen_from c node.number) at ≡ own (seen_from d node.number) at
+own_alike : (marks : ℕ → Bool) (c d : List NodeRecord) (node : NodeId) (at : NodeRecord) (look : Bool) → Agree marks c d → looks at ≡ look → list_any marks (looked_at (Own node) look) ≡ false → own (neighbour_states c node.number) at ≡ own (neighbour_states d node.number) at
 own_alike marks c d node at true a is free = ap (λ z. own z at) (sides_alike marks c d node.number a free)
-own_alike marks c d node at false a is free = own_blind (seen_from c node.number) (seen_from d node.number) at is
+own_alike marks c d node at false a is free = own_blind (neighbour_states c node.number) (neighbour_states d node.number) at is
 
 touch_alike : (marks : ℕ → Bool) (c d : List NodeRecord) (event : Event) → Agree marks c d → list_any marks (nodes_of event) ≡ false → refusal_of c event ≡ refusal_of d event
 touch_alike marks c d (Own node) a free = ap (λ z. refusal z) (seen_same marks c d node a free)
@@ -117,7 +117,7 @@ pub refusal_alike : (marks : ℕ → Bool) (c d : List NodeRecord) (event : Even
 refusal_alike marks c d event a free = touch_alike marks c d event a (touched_free marks (cause_of c event) free)
 
 -- its effect if it is enabled
-abbrev DoneAlike : (ℕ → Bool) → List NodeRecord × Told → List NodeRecord × Told → Type 0
+abbrev DoneAlike : (ℕ → Bool) → List NodeRecord × EventOutcome → List NodeRecord × EventOutcome → Type 0
 DoneAlike marks here there = Agree marks here.0 there.0 × (here.1 ≡ there.1)
 
 after_alike : (marks : ℕ → Bool) (c d : List NodeRecord) (event : Event) → Agree marks c d → meets marks (cause_of c event) ≡ false → DoneAlike marks (after c event) (after d event)
@@ -125,10 +125,10 @@ after_alike marks c d (Own node) a free =
     let n = node.number in
     let cause = cause_of c (Own node) in
     let e : record_at c n ≡ record_at d n = seen_same marks c d node a (touched_free marks cause free) in
-    let s : own (seen_from c n) (record_at c n) ≡ own (seen_from d n) (record_at c n) = own_alike marks c d node (record_at c n) (looks (record_at c n)) a refl (looked_free marks cause free) in
-    subst (λ z. DoneAlike marks (after_own c n (own (seen_from c n) (record_at c n))) (after_own d n (own (seen_from d n) z))) e
-    (subst (λ z. DoneAlike marks (after_own c n (own (seen_from c n) (record_at c n))) (after_own d n z)) s
-    (Agree-set marks c d n (own (seen_from c n) (record_at c n)).1 a, refl))
+    let s : own (neighbour_states c n) (record_at c n) ≡ own (neighbour_states d n) (record_at c n) = own_alike marks c d node (record_at c n) (looks (record_at c n)) a refl (looked_free marks cause free) in
+    subst (λ z. DoneAlike marks (after_own c n (own (neighbour_states c n) (record_at c n))) (after_own d n (own (neighbour_states d n) z))) e
+    (subst (λ z. DoneAlike marks (after_own c n (own (neighbour_states c n) (record_at c n))) (after_own d n z)) s
+    (Agree-set marks c d n (own (neighbour_states c n) (record_at c n)).1 a, refl))
 after_alike marks c d (Pass writer reader side) a free =
     let w = writer.number in
     let r = reader.number in
@@ -140,11 +140,11 @@ after_alike marks c d (Pass writer reader side) a free =
     (Agree-set marks (set c w _) (set d w _) r _ (Agree-set marks c d w _ a), refl))
 
 -- an event that sees no marked node does the same to two chips that agree elsewhere
-pub apply_alike : (marks : ℕ → Bool) (c d : List NodeRecord) (event : Event) → Agree marks c d → meets marks (cause_of c event) ≡ false → Alike marks (apply c event) (apply d event)
+pub apply_alike : (marks : ℕ → Bool) (c d : List NodeRecord) (event : Event) → Agree marks c d → meets marks (cause_of c event) ≡ false → BehaveAlike marks (apply c event) (apply d event)
 apply_alike marks c d event a free =
-    subst (λ z. Alike marks (unless (refusal_of c event) (after c event)) (unless z (after d event))) (refusal_alike marks c d event a free) (go (refusal_of c event))
+    subst (λ z. BehaveAlike marks (when_allowed (refusal_of c event) (after c event)) (when_allowed z (after d event))) (refusal_alike marks c d event a free) (go (refusal_of c event))
   where
-    go : (o : Option NotReady) → Alike marks (unless o (after c event)) (unless o (after d event))
+    go : (o : Option NotReady) → BehaveAlike marks (when_allowed o (after c event)) (when_allowed o (after d event))
     go None = after_alike marks c d event a free
     go (Some why) = tt
 
@@ -182,6 +182,6 @@ after_keeps c (Pass w r side) =
 pub apply_keeps : (c : List NodeRecord) (event : Event) → IfSome (apply c event) (λ done. Agree (touches event) c done.0)
 apply_keeps c event = go (refusal_of c event)
   where
-    go : (o : Option NotReady) → IfSome (unless o (after c event)) (λ done. Agree (touches event) c done.0)
+    go : (o : Option NotReady) → IfSome (when_allowed o (after c event)) (λ done. Agree (touches event) c done.0)
     go None = after_keeps c event
     go (Some why) = tt

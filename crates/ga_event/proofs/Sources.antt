@@ -10,14 +10,14 @@ use Rattle.ga_node.specs.Io.{io_word}
 use Rattle.ga_node.specs.Table.{t, own, sent, taken}
 use Rattle.ga_event.specs.declared.flow.part.Part.{Part}
 use Rattle.ga_event.specs.declared.flow.part.Part.TheVariants.{Data as OfD, Return as OfR, Ram as OfRam, Rom as OfRom, A as OfA, B as OfB, P as OfP, I as OfI, Io as OfIo, Carry as OfCarry, Slot as OfSlot, Wait as OfWait, Stop as OfStop, Outside}
-use Rattle.ga_event.specs.Flow.{Flow, Same, From, top, part_of, IsPart, own_flow, send_flow, take_flow, AgreeAtParts, Comes}
+use Rattle.ga_event.specs.Flow.{Flow, Same, From, top, part_of, IsPart, own_flow, send_flow, take_flow, AgreeAtParts, IsFlowOf}
 use Rattle.ga_event.proofs.Flowing.{own_flows, own_sizes, sent_flows, sent_sizes, taken_flows, taken_sizes}
 use Rattle.ga_grid.specs.Chip.{record_at, nowhere}
 use Rattle.ga_event.specs.declared.event.Event.{Event}
 use Rattle.ga_event.specs.declared.event.Event.TheVariants.{Own, Pass}
 use Rattle.ga_event.specs.declared.event.Cause.{Cause}
 use Rattle.ga_node.specs.declared.kind.NotReady.{NotReady}
-use Rattle.ga_event.specs.Apply.{seen_from, after, Told, run, replay, cause_of, unless, refusal_of}
+use Rattle.ga_event.specs.Apply.{neighbour_states, after, EventOutcome, run, replay, cause_of, when_allowed, refusal_of}
 use Rattle.ga_event.specs.Sources.{Sources, themselves, sources_in, sources_of_all, sources_by, sources_after, sources_after_all, chip_after, AlikeIn, AlikeInAll, SameAt, AllHaveSizes}
 
 -- the parts of the node alone don't change with the word from outside
@@ -94,12 +94,12 @@ module _ (first second : List NodeRecord) where
       all_same stands came rest (rest_of (sources_in node outside part) (sources_of_all node outside rest) same),
     )
 
-    value_same : Stands node a b → (SameAt first second outside → word ≡ other) → (flow : Flow) (x y : ℕ) → Comes word a other b flow x y → SameAt first second (sources_by node outside flow) → x ≡ y
+    value_same : Stands node a b → (SameAt first second outside → word ≡ other) → (flow : Flow) (x y : ℕ) → IsFlowOf word a other b flow x y → SameAt first second (sources_by node outside flow) → x ≡ y
     value_same stands came (Same part) x y comes same = comes.0 ∙ part_same stands came part same ∙ sym comes.1
     value_same stands came (From parts) x y comes same = comes (all_same stands came parts same)
 
     -- a node after an event, by the flow of each part
-    node_after : (flows : Part → Flow) (x y : NodeRecord) → HasSizes x → HasSizes y → ((part : Part) → IsPart part → Comes word a other b (flows part) (part_of word x part) (part_of other y part))
+    node_after : (flows : Part → Flow) (x y : NodeRecord) → HasSizes x → HasSizes y → ((part : Part) → IsPart part → IsFlowOf word a other b (flows part) (part_of word x part) (part_of other y part))
         → Stands node a b → (SameAt first second outside → word ≡ other) → Stands (λ part. sources_by node outside (flows part)) x y
     node_after flows x y left right law stands came part same = ⊎_elim
         (λ is. sym (word_free word x part is) ∙ value_same stands came (flows part) (part_of word x part) (part_of other y part) (law part is) same ∙ word_free other y part is)
@@ -150,8 +150,8 @@ module _ (first second : List NodeRecord) where
       let k = node.number in
       let a : NodeRecord = record_at c k in
       let b : NodeRecord = record_at d k in
-      let seen = seen_from c k in
-      let other = seen_from d k in
+      let seen = neighbour_states c k in
+      let other = neighbour_states d k in
       let sizes = own_sizes seen other a b alike.0 (holds.left k) (holds.right k) in
       let stands : Stands (λ part. sources_by (sources k) [] (own_flow a part)) (own seen a).1 (own other b).1 =
       node_after (sources k) [] (io_word seen) (io_word other) a b (own_flow a) (own seen a).1 (own other b).1 sizes.0 sizes.1 (own_flows seen other a b alike.0 (holds.left k) (holds.right k)) (holds.nodes k) (λ none. alike.1) in
@@ -202,21 +202,21 @@ sources_all c d events n part long long' left right alike same =
 pub chip_after_replay : (c d : List NodeRecord) (events : List Event) → replay c events ≡ Some d → chip_after c events ≡ d
 chip_after_replay c d events e = mapped (run c events) (λ done is. ran c events done is) e
   where
-    mapped : (o : Option (List NodeRecord × List (Cause × Told))) → ((done : List NodeRecord × List (Cause × Told)) → o ≡ Some done → chip_after c events ≡ done.0) → option_map (λ (x : List NodeRecord × List (Cause × Told)). x.0) o ≡ Some d → chip_after c events ≡ d
+    mapped : (o : Option (List NodeRecord × List (Cause × EventOutcome))) → ((done : List NodeRecord × List (Cause × EventOutcome)) → o ≡ Some done → chip_after c events ≡ done.0) → option_map (λ (x : List NodeRecord × List (Cause × EventOutcome)). x.0) o ≡ Some d → chip_after c events ≡ d
     mapped None f h = absurd (cc)
     mapped (Some done) f h = f done refl ∙ same_Some _ _ h
 
-    ran : (c : List NodeRecord) (events : List Event) (done : List NodeRecord × List (Cause × Told)) → run c events ≡ Some done → chip_after c events ≡ done.0
-    ran c [] done e = ap (λ (z : List NodeRecord × List (Cause × Told)). z.0) (same_Some _ _ e)
+    ran : (c : List NodeRecord) (events : List Event) (done : List NodeRecord × List (Cause × EventOutcome)) → run c events ≡ Some done → chip_after c events ≡ done.0
+    ran c [] done e = ap (λ (z : List NodeRecord × List (Cause × EventOutcome)). z.0) (same_Some _ _ e)
     ran c (x ∷ xs) done e = at_first (refusal_of c x) (λ rest is. ran (after c x).0 xs rest is) e
       where
-        at_rest : (r : Option (List NodeRecord × List (Cause × Told))) → ((rest : List NodeRecord × List (Cause × Told)) → r ≡ Some rest → chip_after (after c x).0 xs ≡ rest.0)
-            → option_map {U = List NodeRecord × List (Cause × Told)} (λ rest. (rest.0, (cause_of c x, (after c x).1) ∷ rest.1)) r ≡ Some done → chip_after (after c x).0 xs ≡ done.0
+        at_rest : (r : Option (List NodeRecord × List (Cause × EventOutcome))) → ((rest : List NodeRecord × List (Cause × EventOutcome)) → r ≡ Some rest → chip_after (after c x).0 xs ≡ rest.0)
+            → option_map {U = List NodeRecord × List (Cause × EventOutcome)} (λ rest. (rest.0, (cause_of c x, (after c x).1) ∷ rest.1)) r ≡ Some done → chip_after (after c x).0 xs ≡ done.0
         at_rest None f h = absurd (cc)
-        at_rest (Some rest) f h = f rest refl ∙ ap (λ (z : List NodeRecord × List (Cause × Told)). z.0) (same_Some _ _ h)
+        at_rest (Some rest) f h = f rest refl ∙ ap (λ (z : List NodeRecord × List (Cause × EventOutcome)). z.0) (same_Some _ _ h)
 
-        at_first : (why : Option NotReady) → ((rest : List NodeRecord × List (Cause × Told)) → run (after c x).0 xs ≡ Some rest → chip_after (after c x).0 xs ≡ rest.0)
-            → option_and_then {U = List NodeRecord × List (Cause × Told)} (λ first. option_map {U = List NodeRecord × List (Cause × Told)} (λ rest. (rest.0, (cause_of c x, first.1) ∷ rest.1)) (run first.0 xs)) (unless why (after c x)) ≡ Some done
+        at_first : (why : Option NotReady) → ((rest : List NodeRecord × List (Cause × EventOutcome)) → run (after c x).0 xs ≡ Some rest → chip_after (after c x).0 xs ≡ rest.0)
+            → option_and_then {U = List NodeRecord × List (Cause × EventOutcome)} (λ first. option_map {U = List NodeRecord × List (Cause × EventOutcome)} (λ rest. (rest.0, (cause_of c x, first.1) ∷ rest.1)) (run first.0 xs)) (when_allowed why (after c x)) ≡ Some done
             → chip_after (after c x).0 xs ≡ done.0
         at_first None f h = at_rest (run (after c x).0 xs) f h
         at_first (Some why) f h = absurd (cc)

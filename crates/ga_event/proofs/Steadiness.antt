@@ -11,7 +11,7 @@ use Rattle.ga_grid.specs.Chip.{nowhere, record_at, AreSteady}
 use Rattle.ga_event.specs.declared.event.Cause.{Cause}
 use Rattle.ga_event.specs.declared.event.Event.{Event}
 use Rattle.ga_event.specs.declared.event.Event.TheVariants.{Own, Pass}
-use Rattle.ga_event.specs.Apply.{Told, seen_from, refusal_of, unless, after, apply, cause_of, run, replay}
+use Rattle.ga_event.specs.Apply.{EventOutcome, neighbour_states, refusal_of, when_allowed, after, apply, cause_of, run, replay}
 
 set_steady : (chip : List NodeRecord) (n : ℕ) (node : NodeRecord) → AreSteady chip → IsSteady node → AreSteady (set chip n node)
 set_steady chip n node steady new = λ m within.
@@ -30,7 +30,7 @@ set_steady chip n node steady new = λ m within.
 after_steady : (chip : List NodeRecord) (event : Event) → AreSteady chip → refusal_of chip event ≡ None → AreSteady (after chip event).0
 after_steady chip (Own node) steady ready =
     let n = node.number in
-    set_steady chip n (own (seen_from chip n) (record_at chip n)).1 steady (own_steady (seen_from chip n) (record_at chip n) ready)
+    set_steady chip n (own (neighbour_states chip n) (record_at chip n)).1 steady (own_steady (neighbour_states chip n) (record_at chip n) ready)
 after_steady chip (Pass writer reader side) steady ready =
     let w = writer.number in
     let r = reader.number in
@@ -39,32 +39,32 @@ after_steady chip (Pass writer reader side) steady ready =
 pub apply_steady : (chip : List NodeRecord) (event : Event) → AreSteady chip → IfSome (apply chip event) (λ done. AreSteady done.0)
 apply_steady chip event steady = go (refusal_of chip event) refl
   where
-    go : (why : Option NotReady) → refusal_of chip event ≡ why → IfSome (unless why (after chip event)) (λ done. AreSteady done.0)
+    go : (why : Option NotReady) → refusal_of chip event ≡ why → IfSome (when_allowed why (after chip event)) (λ done. AreSteady done.0)
     go None ready = after_steady chip event steady ready
     go (Some reason) refused = tt
 
 -- a run with one more event at its front
-abbrev with_first : Cause × Told → Option (List NodeRecord × List (Cause × Told)) → Option (List NodeRecord × List (Cause × Told))
-with_first told rest = option_map (λ (done : List NodeRecord × List (Cause × Told)). (done.0, told ∷ done.1)) rest
+abbrev with_first : Cause × EventOutcome → Option (List NodeRecord × List (Cause × EventOutcome)) → Option (List NodeRecord × List (Cause × EventOutcome))
+with_first told rest = option_map (λ (done : List NodeRecord × List (Cause × EventOutcome)). (done.0, told ∷ done.1)) rest
 
 pub run_steady : (chip : List NodeRecord) (events : List Event) → AreSteady chip → IfSome (run chip events) (λ done. AreSteady done.0)
 run_steady chip [] steady = steady
 run_steady chip (event ∷ events) steady = go (λ next h. run_steady next events h) (apply chip event) (apply_steady chip event steady)
   where
-    more : (told : Cause × Told) (rest : Option (List NodeRecord × List (Cause × Told))) → IfSome rest (λ (done : List NodeRecord × List (Cause × Told)). AreSteady done.0)
-        → IfSome (with_first told rest) (λ (done : List NodeRecord × List (Cause × Told)). AreSteady done.0)
+    more : (told : Cause × EventOutcome) (rest : Option (List NodeRecord × List (Cause × EventOutcome))) → IfSome rest (λ (done : List NodeRecord × List (Cause × EventOutcome)). AreSteady done.0)
+        → IfSome (with_first told rest) (λ (done : List NodeRecord × List (Cause × EventOutcome)). AreSteady done.0)
     more told None h = tt
     more told (Some done) h = h
 
     go : ((next : List NodeRecord) → AreSteady next → IfSome (run next events) (λ done. AreSteady done.0))
-        → (first : Option (List NodeRecord × Told)) → IfSome first (λ done. AreSteady done.0)
-        → IfSome (option_and_then (λ (done : List NodeRecord × Told). with_first (cause_of chip event, done.1) (run done.0 events)) first) (λ done. AreSteady done.0)
+        → (first : Option (List NodeRecord × EventOutcome)) → IfSome first (λ done. AreSteady done.0)
+        → IfSome (option_and_then (λ (done : List NodeRecord × EventOutcome). with_first (cause_of chip event, done.1) (run done.0 events)) first) (λ done. AreSteady done.0)
     go others None h = tt
     go others (Some done) h = more (cause_of chip event, done.1) (run done.0 events) (others done.0 h)
 
 pub replay_steady : (chip : List NodeRecord) (events : List Event) → AreSteady chip → IfSome (replay chip events) AreSteady
 replay_steady chip events steady = go (run chip events) (run_steady chip events steady)
   where
-    go : (done : Option (List NodeRecord × List (Cause × Told))) → IfSome done (λ d. AreSteady d.0) → IfSome (option_map (λ (d : List NodeRecord × List (Cause × Told)). d.0) done) AreSteady
+    go : (done : Option (List NodeRecord × List (Cause × EventOutcome))) → IfSome done (λ d. AreSteady d.0) → IfSome (option_map (λ (d : List NodeRecord × List (Cause × EventOutcome)). d.0) done) AreSteady
     go None h = tt
     go (Some d) h = h

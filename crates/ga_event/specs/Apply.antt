@@ -6,8 +6,8 @@ use Rattle.ga_ports.specs.declared.side.Side.TheVariants.{Right, Down, Left, Up}
 use Rattle.ga_ports.specs.Address.{has_side, is_side}
 use Rattle.ga_node.specs.Record.{NodeRecord}
 use Rattle.ga_node.specs.Table.{t, own, looks, refusal, sent, taken}
-use Rattle.ga_node.specs.declared.seen.Beside.{Beside}
-use Rattle.ga_node.specs.declared.seen.Beside.TheVariants.{Nobody, Idle, Reading, Writing}
+use Rattle.ga_node.specs.declared.seen.NeighbourState.{NeighbourState}
+use Rattle.ga_node.specs.declared.seen.NeighbourState.TheVariants.{Nobody, Idle, Reading, Writing}
 use Rattle.ga_node.specs.declared.seen.Seen.{Seen}
 use Rattle.ga_node.specs.declared.kind.Kind.{Kind}
 use Rattle.ga_node.specs.declared.kind.NotReady.{NotReady}
@@ -21,9 +21,9 @@ use Rattle.ga_event.specs.declared.event.Event.TheVariants.{Own, Pass}
 use Rattle.ga_event.specs.declared.event.Cause.{Cause}
 
 -- the outcome of an event: its kind, or the transferred word
-pub data Told : Type 0 where
-  Did : (kind : Kind) → Told
-  Carried : (word : ℕ) → Told
+pub data EventOutcome : Type 0 where
+  Did : (kind : Kind) → EventOutcome
+  Carried : (word : ℕ) → EventOutcome
 
 -- the node waits to write the side
 abbrev pub writes_to : Wait → Side → Bool
@@ -40,17 +40,17 @@ reads_from (Read sides) side = has_side sides side
 reads_from (Write posted) side = false
 
 -- what a neighbour that waits so shows on a side
-abbrev pub shows : Wait → Side → Beside
+abbrev pub shows : Wait → Side → NeighbourState
 shows wait side = if reads_from wait side then Reading else if writes_to wait side then Writing else Idle
 
 -- the state that the neighbour of this number, if there is one, shows on a side
-abbrev pub beside_in : List NodeRecord → Side → Option ℕ → Beside
+abbrev pub beside_in : List NodeRecord → Side → Option ℕ → NeighbourState
 beside_in chip side None = Nobody
 beside_in chip side (Some n) = shows (record_at chip n).wait side
 
 -- the states of a node's neighbours on its four sides
-unfoldable pub seen_from : List NodeRecord → ℕ → Seen
-seen_from chip n = record {
+unfoldable pub neighbour_states : List NodeRecord → ℕ → Seen
+neighbour_states chip n = record {
   right = beside_in chip Right (neighbour_of n Right);
   down = beside_in chip Down (neighbour_of n Down);
   left = beside_in chip Left (neighbour_of n Left);
@@ -77,11 +77,11 @@ refusal_of chip (Pass writer reader side) =
     unmatched (is_open writer.number reader.number side (record_at chip writer.number).wait (record_at chip reader.number).wait)
 
 -- the chip after an own event of a node, with the event's outcome
-abbrev pub after_own : List NodeRecord → ℕ → Kind × NodeRecord → List NodeRecord × Told
+abbrev pub after_own : List NodeRecord → ℕ → Kind × NodeRecord → List NodeRecord × EventOutcome
 after_own chip n done = (slice_set chip n done.1, Did done.0)
 
 -- the chip after a pass between nodes that held this
-abbrev pub after_pass : List NodeRecord → ℕ → ℕ → NodeRecord → NodeRecord → List NodeRecord × Told
+abbrev pub after_pass : List NodeRecord → ℕ → ℕ → NodeRecord → NodeRecord → List NodeRecord × EventOutcome
 after_pass chip writer reader from to = (slice_set (slice_set chip writer (sent from)) reader (taken (t from) to), Carried (t from))
 
 -- a call is refused with this reason, or there is none
@@ -89,19 +89,19 @@ abbrev pub IsRefusedBy : {T : Type 0} → Result T NotReady → Option NotReady 
 IsRefusedBy answer why = MatchResult answer (λ done. why ≡ None) (λ reason. why ≡ Some reason)
 
 -- the result of the event if it is enabled
-abbrev pub after : List NodeRecord → Event → List NodeRecord × Told
-after chip (Own node) = after_own chip node.number (own (seen_from chip node.number) (record_at chip node.number))
+abbrev pub after : List NodeRecord → Event → List NodeRecord × EventOutcome
+after chip (Own node) = after_own chip node.number (own (neighbour_states chip node.number) (record_at chip node.number))
 after chip (Pass writer reader side) =
     after_pass chip writer.number reader.number (record_at chip writer.number) (record_at chip reader.number)
 
 -- what is done where nothing refuses it
-abbrev pub unless : {A : Type 0} → Option NotReady → A → Option A
-unless None done = Some done
-unless (Some why) done = None
+abbrev pub when_allowed : {A : Type 0} → Option NotReady → A → Option A
+when_allowed None done = Some done
+when_allowed (Some why) done = None
 
 -- the chip after an event, with the event's outcome; none if the event is not enabled
-abbrev pub apply : List NodeRecord → Event → Option (List NodeRecord × Told)
-apply chip event = unless (refusal_of chip event) (after chip event)
+abbrev pub apply : List NodeRecord → Event → Option (List NodeRecord × EventOutcome)
+apply chip event = when_allowed (refusal_of chip event) (after chip event)
 
 -- whether the event would look at the neighbours of its node: it reads `io` or fetches from it
 abbrev pub is_look : List NodeRecord → Event → Bool
@@ -114,7 +114,7 @@ cause_of chip event = record { event = event; look = is_look chip event }
 
 -- the last chip of the events in order, each made on the chip after those before it, with whether each looks and its outcome;
 -- none if one is not enabled
-abbrev pub run : List NodeRecord → List Event → Option (List NodeRecord × List (Cause × Told))
+abbrev pub run : List NodeRecord → List Event → Option (List NodeRecord × List (Cause × EventOutcome))
 run chip [] = Some (chip, [])
 run chip (event ∷ events) =
     option_and_then (λ first. option_map (λ rest. (rest.0, (cause_of chip event, first.1) ∷ rest.1)) (run first.0 events)) (apply chip event)
@@ -131,8 +131,8 @@ pub record Agree (marks : ℕ → Bool) (chip other : List NodeRecord) : Type 0 
   pub same : (n : ℕ) → marks n ≡ false → record_at chip n ≡ record_at other n
 
 -- whether an event is enabled on neither of two chips, or has the same outcome on both and leads to chips that agree
-abbrev pub Alike : (ℕ → Bool) → Option (List NodeRecord × Told) → Option (List NodeRecord × Told) → Type 0
-Alike marks None None = Unit {0}
-Alike marks None (Some there) = ⊥
-Alike marks (Some here) None = ⊥
-Alike marks (Some here) (Some there) = Agree marks here.0 there.0 × (here.1 ≡ there.1)
+abbrev pub BehaveAlike : (ℕ → Bool) → Option (List NodeRecord × EventOutcome) → Option (List NodeRecord × EventOutcome) → Type 0
+BehaveAlike marks None None = Unit {0}
+BehaveAlike marks None (Some there) = ⊥
+BehaveAlike marks (Some here) None = ⊥
+BehaveAlike marks (Some here) (Some there) = Agree marks here.0 there.0 × (here.1 ≡ there.1)

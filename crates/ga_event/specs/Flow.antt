@@ -9,15 +9,15 @@ use Rattle.ga_ports.specs.declared.address.Target.{Target}
 use Rattle.ga_ports.specs.declared.address.Target.TheVariants.{Ram, Rom, Io, Ports, Bad}
 use Rattle.ga_node.specs.Record.{NodeRecord}
 use Rattle.ga_node.specs.State.{wait_code}
-use Rattle.ga_node.specs.Table.{t, r, is_extended, due_of}
+use Rattle.ga_node.specs.Table.{t, r, is_extended, next_action_of}
 use Rattle.ga_event.specs.declared.flow.choice.Choice.{Choice}
 use Rattle.ga_event.specs.declared.flow.choice.Choice.TheVariants.{Plain, Test, At}
 use Rattle.ga_event.specs.declared.flow.part.Part.{Part}
 use Rattle.ga_event.specs.declared.flow.part.Part.TheVariants.{Data as OfD, Return as OfR, Ram as OfRam, Rom as OfRom, A as OfA, B as OfB, P as OfP, I as OfI, Io as OfIo, Carry as OfCarry, Slot as OfSlot, Wait as OfWait, Stop as OfStop, Outside}
 use Rattle.ga_event.specs.declared.flow.Flow.{Flow as KeptFlow}
 use Rattle.ga_event.specs.declared.flow.Flow.TheVariants as flow
-use Rattle.ga_node.specs.declared.due.Due.{Due}
-use Rattle.ga_node.specs.declared.due.Due.TheVariants as due
+use Rattle.ga_node.specs.declared.due.NextAction.{NextAction}
+use Rattle.ga_node.specs.declared.due.NextAction.TheVariants as due
 use Rattle.ga_node.specs.declared.wait.Wait.{Wait}
 use Rattle.ga_node.specs.declared.wait.Wait.TheVariants as wait
 
@@ -172,7 +172,7 @@ moved_all (move ∷ rest) f = moved_all rest (moved move f)
 -- ---- what decides an event
 
 -- what decides an event besides its opcode: a test, or the target of an address
-abbrev pub choice : Due → NodeRecord → Choice
+abbrev pub choice : NextAction → NodeRecord → Choice
 choice due.Fetch n = At (classified n.p)
 choice (due.Run Unext) n = Test (r n == 0)
 choice (due.Run Next) n = Test (r n == 0)
@@ -190,7 +190,7 @@ choice (due.Run Store) n = At (classified n.a)
 choice (due.Run _) n = Plain
 
 -- the parts that decide an event besides its opcode
-abbrev pub chosen_by : Due → List Part
+abbrev pub chosen_by : NextAction → List Part
 chosen_by due.Fetch = OfP ∷ []
 chosen_by (due.Run Unext) = top_return ∷ []
 chosen_by (due.Run Next) = top_return ∷ []
@@ -259,7 +259,7 @@ abbrev pub fetch_moves : Target → List Move
 fetch_moves target = read_moves target (λ word. SetI word ∷ SetP (from OfP) ∷ StartAgain ∷ [])
 
 -- the moves of what comes next in their order, by the opcode and what else decides the event
-abbrev pub moves_where : Due → Choice → List Move
+abbrev pub moves_where : NextAction → Choice → List Move
 moves_where due.Fetch c = fetch_moves (target_of c)
 moves_where (due.Run Return) c = SetP (from top_return) ∷ PopReturn ∷ Skip ∷ []
 moves_where (due.Run Execute) c = execute_moves
@@ -298,7 +298,7 @@ moves_where (due.Run AStore) c = SetA (Same top) ∷ PopData ∷ GoOn ∷ []
 abbrev pub moves : Op → NodeRecord → List Move
 moves op n = moves_where (due.Run op) (choice (due.Run op) n)
 
-abbrev pub moves_by : Due → NodeRecord → List Move
+abbrev pub moves_by : NextAction → NodeRecord → List Move
 moves_by due.Fetch n = fetch_moves (classified n.p)
 moves_by (due.Run op) n = moves op n
 
@@ -313,12 +313,12 @@ take_moves wait.Nothing = []
 take_moves (wait.Write side) = []
 
 -- where the value of a part comes from after what comes next, where this decides it
-unfoldable pub flow_where : Due → Choice → Part → Flow
+unfoldable pub flow_where : NextAction → Choice → Part → Flow
 flow_where due choice = moved_all (moves_where due choice) Same
 
 -- where the value of a part comes from after a node's own event, after it sent a word, and after it took one
 unfoldable pub own_flow : NodeRecord → Part → Flow
-own_flow n = moved_all (moves_by (due_of n) n) Same
+own_flow n = moved_all (moves_by (next_action_of n) n) Same
 
 unfoldable pub send_flow : Part → Flow
 send_flow = moved_all send_moves Same
@@ -330,8 +330,8 @@ take_flow wait = moved_all (take_moves wait) Same
 
 -- whether what comes next is the same in two nodes, and so is what decides it besides the opcode
 pub record DecideAlike (n m : NodeRecord) : Type 0 where
-  pub due : due_of n ≡ due_of m
-  pub choice : choice (due_of n) n ≡ choice (due_of m) m
+  pub due : next_action_of n ≡ next_action_of m
+  pub choice : choice (next_action_of n) n ≡ choice (next_action_of m) m
 
 -- two nodes hold the same in these parts, where these words come from outside
 abbrev pub AgreeAtParts : ℕ → NodeRecord → ℕ → NodeRecord → List Part → Type 0
@@ -339,9 +339,9 @@ AgreeAtParts word n other m [] = Unit {0}
 AgreeAtParts word n other m (part ∷ rest) = (part_of word n part ≡ part_of other m part) × AgreeAtParts word n other m rest
 
 -- Two values come from a flow, in two nodes before an event: each is that of a part, or they are the same where the nodes agree.
-abbrev pub Comes : ℕ → NodeRecord → ℕ → NodeRecord → Flow → ℕ → ℕ → Type 0
-Comes word n other m (Same part) x y = (x ≡ part_of word n part) × (y ≡ part_of other m part)
-Comes word n other m (From parts) x y = AgreeAtParts word n other m parts → x ≡ y
+abbrev pub IsFlowOf : ℕ → NodeRecord → ℕ → NodeRecord → Flow → ℕ → ℕ → Type 0
+IsFlowOf word n other m (Same part) x y = (x ≡ part_of word n part) × (y ≡ part_of other m part)
+IsFlowOf word n other m (From parts) x y = AgreeAtParts word n other m parts → x ≡ y
 
 -- ---- the flows of the code
 

@@ -8,7 +8,7 @@ use Rattle.ga_event.specs.Flow.{Flow, Same, From, top, part_of, own_flow, send_f
 use Rattle.ga_grid.specs.Chip.{record_at}
 use Rattle.ga_event.specs.declared.event.Event.{Event}
 use Rattle.ga_event.specs.declared.event.Event.TheVariants.{Own, Pass}
-use Rattle.ga_event.specs.Apply.{seen_from, after}
+use Rattle.ga_event.specs.Apply.{neighbour_states, after}
 
 -- the parts of the load, each with its node, from which the value of each part of each node comes
 abbrev pub Sources : Type 0
@@ -55,7 +55,7 @@ sources_after_all chip (e ∷ es) sources = sources_after_all (after chip e).0 e
 -- an event is decided alike on two chips: an own event with the same word at `io`, a pass of two nodes with the same wait of its reader
 abbrev pub AlikeIn : List NodeRecord → List NodeRecord → Event → Type 0
 AlikeIn c d (Own node) =
-    DecideAlike (record_at c node.number) (record_at d node.number) × (io_word (seen_from c node.number) ≡ io_word (seen_from d node.number))
+    DecideAlike (record_at c node.number) (record_at d node.number) × (io_word (neighbour_states c node.number) ≡ io_word (neighbour_states d node.number))
 AlikeIn c d (Pass writer reader side) =
     (writer.number ≢ reader.number) × ((record_at c reader.number).wait ≡ (record_at d reader.number).wait)
 

@@ -8,14 +8,14 @@ use Rattle.ga_grid.specs.Chip.{node_at, with_node, records_of}
 use Rattle.ga_event.specs.declared.event.Event.{Event}
 use Rattle.ga_event.specs.declared.event.Event.TheVariants as event
 use Rattle.ga_event.specs.declared.event.Cause.{Cause}
-use Rattle.ga_event.specs.declared.event.Deed.{Deed}
+use Rattle.ga_event.specs.declared.event.OwnOutcome.{OwnOutcome}
 use Rattle.ga_event.specs.declared.event.Effect.{Effect}
 use Rattle.ga_event.specs.declared.event.Effect.TheVariants as effect
 use Rattle.ga_event.specs.Touches.{touches}
-use Rattle.ga_event.specs.Apply.{Told, Did, Carried, apply, is_look}
+use Rattle.ga_event.specs.Apply.{EventOutcome, Did, Carried, apply, is_look}
 
 -- the outcome of an event with this effect
-abbrev pub told_of : Effect → Told
+abbrev pub told_of : Effect → EventOutcome
 told_of (effect.Own kind saved) = Did kind
 told_of (effect.Look kind saved) = Did kind
 told_of (effect.Pass word writer reader) = Carried word
@@ -31,7 +31,7 @@ abbrev pub cause_with : Event → Effect → Cause
 cause_with event effect = record { event = event; look = has_looked effect }
 
 -- the effect of a node's own event, which looked or didn't
-abbrev pub own_effect : Deed → List (Place × ℕ) → Effect
+abbrev pub own_effect : OwnOutcome → List (Place × ℕ) → Effect
 own_effect deed saved = if deed.look then effect.Look deed.kind saved else effect.Own deed.kind saved
 
 -- the chip with a node's old values written back

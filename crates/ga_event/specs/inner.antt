@@ -1,22 +1,22 @@
 -- What private contracts alone name: a node's own event before it is made, and a part followed back over the moves of one event.
-use Rattle.ga_event.specs.declared.flow.sought.Sought.TheVariants as sought
+use Rattle.ga_event.specs.declared.flow.sought.TracedPart.TheVariants as sought
 use Rattle.ga_ports.specs.declared.address.Target.TheVariants as target
 use Rattle.std.specs.Prelude.{◌≡◌, ◌+◌, ◌-◌, ◌==◌, Bool, None, if◌then◌else◌, List, [], ◌∷◌}
 use Rattle.ga_event.specs.declared.flow.part.Part.{Part}
 use Rattle.ga_event.specs.declared.flow.part.Part.TheVariants.{Data, Return, Ram, Rom, A, B, P, I, Io, Carry, Slot, Wait, Stop, Outside}
-use Rattle.ga_event.specs.declared.flow.sought.Sought.{Sought}
+use Rattle.ga_event.specs.declared.flow.sought.TracedPart.{TracedPart}
 use Rattle.ga_ports.specs.Address.{is_single}
 use Rattle.ga_node.specs.Record.{NodeRecord}
-use Rattle.ga_node.specs.Table.{refusal, due_of, looks_by}
+use Rattle.ga_node.specs.Table.{refusal, next_action_of, looks_by}
 use Rattle.ga_node.specs.Ready.{CanDo}
-use Rattle.ga_node.specs.declared.due.Due.{Due}
+use Rattle.ga_node.specs.declared.due.NextAction.{NextAction}
 use Rattle.ga_ports.specs.declared.address.Target.{Target}
 use Rattle.ga_event.specs.Flow.{Flow, Same, From, Move, PushData, PopData, SetTop, PopTo, PushReturn, PopReturn, SetTopReturn, SetP, SetA, SetB, SetI, SetIo, SetCarry, SetRam, GoOn, Skip, StartAgain, SetWait, SetStop, top, top_return, is_same, IsPart, flow_of, AreSources}
 
 -- the node makes this next, looking at its neighbours or not
-pub record IsNextOwn (due : Due) (looks : Bool) (n : NodeRecord) : Type 0 where
+pub record IsNextOwn (due : NextAction) (looks : Bool) (n : NodeRecord) : Type 0 where
   pub ready : refusal n ≡ None
-  pub due_is : due ≡ due_of n
+  pub due_is : due ≡ next_action_of n
   pub can : CanDo due n
   pub looks_is : looks_by due n ≡ looks
 
@@ -25,7 +25,7 @@ pub data Trace : Type 0 where
   At : Part → Trace
   Found : Flow → Trace
 
-abbrev pub sought_of : Sought → Trace
+abbrev pub sought_of : TracedPart → Trace
 sought_of (sought.At part) = At part
 sought_of (sought.Found flow) = Found (flow_of flow)
 

@@ -10,7 +10,7 @@ use ga_node::Saved;
 
 /// Writes the old values of one node back.
 #[inline]
-pub fn restore(chip: &mut Chip, node: NodeId, saved: &Saved)
+pub fn undo_node(chip: &mut Chip, node: NodeId, saved: &Saved)
     requires { CanRestore (node_at chip.old node.number) saved.now }
     ensures { chip.new ≡ restored_at chip.old node.number saved.now }
 {
@@ -25,11 +25,11 @@ pub fn unapply(chip: &mut Chip, event: Event, effect: &Effect)
 {
     match effect {
         Effect::Own(_, saved) => match event {
-            Event::Own(node) => restore(chip, node, saved),
+            Event::Own(node) => undo_node(chip, node, saved),
             Event::Pass { .. } => unreachable!(),
         },
         Effect::Look(_, saved) => match event {
-            Event::Own(node) => restore(chip, node, saved),
+            Event::Own(node) => undo_node(chip, node, saved),
             Event::Pass { .. } => unreachable!(),
         },
         Effect::Pass {
@@ -39,8 +39,8 @@ pub fn unapply(chip: &mut Chip, event: Event, effect: &Effect)
         } => match event {
             Event::Own(_) => unreachable!(),
             Event::Pass { writer, reader, .. } => {
-                restore(chip, reader, taken);
-                restore(chip, writer, sent);
+                undo_node(chip, reader, taken);
+                undo_node(chip, writer, sent);
             }
         },
     }

@@ -37,7 +37,7 @@ pub struct Cause {
 
 /// What a node's own event was, and whether it looked at the neighbours: an [`Effect`] without the old values.
 #[derive(Clone, Copy, PartialEq, Eq, Debug)]
-pub struct Deed {
+pub struct OwnOutcome {
     /// What the event was.
     pub kind: Kind,
     /// Whether it looked.

@@ -3,19 +3,19 @@
 ghost use Rattle.std.specs.Prelude.{◌≡◌, ℕ, Bool, false, if◌then◌else◌, List, ◌∷◌, [], length, IfSome, Some, None, Ok};
 ghost use Rattle.ga_node.specs.declared.seen.Seen.{Seen};
 ghost use Rattle.ga_node.specs.Record.{NodeState, NodeRecord, HasSizes};
-ghost use Rattle.ga_node.specs.Table.{own, sent, taken, due_of};
+ghost use Rattle.ga_node.specs.Table.{own, sent, taken, next_action_of};
 ghost use Rattle.ga_node.specs.Io.{io_word};
 ghost use Rattle.ga_grid.specs.declared.node_id.NodeId.{NodeId};
 ghost use Rattle.ga_grid.specs.Chip.{node_at, record_at, records_of, AreSteady};
 ghost use Rattle.ga_event.specs.declared.event.Event.{Event};
 ghost use Rattle.ga_event.specs.declared.event.Effect.{Effect};
 ghost use Rattle.ga_event.specs.Touches.{touches, meets};
-ghost use Rattle.ga_event.specs.Apply.{refusal_of, apply, cause_of, replay, Agree, Alike};
+ghost use Rattle.ga_event.specs.Apply.{refusal_of, apply, cause_of, replay, Agree, BehaveAlike};
 ghost use Rattle.ga_event.specs.Next.{next};
 ghost use Rattle.ga_event.specs.Undo.{unapplied, cause_with, CanUnapply, IsApplied, IsLeft};
 ghost use Rattle.ga_event.specs.declared.flow.part.Part.{Part};
 ghost use Rattle.ga_event.specs.declared.flow.part.Part.TheVariants.{I, Slot};
-ghost use Rattle.ga_event.specs.Flow.{IsPart, part_of, own_flow, send_flow, take_flow, chosen_by, DecideAlike, AgreeAtParts, Comes};
+ghost use Rattle.ga_event.specs.Flow.{IsPart, part_of, own_flow, send_flow, take_flow, chosen_by, DecideAlike, AgreeAtParts, IsFlowOf};
 ghost use Rattle.ga_event.specs.Sources.{themselves, sources_after_all, chip_after, AlikeInAll, SameAt, AllHaveSizes};
 
 /// An event changes the nodes that it touches alone.
@@ -27,14 +27,14 @@ pub fn changes_touched_alone()
 
 /// The event that a step of a node makes is enabled.
 #[tactic(auto, using(crate::proofs::Nexts::next_can))]
-pub fn next_can_be_made()
+pub fn next_event_is_enabled()
     ensures { (chip : List NodeRecord) (node : NodeId) (event : Event) → next chip node ≡ Ok event → refusal_of chip event ≡ None }
 {}
 
 /// Whether an event is enabled, whether it looks, its outcome and its effect depend only on the nodes that it sees: on chips
 /// that agree there it is refused alike, or has the same outcome and leaves chips that agree as much as before.
 #[tactic(auto, using(crate::proofs::Locality::refusal_alike, crate::proofs::Locality::apply_alike, crate::proofs::Locality::cause_alike))]
-pub fn depends_on_seen_alone()
+pub fn event_depends_on_observed_only()
     ensures refused { (marks : ℕ → Bool) (chip other : List NodeRecord) (event : Event) →
         Agree marks chip other → meets marks (cause_of chip event) ≡ false →
         refusal_of chip event ≡ refusal_of other event }
@@ -43,7 +43,7 @@ pub fn depends_on_seen_alone()
         cause_of chip event ≡ cause_of other event }
     ensures alike { (marks : ℕ → Bool) (chip other : List NodeRecord) (event : Event) →
         Agree marks chip other → meets marks (cause_of chip event) ≡ false →
-        Alike marks (apply chip event) (apply other event) }
+        BehaveAlike marks (apply chip event) (apply other event) }
 {}
 
 /// The effect of an event has whether it looked.
@@ -55,7 +55,7 @@ pub fn effect_gives_cause()
 
 /// An event can be undone also if nodes that it doesn't touch have changed since: the touched nodes get their values from
 /// before it, and the others are unchanged.
-pub fn taken_back()
+pub fn unapply_after_other_events()
     ensures ready { (old new chip : List NodeState) (event : Event) (effect : Effect) →
         IsApplied old event effect new → IsLeft event new chip →
         CanUnapply chip event effect }
@@ -78,13 +78,13 @@ pub fn stays_steady()
 /// or it is the same in both if both have the same values in the parts that the table of `Flow.antt` names.
 pub fn flows()
     ensures own { (seen other : Seen) (n m : NodeRecord) (part : Part) → HasSizes n → HasSizes m → DecideAlike n m → IsPart part
-        → Comes (io_word seen) n (io_word other) m (own_flow n part) (part_of (io_word seen) (own seen n).1 part) (part_of (io_word other) (own other m).1 part) }
+        → IsFlowOf (io_word seen) n (io_word other) m (own_flow n part) (part_of (io_word seen) (own seen n).1 part) (part_of (io_word other) (own other m).1 part) }
     ensures sent { (word other : ℕ) (n m : NodeRecord) (part : Part) → HasSizes n → HasSizes m → IsPart part
-        → Comes word n other m (send_flow part) (part_of word (sent n) part) (part_of other (sent m) part) }
+        → IsFlowOf word n other m (send_flow part) (part_of word (sent n) part) (part_of other (sent m) part) }
     ensures taken { (word other : ℕ) (n m : NodeRecord) (part : Part) → HasSizes n → HasSizes m → n.wait ≡ m.wait → IsPart part
-        → Comes word n other m (take_flow n.wait part) (part_of word (taken word n) part) (part_of other (taken other m) part) }
+        → IsFlowOf word n other m (take_flow n.wait part) (part_of word (taken word n) part) (part_of other (taken other m) part) }
     ensures kind { (seen other : Seen) (n m : NodeRecord) → DecideAlike n m → (own seen n).0 ≡ (own other m).0 }
-    ensures alike { (n m : NodeRecord) → AgreeAtParts 0 n 0 m (I ∷ Slot ∷ []) → AgreeAtParts 0 n 0 m (chosen_by (due_of n)) → DecideAlike n m }
+    ensures alike { (n m : NodeRecord) → AgreeAtParts 0 n 0 m (I ∷ Slot ∷ []) → AgreeAtParts 0 n 0 m (chosen_by (next_action_of n)) → DecideAlike n m }
 {}
 
 /// What isn't among the sources of a value gave nothing to it.

@@ -3,30 +3,30 @@ use Rattle.std.specs.Prelude.{Option}
 use Rattle.std.proofs.Common.{◌≡◌, ◌∙◌, ◌≤◌, ℕ, List, length, refl, sym, ap, subst}
 use Rattle.ga_grid.specs.declared.node_id.NodeId.{NodeId}
 use Rattle.ga_lab.specs.Machine.{State}
-use Rattle.ga_scheduler.specs.Conditions.{conditions_asked}
-use Rattle.ga_scheduler.specs.Backward.{newest_held, left_from, gone_from}
+use Rattle.ga_scheduler.specs.Conditions.{active_conditions}
+use Rattle.ga_scheduler.specs.Backward.{find_newest_holding, left_from, gone_from}
 use Rattle.ga_scheduler.specs.Running.{Running, running, after_events, AreMade, HasEnded}
 use Rattle.ga_scheduler.specs.declared.schedule.Schedule.{Schedule}
 use Rattle.ga_scheduler.specs.declared.condition.Condition.{Condition}
-use Rattle.ga_scheduler.specs.declared.running.End.{End}
+use Rattle.ga_scheduler.specs.declared.running.RunEnd.{RunEnd}
 use Rattle.ga_explorer_text.specs.Texts.{run_text, back_text}
-use Rattle.ga_debug_info.specs.declared.notes.Notes.{Notes}
-use Rattle.ga_explorer.specs.Opening.{Exploring}
-use Rattle.ga_explorer.specs.inner.{exploring}
+use Rattle.ga_debug_info.specs.declared.notes.DebugInfo.{DebugInfo}
+use Rattle.ga_explorer.specs.Opening.{ExplorerState}
+use Rattle.ga_explorer.specs.inner.{explorer_state}
 use Rattle.ga_explorer.specs.Commands.{Explored}
 use Rattle.ga_explorer.specs.declared.commands.ExplorerCommand.{ExplorerCommand}
 use Rattle.ga_explorer.specs.declared.commands.ExplorerCommand.TheVariants.{Run, BackUntil}
 
 -- what is answered to the command that is meant
-pub answered : (old new : Exploring) (asked meant : ExplorerCommand) (text : List ℕ) → asked ≡ meant → Explored old meant text new → Explored old asked text new
+pub answered : (old new : ExplorerState) (asked meant : ExplorerCommand) (text : List ℕ) → asked ≡ meant → Explored old meant text new → Explored old asked text new
 answered old new asked meant text e h = subst (λ z. Explored old z text new) (sym e) h
 
-pub run_done : (s : State) (notes : Option Notes) (asked : ExplorerCommand) (schedule : Schedule) (most bound : ℕ) (given until : List Condition) (many events : ℕ) (end : End) (new : State) (gone : Schedule)
-    → asked ≡ Run schedule most given → until ≡ conditions_asked given → many ≡ length until → bound ≡ most → AreMade (running s schedule) events → events ≤ bound
+pub run_done : (s : State) (notes : Option DebugInfo) (asked : ExplorerCommand) (schedule : Schedule) (most bound : ℕ) (given until : List Condition) (many events : ℕ) (end : RunEnd) (new : State) (gone : Schedule)
+    → asked ≡ Run schedule most given → until ≡ active_conditions given → many ≡ length until → bound ≡ most → AreMade (running s schedule) events → events ≤ bound
     → HasEnded (running s schedule) bound until events end → running new gone ≡ after_events (running s schedule) events
-    → Explored (exploring s notes) asked (run_text many events end) (exploring new notes)
+    → Explored (explorer_state s notes) asked (run_text many events end) (explorer_state new notes)
 run_done s notes asked schedule most bound given until many events end new gone e given_so many_so f made within ended state =
-    subst (λ z. Explored (exploring s notes) z (run_text many events end) (exploring new notes)) (sym e) (
+    subst (λ z. Explored (explorer_state s notes) z (run_text many events end) (explorer_state new notes)) (sym e) (
       record {
         events = events;
         end = end;
@@ -39,12 +39,12 @@ run_done s notes asked schedule most bound given until many events end new gone 
       refl,
     )
 
-pub back_done : (s : State) (notes : Option Notes) (asked : ExplorerCommand) (only : Option NodeId) (until watched : List Condition) (text : List ℕ) (now : State)
-    → asked ≡ BackUntil only until → watched ≡ conditions_asked until → text ≡ back_text (gone_from only s (newest_held watched only s)) (length now.kept)
-    → now ≡ left_from only s (newest_held watched only s) → Explored (exploring s notes) asked text (exploring now notes)
+pub back_done : (s : State) (notes : Option DebugInfo) (asked : ExplorerCommand) (only : Option NodeId) (until watched : List Condition) (text : List ℕ) (now : State)
+    → asked ≡ BackUntil only until → watched ≡ active_conditions until → text ≡ back_text (gone_from only s (find_newest_holding watched only s)) (length now.kept)
+    → now ≡ left_from only s (find_newest_holding watched only s) → Explored (explorer_state s notes) asked text (explorer_state now notes)
 back_done s notes asked only until watched text now e w t state =
-    subst (λ z. Explored (exploring s notes) z text (exploring now notes)) (sym e) (
-      t ∙ ap (λ (z : List Condition). back_text (gone_from only s (newest_held z only s)) (length now.kept)) w,
-      state ∙ ap (λ (z : List Condition). left_from only s (newest_held z only s)) w,
+    subst (λ z. Explored (explorer_state s notes) z text (explorer_state now notes)) (sym e) (
+      t ∙ ap (λ (z : List Condition). back_text (gone_from only s (find_newest_holding z only s)) (length now.kept)) w,
+      state ∙ ap (λ (z : List Condition). left_from only s (find_newest_holding z only s)) w,
       refl,
     )

@@ -3,17 +3,17 @@
 use Rattle.std.specs.Prelude.{◌≡◌, ℕ, ◌≤◌, nat_eq, if◌then◌else◌, List, [], ◌∷◌, length, slice_get, codes, Option, Some, None, option_map}
 use Rattle.std.specs.Cmp.Lexicographic.{pointwise}
 use Rattle.ga_text.specs.Lines.{Text, Line}
-use Rattle.ga_text.specs.Parsing.{cut, node_in}
+use Rattle.ga_text.specs.Parsing.{split_at_space, parse_node}
 use Rattle.ga_ports.specs.Steps.{◌>>=◌}
 use Rattle.ga_lab.specs.Machine.{State}
-use Rattle.ga_scheduler.specs.Conditions.{conditions_asked}
-use Rattle.ga_scheduler.specs.Backward.{newest_held, left_from, gone_from}
+use Rattle.ga_scheduler.specs.Conditions.{active_conditions}
+use Rattle.ga_scheduler.specs.Backward.{find_newest_holding, left_from, gone_from}
 use Rattle.ga_scheduler.specs.Running.{running, after_events, AreMade, HasEnded}
-use Rattle.ga_scheduler.specs.Schedules.{in_rounds}
+use Rattle.ga_scheduler.specs.Schedules.{round_robin}
 use Rattle.ga_scheduler.specs.declared.schedule.Schedule.{Schedule}
 use Rattle.ga_scheduler.specs.declared.condition.Condition.{Condition}
-use Rattle.ga_scheduler.specs.declared.running.End.{End}
-use Rattle.ga_debug_info.specs.declared.notes.Notes.{Notes}
+use Rattle.ga_scheduler.specs.declared.running.RunEnd.{RunEnd}
+use Rattle.ga_debug_info.specs.declared.notes.DebugInfo.{DebugInfo}
 use Rattle.ga_explorer_text.specs.Texts.{run_text, back_text, link_words_text, chip_text}
 use Rattle.ga_explorer_text.specs.Telling.{TellsEffects, TellsWho}
 use Rattle.ga_explorer_text.specs.Saved.{saved_text}
@@ -24,17 +24,17 @@ use Rattle.ga_explorer_text.specs.Because.{because_text}
 use Rattle.ga_explorer_text.specs.Races.{TellsRaces}
 use Rattle.ga_explorer.specs.Reading.{step_meant, run_in, back_in, most_events, no_condition, node_and_step, two_nodes, node_and_cell, node_and_steps}
 use Rattle.ga_explorer.specs.Forms.{CommandForm, entry, place_from, form_rows_text, about_found}
-use Rattle.ga_explorer.specs.Opening.{Exploring}
+use Rattle.ga_explorer.specs.Opening.{ExplorerState}
 use Rattle.ga_explorer.specs.declared.commands.ExplorerCommand.{ExplorerCommand}
 use Rattle.ga_explorer.specs.declared.commands.ExplorerCommand.TheVariants as asked
-use Rattle.ga_explorer.specs.declared.commands.Question.{Question}
-use Rattle.ga_explorer.specs.declared.commands.Question.TheVariants as told
+use Rattle.ga_explorer.specs.declared.commands.Query.{Query}
+use Rattle.ga_explorer.specs.declared.commands.Query.TheVariants as told
 
 -- ---- what `help` says of them
 
 -- the commands of exploring and those of the debugger, in the order of `help`
-unfoldable pub rows : List CommandForm
-rows =
+unfoldable pub command_table : List CommandForm
+command_table =
     entry (codes "run") (codes "run [greedy|random SEED] [N] [until COND]") (codes "\n                      make up to N events, in rounds or in this order\nCOND: pass NNN MMM = W, pass NNN MMM J, step NNN K, stop, stop NNN, wait NNN,\n      mem NNN HH = W, p NNN X, reach NNN X, change NNN HH [= W], COND or COND\nX: an address, a label, line N\n") (codes "answers: reached M EVENT, made M, quiet M or full M: how many events, and why no more\nexample: run 1000 until stop or reach 001 000012\n")
     ∷ entry (codes "chip") (codes "chip") (codes "                  what each node does\n") (codes "answers: rows 7 to 0 of nodes: . made no step, * runs, x stopped, @ waits for code, ? reads, ! writes\nexample: chip\n")
     ∷ entry (codes "who") (codes "who") (codes "                   who waits for whom, and which nodes can never go on\n") (codes "answers: for each that waits what it does, and the nodes that it awaits; then stuck, ring and idle\nexample: who\n")
@@ -61,17 +61,17 @@ rows =
 
 -- the place of the command of this name
 abbrev pub place_of_form : Line → Option ℕ
-place_of_form word = place_from word 0 rows
+place_of_form word = place_from word 0 command_table
 
 -- the text of the command at a place
 abbrev pub command_text : ℕ → Text
-command_text place = about_found (slice_get rows place)
+command_text place = about_found (slice_get command_table place)
 
 -- ---- how a line spells one of exploring
 
 -- a command that changes nothing, of one word
-unfoldable pub lone_question : Line → Option Question
-lone_question name =
+unfoldable pub bare_query : Line → Option Query
+bare_query name =
     if pointwise nat_eq name (codes "who") then Some told.Who
     else if pointwise nat_eq name (codes "races") then Some (told.Races None)
     else if pointwise nat_eq name (codes "chip") then Some told.Chip
@@ -80,8 +80,8 @@ lone_question name =
     else None
 
 -- a query, of a word and what follows it
-unfoldable pub named_question : Line → Line → Option Question
-named_question name text =
+unfoldable pub query_with_arguments : Line → Line → Option Query
+query_with_arguments name text =
     if pointwise nat_eq name (codes "effects") then (do
       it ← node_and_step text
       Some (told.Effects it.0 it.1))
@@ -100,30 +100,30 @@ named_question name text =
     else if pointwise nat_eq name (codes "because") then (do
       it ← node_and_steps text
       Some (told.Because it.0 it.1 it.2))
-    else if pointwise nat_eq name (codes "races") then option_map (λ node. told.Races (Some node)) (node_in text)
+    else if pointwise nat_eq name (codes "races") then option_map (λ node. told.Races (Some node)) (parse_node text)
     else if pointwise nat_eq name (codes "help") then option_map told.HelpOf (place_of_form text)
     else None
 
 -- a command of one word
 unfoldable pub lone_request : Line → Option ExplorerCommand
 lone_request name =
-    if pointwise nat_eq name (codes "run") then Some (asked.Run in_rounds most_events no_condition)
-    else option_map asked.Tell (lone_question name)
+    if pointwise nat_eq name (codes "run") then Some (asked.Run round_robin most_events no_condition)
+    else option_map asked.Tell (bare_query name)
 
 -- a command of a word and what follows it
-unfoldable pub named_request : Option Notes → Line → Line → Option ExplorerCommand
+unfoldable pub named_request : Option DebugInfo → Line → Line → Option ExplorerCommand
 named_request notes name text =
     if pointwise nat_eq name (codes "run") then run_in notes text
     else if pointwise nat_eq name (codes "back") then back_in notes text
-    else option_map asked.Tell (named_question name text)
+    else option_map asked.Tell (query_with_arguments name text)
 
-abbrev pub request_by : Option Notes → Option (Line × Line) → Line → Option ExplorerCommand
+abbrev pub request_by : Option DebugInfo → Option (Line × Line) → Line → Option ExplorerCommand
 request_by notes None line = lone_request line
 request_by notes (Some parts) line = named_request notes parts.0 parts.1
 
 -- the command of exploring that a line spells, where it spells one
-abbrev pub request_in : Option Notes → Line → Option ExplorerCommand
-request_in notes line = request_by notes (cut line) line
+abbrev pub request_in : Option DebugInfo → Line → Option ExplorerCommand
+request_in notes line = request_by notes (split_at_space line) line
 
 -- ---- what one of exploring answers
 
@@ -131,7 +131,7 @@ request_in notes line = request_by notes (cut line) line
 -- text has how many and why the run ended, and the machine is the one after them.
 pub record IsRun (s : State) (schedule : Schedule) (most : ℕ) (until : List Condition) (answer : Text) (new : State) : Type 0 where
   pub events : ℕ
-  pub end : End
+  pub end : RunEnd
   pub made : AreMade (running s schedule) events
   pub within : events ≤ most
   pub ended : HasEnded (running s schedule) most until events end
@@ -139,24 +139,24 @@ pub record IsRun (s : State) (schedule : Schedule) (most : ℕ) (until : List Co
   pub text : answer ≡ run_text (length until) events end
 
 -- the text of a query's answer
-abbrev pub Tells : Exploring → Question → Text → Type 0
-Tells e (told.Effects node which) answer = TellsEffects e.lab node (step_meant e.lab node which) answer
-Tells e (told.Words from to) answer = answer ≡ link_words_text e.lab from to
-Tells e (told.Writes node address) answer = answer ≡ writes_text e.lab node address
-Tells e (told.At node which around) answer = answer ≡ around_text e.notes e.lab node (step_meant e.lab node which) around
-Tells e (told.Whence node which) answer = TellsWhence e.notes e.lab node (step_meant e.lab node which) answer
-Tells e (told.Because node which most) answer = answer ≡ because_text e.notes e.lab node (step_meant e.lab node which) most
-Tells e (told.Races only) answer = TellsRaces e.lab only answer
-Tells e told.Who answer = TellsWho e.lab answer
-Tells e told.Chip answer = answer ≡ chip_text e.lab
-Tells e told.Save answer = answer ≡ saved_text e.lab
-Tells e told.Help answer = answer ≡ form_rows_text rows
-Tells e (told.HelpOf place) answer = answer ≡ command_text place
+abbrev pub AnswersQuery : ExplorerState → Query → Text → Type 0
+AnswersQuery e (told.Effects node which) answer = TellsEffects e.lab node (step_meant e.lab node which) answer
+AnswersQuery e (told.Words from to) answer = answer ≡ link_words_text e.lab from to
+AnswersQuery e (told.Writes node address) answer = answer ≡ writes_text e.lab node address
+AnswersQuery e (told.At node which around) answer = answer ≡ around_text e.notes e.lab node (step_meant e.lab node which) around
+AnswersQuery e (told.Whence node which) answer = TellsWhence e.notes e.lab node (step_meant e.lab node which) answer
+AnswersQuery e (told.Because node which most) answer = answer ≡ because_text e.notes e.lab node (step_meant e.lab node which) most
+AnswersQuery e (told.Races only) answer = TellsRaces e.lab only answer
+AnswersQuery e told.Who answer = TellsWho e.lab answer
+AnswersQuery e told.Chip answer = answer ≡ chip_text e.lab
+AnswersQuery e told.Save answer = answer ≡ saved_text e.lab
+AnswersQuery e told.Help answer = answer ≡ form_rows_text command_table
+AnswersQuery e (told.HelpOf place) answer = answer ≡ command_text place
 
 -- what is answered to a command of exploring, and what is explored then
-abbrev pub Explored : Exploring → ExplorerCommand → Text → Exploring → Type 0
-Explored e (asked.Run schedule most until) answer new = IsRun e.lab schedule most (conditions_asked until) answer new.lab × (new.notes ≡ e.notes)
+abbrev pub Explored : ExplorerState → ExplorerCommand → Text → ExplorerState → Type 0
+Explored e (asked.Run schedule most until) answer new = IsRun e.lab schedule most (active_conditions until) answer new.lab × (new.notes ≡ e.notes)
 Explored e (asked.BackUntil only until) answer new =
-    (answer ≡ back_text (gone_from only e.lab (newest_held (conditions_asked until) only e.lab)) (length new.lab.kept))
-    × (new.lab ≡ left_from only e.lab (newest_held (conditions_asked until) only e.lab)) × (new.notes ≡ e.notes)
-Explored e (asked.Tell question) answer new = Tells e question answer × (new ≡ e)
+    (answer ≡ back_text (gone_from only e.lab (find_newest_holding (active_conditions until) only e.lab)) (length new.lab.kept))
+    × (new.lab ≡ left_from only e.lab (find_newest_holding (active_conditions until) only e.lab)) × (new.notes ≡ e.notes)
+Explored e (asked.Tell question) answer new = AnswersQuery e question answer × (new ≡ e)

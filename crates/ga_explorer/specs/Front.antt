@@ -19,8 +19,8 @@ abbrev pub ends_in_end : Text → Bool
 ends_in_end text = pointwise nat_eq text (codes "end") || ends_with nat_eq text (codes "\nend")
 
 -- the text is an image that has no line `end`
-abbrev pub is_cut_off : Text → Bool
-is_cut_off text = begins_as_image text && (not (has_end text) && not (ends_in_end text))
+abbrev pub lacks_end_line : Text → Bool
+lacks_end_line text = begins_as_image text && (not (has_end text) && not (ends_in_end text))
 
 -- what a text needs so that commands can follow it: nothing, the line feed of its last line, or the line `end`
 abbrev pub closing : Text → Text

@@ -3,10 +3,10 @@ use Rattle.std.specs.Prelude.{nat_eq, nat_le, Bool, false, ◌&&◌, ◌||◌, i
 use Rattle.std.specs.Cmp.Lexicographic.{pointwise}
 use Rattle.std.specs.List.{starts_with, ends_with}
 use Rattle.ga_text.specs.Lines.{Text, Line}
-use Rattle.ga_text.specs.Parsing.{cut}
+use Rattle.ga_text.specs.Parsing.{split_at_space}
 use Rattle.ga_parser.specs.Nearness.{is_near}
 use Rattle.ga_explorer.specs.Forms.{CommandForm}
-use Rattle.ga_explorer.specs.Commands.{rows}
+use Rattle.ga_explorer.specs.Commands.{command_table}
 
 -- the form of the command of this name
 unfoldable pub form_of_command : Line → List CommandForm → Option Text
@@ -23,7 +23,7 @@ form_or None other = other
 form_or (Some form) other = form
 
 abbrev pub form_for : Line → Text
-form_for word = form_or (form_of_command word rows) (form_or (near_form_in word rows) (codes "help"))
+form_for word = form_or (form_of_command word command_table) (form_or (near_form_in word command_table) (codes "help"))
 
 -- the word with which a line begins
 abbrev pub first_word : Option (Line × Line) → Line → Line
@@ -47,13 +47,13 @@ is_upper [] = false
 is_upper (letter ∷ more) = (nat_le 65 letter && nat_le letter 90) || is_upper more
 
 -- what to write in place of the line
-abbrev pub cure : Line → Text
-cure line =
+abbrev pub suggestion : Line → Text
+suggestion line =
     if is_mark line then codes "a byte order mark stands before the command; leave it out"
     else if is_return line then codes "a carriage return ends the line; end it with a line feed alone"
     else if has_blank_end line then codes "a blank stands at an end of the line; leave it out"
-    else if is_upper (first_word (cut line) line) then codes "the command is in upper case; write it in lower case"
-    else form_for (first_word (cut line) line)
+    else if is_upper (first_word (split_at_space line) line) then codes "the command is in upper case; write it in lower case"
+    else form_for (first_word (split_at_space line) line)
 
 abbrev pub no_command : Line → Text
-no_command line = codes "no 31 syntax: " ++ cure line ++ codes "\n"
+no_command line = codes "no 31 syntax: " ++ suggestion line ++ codes "\n"

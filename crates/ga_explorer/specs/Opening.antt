@@ -1,8 +1,8 @@
 -- What a session of exploring begins on: an image, or source, which may have a chip of its own (docs/REFERENCE.md, "Exploring"; this project's own).
 use Rattle.std.specs.Prelude.{Option, option_map, Vec, ◌≡◌, ℕ, ◌⊎◌, Bool, true, false, List, [], ◌++◌, length, take, codes, bytes_eq, Result, Ok, Err, Some, None}
 use Rattle.std.specs.Global.{Global}
-use Rattle.ga_lab.specs.Machine.{State, first}
-use Rattle.ga_debug_info.specs.declared.notes.Notes.{Notes}
+use Rattle.ga_lab.specs.Machine.{State, initial_state}
+use Rattle.ga_debug_info.specs.declared.notes.DebugInfo.{DebugInfo}
 use Rattle.std.specs.List.{All}
 use Rattle.ga_node.specs.Record.{NodeState}
 use Rattle.ga_grid.specs.Chip.{records_of}
@@ -23,9 +23,9 @@ use Rattle.ga_console.specs.declared.run.Status.TheVariants.{ImageRefused, Strea
 -- ---- what is explored (docs/REFERENCE.md, "Exploring"; this project's own)
 
 -- a machine, and what the source says of its cells where it began with source
-pub record Exploring : Type 0 where
+pub record ExplorerState : Type 0 where
   pub lab : State
-  pub notes : Option Notes
+  pub notes : Option DebugInfo
 
 -- the text is an image, and not source
 abbrev pub begins_as_image : Text → Bool
@@ -33,26 +33,26 @@ begins_as_image text = bytes_eq (take 5 text) (codes "ga144")
 
 -- The machine has as its load the chip of a source: that of the programs which the source has, with what its plain words make. The
 -- notes are those of this source and these programs.
-pub record OpensSource (source : Text) (limit : ℕ) (begun : Exploring) : Type 0 where
+pub record OpensSource (source : Text) (limit : ℕ) (begun : ExplorerState) : Type 0 where
   pub chip : List NodeState
   pub programs : List Program
-  pub notes : Notes
+  pub notes : DebugInfo
   pub assembled : IsAssembled chip programs
   pub read : AreRead source programs
   pub asked : AreAsked source programs
   pub groups : All HasGroups programs
   pub made : IsChipOfSource source chip
-  pub load : begun.lab ≡ first (records_of chip) limit
+  pub load : begun.lab ≡ initial_state (records_of chip) limit
   pub noted : begun.notes ≡ Some notes
   pub says : AreOfSource source programs notes
 
 -- the machine has the text's chip as its load; of an image there are no notes
-abbrev pub OpensExploring : Text → ℕ → Exploring → Type 0
+abbrev pub OpensExploring : Text → ℕ → ExplorerState → Type 0
 OpensExploring text limit begun = ((begins_as_image text ≡ true) × OpensImage text limit begun.lab × (begun.notes ≡ None))
     ⊎ ((begins_as_image text ≡ false) × OpensSource text limit begun)
 
 -- The notes are those of a source and of the programs that it has.
-pub record AreNotesOf (source : Text) (notes : Notes) : Type 0 where
+pub record AreNotesOf (source : Text) (notes : DebugInfo) : Type 0 where
   pub chip : List NodeState
   pub programs : List Program
   pub assembled : IsAssembled chip programs
@@ -63,8 +63,8 @@ pub record AreNotesOf (source : Text) (notes : Notes) : Type 0 where
   pub says : AreOfSource source programs notes
 
 -- The machine has as its load the chip of an image, and the notes are those of the source, whatever that chip holds.
-pub record OpensOnImage (source image : Text) (limit : ℕ) (begun : Exploring) : Type 0 where
-  pub notes : Notes
+pub record OpensOnImage (source image : Text) (limit : ℕ) (begun : ExplorerState) : Type 0 where
+  pub notes : DebugInfo
   pub opens : OpensImage image limit begun.lab
   pub noted : begun.notes ≡ Some notes
   pub notes_of : AreNotesOf source notes
@@ -74,7 +74,7 @@ abbrev pub image_of : Option (Vec ℕ Global) → Option Text
 image_of chip = option_map (λ (image : Vec ℕ Global). image.items) chip
 
 -- what is opened on a text: where an image is given for the chip, the text is its source
-abbrev pub OpensFront : Option Text → Text → ℕ → Exploring → Type 0
+abbrev pub OpensFront : Option Text → Text → ℕ → ExplorerState → Type 0
 OpensFront None text limit begun = OpensExploring text limit begun
 OpensFront (Some image) text limit begun = OpensOnImage text image limit begun
 
@@ -113,7 +113,7 @@ pub data Unbegun (chip : Option Text) (read rest : Bytes) (written : Text) (stat
   unread : HasNoEnd read → written ≡ [] → status ≡ StreamFault → Unbegun chip read rest written status
 
 -- A text was taken of what was left to read, and a machine opened on it; or no session begins.
-abbrev pub IsBegun : Option Text → ℕ → Bytes → Unread → Bytes → Text → Result Exploring Status → Type 0
+abbrev pub IsBegun : Option Text → ℕ → Bytes → Unread → Bytes → Text → Result ExplorerState Status → Type 0
 IsBegun chip limit left input rest written (Ok begun) = (written ≡ []) × (text : Text) × (left ≡ text ++ (input.bytes ++ rest))
     × (input.taken ≡ length text) × IsFront text (input.bytes ++ rest) × OpensFront chip text limit begun
 IsBegun chip limit left input rest written (Err status) = (read : Bytes) × (left ≡ read ++ rest) × Unbegun chip read rest written status

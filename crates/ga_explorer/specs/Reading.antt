@@ -6,16 +6,16 @@ use Rattle.ga_text.specs.Lines.{Line}
 use Rattle.ga_grid.specs.declared.node_id.NodeId.{NodeId}
 use Rattle.ga_event.specs.Told.{steps_of}
 use Rattle.ga_lab.specs.Machine.{State}
-use Rattle.ga_text.specs.Parsing.{number_in, in_front, cut, node_in}
-use Rattle.ga_explorer.specs.declared.which.Which.{Which}
-use Rattle.ga_explorer.specs.declared.which.Which.TheVariants.{Number, Last}
+use Rattle.ga_text.specs.Parsing.{parse_number, in_front, split_at_space, parse_node}
+use Rattle.ga_explorer.specs.declared.which.StepSelector.{StepSelector}
+use Rattle.ga_explorer.specs.declared.which.StepSelector.TheVariants.{Number, Last}
 use Rattle.ga_ports.specs.Steps.{◌>>=◌}
 use Rattle.ga_text.specs.Digits.{byte_in}
-use Rattle.ga_scheduler.specs.Schedules.{in_rounds, greedily, at_random}
+use Rattle.ga_scheduler.specs.Schedules.{round_robin, greedy, random}
 use Rattle.ga_scheduler.specs.declared.schedule.Schedule.{Schedule}
 use Rattle.ga_scheduler.specs.declared.condition.Condition.{Condition}
 use Rattle.ga_scheduler.specs.declared.condition.Condition.TheVariants.{Never, Passes, PassesNumber, Steps, Stops, StopsAt, WaitsAt, Holds, ComesTo, Reaches, Writes as WritesTo}
-use Rattle.ga_debug_info.specs.declared.notes.Notes.{Notes}
+use Rattle.ga_debug_info.specs.declared.notes.DebugInfo.{DebugInfo}
 use Rattle.ga_debug_info.specs.Notes.{line_address, address_of}
 use Rattle.ga_explorer.specs.declared.commands.ExplorerCommand.{ExplorerCommand}
 use Rattle.ga_explorer.specs.declared.commands.ExplorerCommand.TheVariants.{Run, BackUntil}
@@ -23,11 +23,11 @@ use Rattle.ga_explorer.specs.declared.commands.ExplorerCommand.TheVariants.{Run,
 -- ---- which step of a node a command means: one by its number, or the last (docs/REFERENCE.md, "Exploring"; this project's own)
 
 -- a number, or `last`
-abbrev pub which_in : Line → Option Which
-which_in word = if pointwise nat_eq word (codes "last") then Some Last else option_map Number (number_in word)
+abbrev pub which_in : Line → Option StepSelector
+which_in word = if pointwise nat_eq word (codes "last") then Some Last else option_map Number (parse_number word)
 
 -- The number of the step that is meant. Of a node that made none the last is 0, which no step has.
-abbrev pub step_meant : State → NodeId → Which → ℕ
+abbrev pub step_meant : State → NodeId → StepSelector → ℕ
 step_meant s node (Number step) = step
 step_meant s node Last = steps_of node.number s.kept
 
@@ -53,46 +53,46 @@ hex_word_in _ = None
 -- `= W`
 unfoldable pub equal_in : Line → Option ℕ
 equal_in text = do
-  parts ← cut text
+  parts ← split_at_space text
   if pointwise nat_eq parts.0 (codes "=") then hex_word_in parts.1 else None
 
 -- `NNN K`
 unfoldable pub steps_condition : Line → Option Condition
 steps_condition text = do
-  parts ← cut text
-  node ← node_in parts.0
-  step ← number_in parts.1
+  parts ← split_at_space text
+  node ← parse_node parts.0
+  step ← parse_number parts.1
   Some (Steps node step)
 
 -- `= W` or `J` after `NNN MMM`
 abbrev pub passed_cut : NodeId → NodeId → Option (Line × Line) → Line → Option Condition
-passed_cut writer reader None text = option_map (PassesNumber writer reader) (number_in text)
+passed_cut writer reader None text = option_map (PassesNumber writer reader) (parse_number text)
 passed_cut writer reader (Some parts) text = option_map (Passes writer reader) (equal_in text)
 
 abbrev pub passed_in : NodeId → NodeId → Line → Option Condition
-passed_in writer reader text = passed_cut writer reader (cut text) text
+passed_in writer reader text = passed_cut writer reader (split_at_space text) text
 
 -- `NNN MMM = W` or `NNN MMM J`
 unfoldable pub passes_in : Line → Option Condition
 passes_in text = do
-  first ← cut text
-  second ← cut first.1
-  writer ← node_in first.0
-  reader ← node_in second.0
+  first ← split_at_space text
+  second ← split_at_space first.1
+  writer ← parse_node first.0
+  reader ← parse_node second.0
   passed_in writer reader second.1
 
 -- `NNN HH = W`
 unfoldable pub holds_in : Line → Option Condition
 holds_in text = do
-  first ← cut text
-  second ← cut first.1
-  node ← node_in first.0
+  first ← split_at_space text
+  second ← split_at_space first.1
+  node ← parse_node first.0
   address ← byte_in second.0
   word ← equal_in second.1
   Some (Holds node address word)
 
 -- a label of a node, which only source gives
-abbrev pub label_in : Option Notes → NodeId → Line → Option ℕ
+abbrev pub label_in : Option DebugInfo → NodeId → Line → Option ℕ
 label_in None node text = None
 label_in (Some notes) node text = address_of notes.names.items node text
 
@@ -101,35 +101,35 @@ word_or None other = other
 word_or (Some word) other = Some word
 
 -- the address of the first instruction word of a node that a line begins, which only source gives
-abbrev pub begun_in : Option Notes → NodeId → ℕ → Option ℕ
+abbrev pub begun_in : Option DebugInfo → NodeId → ℕ → Option ℕ
 begun_in None node line = None
 begun_in (Some notes) node line = line_address notes.notes.items node line
 
 -- `line N`
-unfoldable pub cell_of_line : Option Notes → NodeId → Line → Line → Option ℕ
+unfoldable pub cell_of_line : Option DebugInfo → NodeId → Line → Line → Option ℕ
 cell_of_line notes node name text =
     if pointwise nat_eq name (codes "line") then (do
-      line ← number_in text
+      line ← parse_number text
       begun_in notes node line)
     else None
 
-abbrev pub noted_cut : Option Notes → NodeId → Option (Line × Line) → Line → Option ℕ
+abbrev pub noted_cut : Option DebugInfo → NodeId → Option (Line × Line) → Line → Option ℕ
 noted_cut notes node None text = label_in notes node text
 noted_cut notes node (Some parts) text = cell_of_line notes node parts.0 parts.1
 
 -- a label, or `line N`
-abbrev pub noted_in : Option Notes → NodeId → Line → Option ℕ
-noted_in notes node text = noted_cut notes node (cut text) text
+abbrev pub noted_in : Option DebugInfo → NodeId → Line → Option ℕ
+noted_in notes node text = noted_cut notes node (split_at_space text) text
 
 -- an address, or else a label or a line
-abbrev pub address_or_label : Option Notes → NodeId → Line → Option ℕ
+abbrev pub address_or_label : Option DebugInfo → NodeId → Line → Option ℕ
 address_or_label notes node text = word_or (hex_word_in text) (noted_in notes node text)
 
 -- `NNN X`
-unfoldable pub node_and_place : Option Notes → Line → Option (NodeId × ℕ)
+unfoldable pub node_and_place : Option DebugInfo → Line → Option (NodeId × ℕ)
 node_and_place notes text = do
-  parts ← cut text
-  node ← node_in parts.0
+  parts ← split_at_space text
+  node ← parse_node parts.0
   address ← address_or_label notes node parts.1
   Some (node, address)
 
@@ -144,13 +144,13 @@ written_cut node (Some parts) text = do
   Some (WritesTo node address (Some word))
 
 abbrev pub written_in : NodeId → Line → Option Condition
-written_in node text = written_cut node (cut text) text
+written_in node text = written_cut node (split_at_space text) text
 
 -- `NNN HH` or `NNN HH = W`
 unfoldable pub writes_to_in : Line → Option Condition
 writes_to_in text = do
-  parts ← cut text
-  node ← node_in parts.0
+  parts ← split_at_space text
+  node ← parse_node parts.0
   written_in node parts.1
 
 -- a condition of one word
@@ -158,10 +158,10 @@ unfoldable pub lone_condition : Line → Option Condition
 lone_condition name = if pointwise nat_eq name (codes "stop") then Some Stops else None
 
 -- a condition of a word and what follows it
-unfoldable pub named_condition : Option Notes → Line → Line → Option Condition
+unfoldable pub named_condition : Option DebugInfo → Line → Line → Option Condition
 named_condition notes name text =
-    if pointwise nat_eq name (codes "stop") then option_map StopsAt (node_in text)
-    else if pointwise nat_eq name (codes "wait") then option_map WaitsAt (node_in text)
+    if pointwise nat_eq name (codes "stop") then option_map StopsAt (parse_node text)
+    else if pointwise nat_eq name (codes "wait") then option_map WaitsAt (parse_node text)
     else if pointwise nat_eq name (codes "step") then steps_condition text
     else if pointwise nat_eq name (codes "pass") then passes_in text
     else if pointwise nat_eq name (codes "mem") then holds_in text
@@ -174,12 +174,12 @@ named_condition notes name text =
     else if pointwise nat_eq name (codes "change") then writes_to_in text
     else None
 
-abbrev pub condition_by : Option Notes → Option (Line × Line) → Line → Option Condition
+abbrev pub condition_by : Option DebugInfo → Option (Line × Line) → Line → Option Condition
 condition_by notes None text = lone_condition text
 condition_by notes (Some parts) text = named_condition notes parts.0 parts.1
 
-abbrev pub condition_in : Option Notes → Line → Option Condition
-condition_in notes text = condition_by notes (cut text) text
+abbrev pub condition_in : Option DebugInfo → Line → Option Condition
+condition_in notes text = condition_by notes (split_at_space text) text
 
 -- ---- conditions with ` or ` between them
 
@@ -222,15 +222,15 @@ abbrev pub others_by : ℕ → (Line → Option (List Condition)) → Option Lin
 others_by more others None = Some (replicate more Never)
 others_by more others (Some text) = others text
 
-abbrev pub conditions_by : Option Notes → ℕ → (Line → Option (List Condition)) → Line × Option Line → Option (List Condition)
+abbrev pub conditions_by : Option DebugInfo → ℕ → (Line → Option (List Condition)) → Line × Option Line → Option (List Condition)
 conditions_by notes more others parts = with_first (condition_in notes parts.0) (others_by more others parts.1)
 
 -- conditions with ` or ` between them, for a number of places
-unfoldable pub conditions_within : Option Notes → ℕ → Line → Option (List Condition)
+unfoldable pub conditions_within : Option DebugInfo → ℕ → Line → Option (List Condition)
 conditions_within notes zero text = None
 conditions_within notes (suc more) text = conditions_by notes more (conditions_within notes more) (or_split text)
 
-abbrev pub conditions_in : Option Notes → Line → Option (List Condition)
+abbrev pub conditions_in : Option DebugInfo → Line → Option (List Condition)
 conditions_in notes text = conditions_within notes most_conditions text
 
 -- the conditions where none is given: each holds never
@@ -238,105 +238,105 @@ abbrev pub no_condition : List Condition
 no_condition = replicate most_conditions Never
 
 -- `until COND or COND ..`
-unfoldable pub until_in : Option Notes → Line → Option (List Condition)
+unfoldable pub until_in : Option DebugInfo → Line → Option (List Condition)
 until_in notes text = do
-  parts ← cut text
+  parts ← split_at_space text
   if pointwise nat_eq parts.0 (codes "until") then conditions_in notes parts.1 else None
 
 -- ---- `run`
 
-abbrev pub run_until : Option Notes → Schedule → ℕ → Line → Option ExplorerCommand
+abbrev pub run_until : Option DebugInfo → Schedule → ℕ → Line → Option ExplorerCommand
 run_until notes schedule most text = option_map (Run schedule most) (conditions_in notes text)
 
 -- `until COND`, or a number and `until COND`
-unfoldable pub bounded_by : Option Notes → Schedule → Line → Line → Option ExplorerCommand
+unfoldable pub bounded_by : Option DebugInfo → Schedule → Line → Line → Option ExplorerCommand
 bounded_by notes schedule name text =
     if pointwise nat_eq name (codes "until") then run_until notes schedule most_events text
     else (do
-      most ← number_in name
+      most ← parse_number name
       until ← until_in notes text
       Some (Run schedule most until))
 
-abbrev pub bounded_cut : Option Notes → Option (Line × Line) → Schedule → Line → Option ExplorerCommand
-bounded_cut notes None schedule text = option_map (λ most. Run schedule most no_condition) (number_in text)
+abbrev pub bounded_cut : Option DebugInfo → Option (Line × Line) → Schedule → Line → Option ExplorerCommand
+bounded_cut notes None schedule text = option_map (λ most. Run schedule most no_condition) (parse_number text)
 bounded_cut notes (Some parts) schedule text = bounded_by notes schedule parts.0 parts.1
 
 -- a number, `until COND`, or both
-abbrev pub bounded_in : Option Notes → Schedule → Line → Option ExplorerCommand
-bounded_in notes schedule text = bounded_cut notes (cut text) schedule text
+abbrev pub bounded_in : Option DebugInfo → Schedule → Line → Option ExplorerCommand
+bounded_in notes schedule text = bounded_cut notes (split_at_space text) schedule text
 
-abbrev pub seeded_cut : Option Notes → Option (Line × Line) → Line → Option ExplorerCommand
-seeded_cut notes None text = option_map (λ seed. Run (at_random seed) most_events no_condition) (number_in text)
+abbrev pub seeded_cut : Option DebugInfo → Option (Line × Line) → Line → Option ExplorerCommand
+seeded_cut notes None text = option_map (λ seed. Run (random seed) most_events no_condition) (parse_number text)
 seeded_cut notes (Some parts) text = do
-  seed ← number_in parts.0
-  bounded_in notes (at_random seed) parts.1
+  seed ← parse_number parts.0
+  bounded_in notes (random seed) parts.1
 
 -- a seed, and what bounds the run
-abbrev pub seeded_in : Option Notes → Line → Option ExplorerCommand
-seeded_in notes text = seeded_cut notes (cut text) text
+abbrev pub seeded_in : Option DebugInfo → Line → Option ExplorerCommand
+seeded_in notes text = seeded_cut notes (split_at_space text) text
 
 -- an order of one word, or what bounds a run in rounds
-unfoldable pub lone_order : Option Notes → Line → Option ExplorerCommand
-lone_order notes text = if pointwise nat_eq text (codes "greedy") then Some (Run greedily most_events no_condition) else bounded_in notes in_rounds text
+unfoldable pub lone_order : Option DebugInfo → Line → Option ExplorerCommand
+lone_order notes text = if pointwise nat_eq text (codes "greedy") then Some (Run greedy most_events no_condition) else bounded_in notes round_robin text
 
 -- an order with what follows it, or what bounds a run in rounds
-unfoldable pub named_order : Option Notes → Line → Line → Line → Option ExplorerCommand
+unfoldable pub named_order : Option DebugInfo → Line → Line → Line → Option ExplorerCommand
 named_order notes name rest text =
-    if pointwise nat_eq name (codes "greedy") then bounded_in notes greedily rest
+    if pointwise nat_eq name (codes "greedy") then bounded_in notes greedy rest
     else if pointwise nat_eq name (codes "random") then seeded_in notes rest
-    else bounded_in notes in_rounds text
+    else bounded_in notes round_robin text
 
-abbrev pub run_by : Option Notes → Option (Line × Line) → Line → Option ExplorerCommand
+abbrev pub run_by : Option DebugInfo → Option (Line × Line) → Line → Option ExplorerCommand
 run_by notes None text = lone_order notes text
 run_by notes (Some parts) text = named_order notes parts.0 parts.1 text
 
 -- the arguments of `run`
-abbrev pub run_in : Option Notes → Line → Option ExplorerCommand
-run_in notes text = run_by notes (cut text) text
+abbrev pub run_in : Option DebugInfo → Line → Option ExplorerCommand
+run_in notes text = run_by notes (split_at_space text) text
 
 -- ---- `back until`
 
-abbrev pub until_back : Option Notes → Line → Option ExplorerCommand
+abbrev pub until_back : Option DebugInfo → Line → Option ExplorerCommand
 until_back notes text = option_map (BackUntil None) (conditions_in notes text)
 
 -- `until COND or COND ..`, or a node before it
-unfoldable pub back_by : Option Notes → Line → Line → Option ExplorerCommand
+unfoldable pub back_by : Option DebugInfo → Line → Line → Option ExplorerCommand
 back_by notes name text =
     if pointwise nat_eq name (codes "until") then until_back notes text
     else (do
-      node ← node_in name
+      node ← parse_node name
       until ← until_in notes text
       Some (BackUntil (Some node) until))
 
 -- the arguments of `back`
-unfoldable pub back_in : Option Notes → Line → Option ExplorerCommand
+unfoldable pub back_in : Option DebugInfo → Line → Option ExplorerCommand
 back_in notes text = do
-  parts ← cut text
+  parts ← split_at_space text
   back_by notes parts.0 parts.1
 
 -- ---- the arguments of a command
 
 -- `NNN K`
-unfoldable pub node_and_step : Line → Option (NodeId × Which)
+unfoldable pub node_and_step : Line → Option (NodeId × StepSelector)
 node_and_step text = do
-  parts ← cut text
-  node ← node_in parts.0
+  parts ← split_at_space text
+  node ← parse_node parts.0
   which ← which_in parts.1
   Some (node, which)
 
 -- `NNN MMM`
 unfoldable pub two_nodes : Line → Option (NodeId × NodeId)
 two_nodes text = do
-  parts ← cut text
-  first ← node_in parts.0
-  second ← node_in parts.1
+  parts ← split_at_space text
+  first ← parse_node parts.0
+  second ← parse_node parts.1
   Some (first, second)
 
 -- `NNN HH`
 unfoldable pub node_and_cell : Line → Option (NodeId × ℕ)
 node_and_cell text = do
-  parts ← cut text
-  node ← node_in parts.0
+  parts ← split_at_space text
+  node ← parse_node parts.0
   address ← byte_in parts.1
   Some (node, address)
 
@@ -347,24 +347,24 @@ few_steps = 3
 abbrev pub most_steps : ℕ
 most_steps = 99
 
-abbrev pub with_steps : Which → ℕ → Option (Which × ℕ)
+abbrev pub with_steps : StepSelector → ℕ → Option (StepSelector × ℕ)
 with_steps which many = if nat_le many most_steps then Some (which, many) else None
 
-abbrev pub steps_cut : Option (Line × Line) → Line → Option (Which × ℕ)
+abbrev pub steps_cut : Option (Line × Line) → Line → Option (StepSelector × ℕ)
 steps_cut None text = option_map (λ which. (which, few_steps)) (which_in text)
 steps_cut (Some parts) text = do
   which ← which_in parts.0
-  many ← number_in parts.1
+  many ← parse_number parts.1
   with_steps which many
 
 -- `K` or `K N`: a step, and how many further steps are written
-abbrev pub step_and_more : Line → Option (Which × ℕ)
-step_and_more text = steps_cut (cut text) text
+abbrev pub step_and_more : Line → Option (StepSelector × ℕ)
+step_and_more text = steps_cut (split_at_space text) text
 
 -- `NNN K` or `NNN K N`
-unfoldable pub node_and_steps : Line → Option (NodeId × Which × ℕ)
+unfoldable pub node_and_steps : Line → Option (NodeId × StepSelector × ℕ)
 node_and_steps text = do
-  parts ← cut text
-  node ← node_in parts.0
+  parts ← split_at_space text
+  node ← parse_node parts.0
   asked ← step_and_more parts.1
   Some (node, asked.0, asked.1)

@@ -5,28 +5,28 @@ use Rattle.ga_text.specs.Input.{input_limit}
 use Rattle.ga_text.specs.Output.{ready}
 use Rattle.ga_console.specs.Run.{status_of}
 use Rattle.ga_console.specs.Session.{Serves, Written}
-use Rattle.ga_console.specs.declared.commands.Ending.{Ending}
-use Rattle.ga_text.specs.declared.output.WriteFailed.{WriteFailed}
+use Rattle.ga_console.specs.declared.commands.CommandsEnd.{CommandsEnd}
+use Rattle.ga_text.specs.declared.output.WriteError.{WriteError}
 use Rattle.ga_console.specs.declared.run.Status.{Status}
-use Rattle.ga_explorer.specs.Opening.{Exploring, OpensFront, IsFront, Unbegun}
+use Rattle.ga_explorer.specs.Opening.{ExplorerState, OpensFront, IsFront, Unbegun}
 use Rattle.ga_explorer.specs.Answers.{Explores}
 
 -- The text, an image or source, was accepted, and so was the image that gives its chip, if there is one; and the commands after
 -- it were served to this ending.
-pub record ServedExploring (chip : Option Text) (limit : ℕ) (read rest : Bytes) (written : Text) (ending : Result Ending WriteFailed) : Type 0 where
+pub record ServedExploring (chip : Option Text) (limit : ℕ) (read rest : Bytes) (written : Text) (ending : Result CommandsEnd WriteError) : Type 0 where
   pub text : Text
   pub commands : Bytes
-  pub begun : Exploring
+  pub begun : ExplorerState
   pub said : Text
   pub splits : read ≡ text ++ commands
   pub front : IsFront text (commands ++ rest)
   pub opens : OpensFront chip text limit begun
-  pub last : Exploring
+  pub last : ExplorerState
   pub serves : Serves Explores (input_limit - length text) begun commands rest said last ending
   pub out : Written ending (ready ++ said) written
 
 -- What a session may have written, where read was read of its input and rest is left of it, and its status.
-pub data RunsExploring (chip : Option Text) (limit : ℕ) (read rest : Bytes) (written : Text) (status : Status) : Type 0 where
-  served : (ending : Result Ending WriteFailed) → status ≡ status_of ending → ServedExploring chip limit read rest written ending
-      → RunsExploring chip limit read rest written status
-  unbegun : Unbegun chip read rest written status → RunsExploring chip limit read rest written status
+pub data RunsExplorer (chip : Option Text) (limit : ℕ) (read rest : Bytes) (written : Text) (status : Status) : Type 0 where
+  served : (ending : Result CommandsEnd WriteError) → status ≡ status_of ending → ServedExploring chip limit read rest written ending
+      → RunsExplorer chip limit read rest written status
+  unbegun : Unbegun chip read rest written status → RunsExplorer chip limit read rest written status

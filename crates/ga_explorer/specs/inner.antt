@@ -1,8 +1,8 @@
 -- What only private contracts and proofs name.
 use Rattle.std.specs.Prelude.{Option, Some, None, ◌≡◌, ℕ, true, false, [], Result, Ok, Err}
 use Rattle.ga_lab.specs.Machine.{State}
-use Rattle.ga_debug_info.specs.declared.notes.Notes.{Notes}
-use Rattle.ga_explorer.specs.Opening.{Exploring, begins_as_image, is_read_as_image, OpensFront}
+use Rattle.ga_debug_info.specs.declared.notes.DebugInfo.{DebugInfo}
+use Rattle.ga_explorer.specs.Opening.{ExplorerState, begins_as_image, is_read_as_image, OpensFront}
 use Rattle.ga_explorer.specs.Forms.{CommandForm}
 use Rattle.ga_explorer.specs.declared.forms.Row.{Row}
 use Rattle.ga_text.specs.Lines.{Text, Bytes}
@@ -10,18 +10,18 @@ use Rattle.ga_image.specs.declared.fault.ImageFault.{ImageFault}
 use Rattle.ga_console.specs.Run.{IsFault, Refuses}
 use Rattle.ga_console.specs.declared.run.Status.{Status}
 use Rattle.ga_console.specs.declared.run.Status.TheVariants.{ImageRefused}
-use Rattle.ga_explorer.specs.declared.opening.Unopened.{Unopened}
-use Rattle.ga_explorer.specs.declared.opening.Unopened.TheVariants.{Image, Source}
-use Rattle.ga_text.specs.Output.{Says}
+use Rattle.ga_explorer.specs.declared.opening.OpenError.{OpenError}
+use Rattle.ga_explorer.specs.declared.opening.OpenError.TheVariants.{Image, Source}
+use Rattle.ga_text.specs.Output.{WritesSome}
 use Rattle.ga_text.specs.declared.output.Writer.{Writer}
-use Rattle.ga_text.specs.declared.output.WriteFailed.{WriteFailed}
-use Rattle.ga_explorer.specs.Commands.{Tells}
-use Rattle.ga_explorer.specs.declared.commands.Question.{Question}
+use Rattle.ga_text.specs.declared.output.WriteError.{WriteError}
+use Rattle.ga_explorer.specs.Commands.{AnswersQuery}
+use Rattle.ga_explorer.specs.declared.commands.Query.{Query}
 
 -- ---- what is explored, of its two parts
 
-abbrev pub exploring : State → Option Notes → Exploring
-exploring lab notes = record { lab = lab; notes = notes }
+abbrev pub explorer_state : State → Option DebugInfo → ExplorerState
+explorer_state lab notes = record { lab = lab; notes = notes }
 
 -- ---- A row of the code's table of commands
 
@@ -36,24 +36,24 @@ IsFaultOf None text fault = (begins_as_image text ≡ true) × IsFault text faul
 IsFaultOf (Some image) text fault = IsFault image fault
 
 -- why there is no machine that has the chip as its load
-abbrev pub IsUnopened : Option Text → Text → Unopened → Type 0
+abbrev pub IsUnopened : Option Text → Text → OpenError → Type 0
 IsUnopened chip text (Image fault) = IsFaultOf chip text fault
 IsUnopened chip text Source = is_read_as_image chip text ≡ false
 
 -- a refusal is written, or standard error has the reason
-abbrev pub Declines : Unopened → Text → Status → Type 0
+abbrev pub Declines : OpenError → Text → Status → Type 0
 Declines (Image fault) written status = Refuses fault written status
 Declines Source written status = (written ≡ []) × (status ≡ ImageRefused)
 
 -- a machine was opened on the text, or that was declined
-abbrev pub IsOpened : Option Text → ℕ → Text → Text → Result Exploring Status → Type 0
+abbrev pub IsOpened : Option Text → ℕ → Text → Text → Result ExplorerState Status → Type 0
 IsOpened chip limit text written (Ok begun) = (written ≡ []) × OpensFront chip text limit begun
-IsOpened chip limit text written (Err status) = (why : Unopened) × IsUnopened chip text why × Declines why written status
+IsOpened chip limit text written (Err status) = (why : OpenError) × IsUnopened chip text why × Declines why written status
 
 -- ---- the answer of a query, and what is written
 
 -- what is written is the answer of the query
-pub record IsTold {W : Type 0} (result : Result (Unit {0}) WriteFailed) (e : Exploring) (asked : Question) (contents : W → Option Bytes) (old new : Writer W) : Type 0 where
-  pub meant : Question
+pub record IsTold {W : Type 0} (result : Result (Unit {0}) WriteError) (e : ExplorerState) (asked : Query) (contents : W → Option Bytes) (old new : Writer W) : Type 0 where
+  pub meant : Query
   pub is : asked ≡ meant
-  pub said : Says result (Tells e meant) contents old new
+  pub said : WritesSome result (AnswersQuery e meant) contents old new

@@ -3,9 +3,9 @@
 ghost use Rattle.std.specs.Prelude.{◌≡◌};
 ghost use Rattle.ga_explorer.specs.Reading.{node_and_step, two_nodes, node_and_cell, node_and_steps, step_and_more};
 
-use crate::which::Which;
+use crate::which::StepSelector;
 use ga_grid::NodeId;
-use ga_text::{byte_of, cut, node_in, number_in};
+use ga_text::{parse_hex_byte, parse_node, parse_number, split_at_space};
 
 /// How many further steps are written if no number is given, and how many at most.
 const FEW_STEPS: u32 = 3;
@@ -14,11 +14,11 @@ const MOST_STEPS: u32 = 99;
 
 /// `NNN K`
 #[tactic(auto, unfolding(crate::specs::Reading::node_and_step))]
-pub(crate) fn node_and_step(text: &[u8]) -> Option<(NodeId, Which)>
+pub(crate) fn node_and_step(text: &[u8]) -> Option<(NodeId, StepSelector)>
     ensures { result ≡ node_and_step text.now }
 {
-    let (node, step) = cut(text)?;
-    Some((node_in(node)?, Which::spelled(step)?))
+    let (node, step) = split_at_space(text)?;
+    Some((parse_node(node)?, StepSelector::parse(step)?))
 }
 
 /// `NNN MMM`
@@ -26,8 +26,8 @@ pub(crate) fn node_and_step(text: &[u8]) -> Option<(NodeId, Which)>
 pub(crate) fn two_nodes(text: &[u8]) -> Option<(NodeId, NodeId)>
     ensures { result ≡ two_nodes text.now }
 {
-    let (first, second) = cut(text)?;
-    Some((node_in(first)?, node_in(second)?))
+    let (first, second) = split_at_space(text)?;
+    Some((parse_node(first)?, parse_node(second)?))
 }
 
 /// `NNN HH`
@@ -35,35 +35,35 @@ pub(crate) fn two_nodes(text: &[u8]) -> Option<(NodeId, NodeId)>
 pub(crate) fn node_and_cell(text: &[u8]) -> Option<(NodeId, u8)>
     ensures { result ≡ node_and_cell text.now }
 {
-    let (node, address) = cut(text)?;
-    Some((node_in(node)?, byte_of(address)?))
+    let (node, address) = split_at_space(text)?;
+    Some((parse_node(node)?, parse_hex_byte(address)?))
 }
 
 /// `NNN K` or `NNN K N`
 #[tactic(auto, unfolding(crate::specs::Reading::node_and_steps))]
-pub(crate) fn node_and_steps(text: &[u8]) -> Option<(NodeId, Which, u32)>
+pub(crate) fn node_and_steps(text: &[u8]) -> Option<(NodeId, StepSelector, u32)>
     ensures { result ≡ node_and_steps text.now }
 {
-    let (node, rest) = cut(text)?;
-    let node = node_in(node)?;
+    let (node, rest) = split_at_space(text)?;
+    let node = parse_node(node)?;
     let (which, many) = step_and_more(rest)?;
     Some((node, which, many))
 }
 
 /// `K` or `K N`: a step, and how many further steps are written.
-fn step_and_more(text: &[u8]) -> Option<(Which, u32)>
+fn step_and_more(text: &[u8]) -> Option<(StepSelector, u32)>
     ensures { result ≡ step_and_more text.now }
 {
-    match cut(text) {
+    match split_at_space(text) {
         Some((step, many)) => {
-            let which = Which::spelled(step)?;
-            let many = number_in(many)?;
+            let which = StepSelector::parse(step)?;
+            let many = parse_number(many)?;
             if many <= MOST_STEPS {
                 Some((which, many))
             } else {
                 None
             }
         }
-        None => Some((Which::spelled(text)?, FEW_STEPS)),
+        None => Some((StepSelector::parse(text)?, FEW_STEPS)),
     }
 }

@@ -4,29 +4,29 @@ ghost use Rattle.std.specs.Prelude.{◌≡◌};
 ghost use Rattle.ga_explorer.specs.Reading.{back_in, back_by, until_back};
 
 use crate::commands::ExplorerCommand;
-use crate::conditions_request::{conditions_of, until_of};
-use ga_debug_info::Notes;
-use ga_text::{cut, node_in};
+use crate::conditions_request::{parse_conditions, parse_until};
+use ga_debug_info::DebugInfo;
+use ga_text::{parse_node, split_at_space};
 
 /// What follows `back` and a space.
 #[tactic(auto, unfolding(crate::specs::Reading::back_in))]
-pub(crate) fn back_of(notes: &Option<Notes>, text: &[u8]) -> Option<ExplorerCommand>
+pub(crate) fn parse_back(notes: &Option<DebugInfo>, text: &[u8]) -> Option<ExplorerCommand>
     ensures { result ≡ back_in notes.now text.now }
 {
-    let (name, rest) = cut(text)?;
+    let (name, rest) = split_at_space(text)?;
     back_by(notes, name, rest)
 }
 
 /// `until` and conditions, or a node before these.
 #[tactic(auto, unfolding(crate::specs::Reading::back_by))]
-fn back_by(notes: &Option<Notes>, name: &[u8], rest: &[u8]) -> Option<ExplorerCommand>
+fn back_by(notes: &Option<DebugInfo>, name: &[u8], rest: &[u8]) -> Option<ExplorerCommand>
     ensures { result ≡ back_by notes.now name.now rest.now }
 {
     match name {
         b"until" => until_back(notes, rest),
         _ => {
-            let node = node_in(name)?;
-            let until = until_of(notes, rest)?;
+            let node = parse_node(name)?;
+            let until = parse_until(notes, rest)?;
             Some(ExplorerCommand::BackUntil {
                 only: Some(node),
                 until,
@@ -35,11 +35,11 @@ fn back_by(notes: &Option<Notes>, name: &[u8], rest: &[u8]) -> Option<ExplorerCo
     }
 }
 
-fn until_back(notes: &Option<Notes>, text: &[u8]) -> Option<ExplorerCommand>
+fn until_back(notes: &Option<DebugInfo>, text: &[u8]) -> Option<ExplorerCommand>
     ensures { result ≡ until_back notes.now text.now }
 {
     Some(ExplorerCommand::BackUntil {
         only: None,
-        until: conditions_of(notes, text)?,
+        until: parse_conditions(notes, text)?,
     })
 }

@@ -6,9 +6,9 @@ ghost use Rattle.ga_explorer.specs.Opening.{IsBegun, image_of};
 ghost use Rattle.ga_explorer.specs.inner.{IsOpened};
 
 use crate::explorer::Explorer;
-use crate::opening::{Unopened, is_read_as_image, open_text};
+use crate::opening::{OpenError, is_read_as_image, open_text};
 use ga_console::{Status, refuse};
-use ga_debug_info::tell_long;
+use ga_debug_info::report_input_too_long;
 use ga_image::{ImageCause, ImageFault};
 use ga_text::{ImageEnd, Input, read_image};
 use std::alloc::Global;
@@ -26,7 +26,7 @@ const NO_MEMORY: ImageFault = ImageFault {
 ///
 /// # Errors
 /// The status of a session that ends so.
-pub fn begin<R: Read, W: Write, E: Write>(
+pub fn open_lab<R: Read, W: Write, E: Write>(
     alloc: Global,
     input: &mut Input,
     reader: &mut R,
@@ -51,7 +51,7 @@ pub fn begin<R: Read, W: Write, E: Write>(
             if is_read_as_image(&chip, text.as_slice()) {
                 return open_or_refuse(alloc, writer, errors, text, chip, limit);
             }
-            tell_long(errors);
+            report_input_too_long(errors);
             Err(Status::ImageRefused)
         }
         Ok(ImageEnd::Ended) => open_or_refuse(alloc, writer, errors, text, chip, limit),
@@ -73,7 +73,7 @@ fn open_or_refuse<W: Write, E: Write>(
 {
     match open_text(alloc, errors, text, chip, limit) {
         Ok(begun) => Ok(begun),
-        Err(Unopened::Image(fault)) => Err(refuse(writer, fault)),
-        Err(Unopened::Source) => Err(Status::ImageRefused),
+        Err(OpenError::Image(fault)) => Err(refuse(writer, fault)),
+        Err(OpenError::Source) => Err(Status::ImageRefused),
     }
 }

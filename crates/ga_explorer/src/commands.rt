@@ -1,24 +1,24 @@
 //! The commands of exploring: of each how a line spells it, what `help` says of it, and what answers it.
 
 ghost use Rattle.std.specs.Prelude.{◌≡◌, map};
-ghost use Rattle.ga_explorer.specs.Commands.{rows, request_in, lone_request, lone_question, named_request, named_question};
-ghost use Rattle.ga_explorer.specs.inner.{exploring, IsTold, entry_of};
+ghost use Rattle.ga_explorer.specs.Commands.{command_table, request_in, lone_request, bare_query, named_request, query_with_arguments};
+ghost use Rattle.ga_explorer.specs.inner.{explorer_state, IsTold, entry_of};
 
 use crate::arguments::{node_and_cell, node_and_step, node_and_steps, two_nodes};
-use crate::back_request::back_of;
+use crate::back_request::parse_back;
 use crate::conditions_request::{Conditions, no_condition};
 use crate::forms::{Row, place_of, say_command, say_help};
-use crate::run_request::{MOST_EVENTS, run_of};
-use crate::which::Which;
-use ga_debug_info::Notes;
+use crate::run_request::{MOST_EVENTS, parse_run};
+use crate::which::StepSelector;
+use ga_debug_info::DebugInfo;
 use ga_explorer_text::{
-    glance, say_around, say_because, say_effects, say_races, say_saved, say_whence, say_who,
-    say_words, say_writes,
+    chip_overview, write_at, write_because, write_effects, write_races, write_save, write_whence,
+    write_who, write_words, write_writes,
 };
 use ga_grid::NodeId;
 use ga_lab::Lab;
 use ga_scheduler::Schedule;
-use ga_text::{Spoken, Writer, cut, node_in};
+use ga_text::{WriteResult, Writer, parse_node, split_at_space};
 use std::alloc::Global;
 use std::io::Write;
 
@@ -38,16 +38,16 @@ pub enum ExplorerCommand {
         until: Conditions,
     },
     /// A command that changes nothing.
-    Tell(Question),
+    Tell(Query),
 }
 
 /// A query: a command that changes nothing.
 #[derive(Clone, Copy, PartialEq, Eq)]
-pub enum Question {
+pub enum Query {
     /// `effects`: writes what a rollback of a step would remove, without removing it.
     Effects {
         node: NodeId,
-        which: Which,
+        which: StepSelector,
     },
     /// `words`: writes the words transferred from one node to another.
     Words {
@@ -62,19 +62,19 @@ pub enum Question {
     /// `at`: writes the steps of a node up to a number before and after one, each with the registers after it.
     At {
         node: NodeId,
-        which: Which,
+        which: StepSelector,
         most: u32,
     },
     /// `whence`: writes the steps whose values went into what a step of a node made.
     Whence {
         node: NodeId,
-        which: Which,
+        which: StepSelector,
     },
     /// `because`: writes the last steps of a node before one, at most a given number, at which a value decided where it
     /// continued.
     Because {
         node: NodeId,
-        which: Which,
+        which: StepSelector,
         most: u32,
     },
     /// `races`: writes the races of one node or of all.
@@ -94,10 +94,10 @@ pub enum Question {
 }
 
 /// The command of exploring that a line spells, or none.
-pub fn request_of(notes: &Option<Notes>, line: &[u8]) -> Option<ExplorerCommand>
+pub fn parse_command(notes: &Option<DebugInfo>, line: &[u8]) -> Option<ExplorerCommand>
     ensures { result ≡ request_in notes.now line.now }
 {
-    match cut(line) {
+    match split_at_space(line) {
         Some((name, arguments)) => named_request(notes, name, arguments),
         None => lone_request(line),
     }
@@ -110,71 +110,75 @@ fn lone_request(name: &[u8]) -> Option<ExplorerCommand>
 {
     match name {
         b"run" => Some(ExplorerCommand::Run {
-            schedule: Schedule::in_rounds(),
+            schedule: Schedule::round_robin(),
             most: MOST_EVENTS,
             until: no_condition(),
         }),
-        _ => Some(ExplorerCommand::Tell(lone_question(name)?)),
+        _ => Some(ExplorerCommand::Tell(bare_query(name)?)),
     }
 }
 
 /// A command of one word that changes nothing.
-#[tactic(auto, unfolding(crate::specs::Commands::lone_question))]
-fn lone_question(name: &[u8]) -> Option<Question>
-    ensures { result ≡ lone_question name.now }
+#[tactic(auto, unfolding(crate::specs::Commands::bare_query))]
+fn bare_query(name: &[u8]) -> Option<Query>
+    ensures { result ≡ bare_query name.now }
 {
     match name {
-        b"who" => Some(Question::Who),
-        b"races" => Some(Question::Races { only: None }),
-        b"chip" => Some(Question::Chip),
-        b"save" => Some(Question::Save),
-        b"help" => Some(Question::Help),
+        b"who" => Some(Query::Who),
+        b"races" => Some(Query::Races { only: None }),
+        b"chip" => Some(Query::Chip),
+        b"save" => Some(Query::Save),
+        b"help" => Some(Query::Help),
         _ => None,
     }
 }
 
 /// The command of a word and what follows the space after it.
 #[tactic(auto, unfolding(crate::specs::Commands::named_request))]
-fn named_request(notes: &Option<Notes>, name: &[u8], arguments: &[u8]) -> Option<ExplorerCommand>
+fn named_request(
+    notes: &Option<DebugInfo>,
+    name: &[u8],
+    arguments: &[u8],
+) -> Option<ExplorerCommand>
     ensures { result ≡ named_request notes.now name.now arguments.now }
 {
     if name == b"run".as_slice() {
-        run_of(notes, arguments)
+        parse_run(notes, arguments)
     } else if name == b"back".as_slice() {
-        back_of(notes, arguments)
+        parse_back(notes, arguments)
     } else {
-        Some(ExplorerCommand::Tell(named_question(name, arguments)?))
+        Some(ExplorerCommand::Tell(query_with_arguments(name, arguments)?))
     }
 }
 
 /// A query, of a word and what follows it.
-#[tactic(auto, unfolding(crate::specs::Commands::named_question))]
-fn named_question(name: &[u8], arguments: &[u8]) -> Option<Question>
-    ensures { result ≡ named_question name.now arguments.now }
+#[tactic(auto, unfolding(crate::specs::Commands::query_with_arguments))]
+fn query_with_arguments(name: &[u8], arguments: &[u8]) -> Option<Query>
+    ensures { result ≡ query_with_arguments name.now arguments.now }
 {
     if name == b"effects".as_slice() {
         let (node, which) = node_and_step(arguments)?;
-        Some(Question::Effects { node, which })
+        Some(Query::Effects { node, which })
     } else if name == b"words".as_slice() {
         let (from, to) = two_nodes(arguments)?;
-        Some(Question::Words { from, to })
+        Some(Query::Words { from, to })
     } else if name == b"writes".as_slice() {
         let (node, address) = node_and_cell(arguments)?;
-        Some(Question::Writes { node, address })
+        Some(Query::Writes { node, address })
     } else if name == b"at".as_slice() {
         let (node, which, most) = node_and_steps(arguments)?;
-        Some(Question::At { node, which, most })
+        Some(Query::At { node, which, most })
     } else if name == b"whence".as_slice() {
         let (node, which) = node_and_step(arguments)?;
-        Some(Question::Whence { node, which })
+        Some(Query::Whence { node, which })
     } else if name == b"because".as_slice() {
         let (node, which, most) = node_and_steps(arguments)?;
-        Some(Question::Because { node, which, most })
+        Some(Query::Because { node, which, most })
     } else if name == b"races".as_slice() {
-        let node = node_in(arguments)?;
-        Some(Question::Races { only: Some(node) })
+        let node = parse_node(arguments)?;
+        Some(Query::Races { only: Some(node) })
     } else if name == b"help".as_slice() {
-        Some(Question::HelpOf(place_of(arguments)?))
+        Some(Query::HelpOf(place_of(arguments)?))
     } else {
         None
     }
@@ -184,41 +188,41 @@ fn named_question(name: &[u8], arguments: &[u8]) -> Option<Question>
 ///
 /// # Errors
 /// A write failed.
-pub(crate) fn told<W: Write>(
+pub(crate) fn answer_query<W: Write>(
     alloc: Global,
     lab: &mut Lab,
-    notes: &Option<Notes>,
-    asked: Question,
+    notes: &Option<DebugInfo>,
+    asked: Query,
     writer: &mut Writer<'_, W>,
-) -> Spoken
-    ensures said { IsTold result (exploring lab.old notes.now) asked W.contents writer.old writer.new }
+) -> WriteResult
+    ensures said { IsTold result (explorer_state lab.old notes.now) asked W.contents writer.old writer.new }
     ensures same { lab.new ≡ lab.old }
 {
     match asked {
-        Question::Effects { node, which } => {
-            let step = which.meant(lab, node);
-            say_effects(alloc, lab, node, step, writer)
+        Query::Effects { node, which } => {
+            let step = which.resolve(lab, node);
+            write_effects(alloc, lab, node, step, writer)
         }
-        Question::Words { from, to } => say_words(lab, from, to, writer),
-        Question::Writes { node, address } => say_writes(lab, node, address, writer),
-        Question::At { node, which, most } => {
-            let step = which.meant(lab, node);
-            say_around(lab, notes, node, step, most, writer)
+        Query::Words { from, to } => write_words(lab, from, to, writer),
+        Query::Writes { node, address } => write_writes(lab, node, address, writer),
+        Query::At { node, which, most } => {
+            let step = which.resolve(lab, node);
+            write_at(lab, notes, node, step, most, writer)
         }
-        Question::Whence { node, which } => {
-            let step = which.meant(lab, node);
-            say_whence(alloc, lab, notes, node, step, writer)
+        Query::Whence { node, which } => {
+            let step = which.resolve(lab, node);
+            write_whence(alloc, lab, notes, node, step, writer)
         }
-        Question::Because { node, which, most } => {
-            let step = which.meant(lab, node);
-            say_because(lab, notes, node, step, most, writer)
+        Query::Because { node, which, most } => {
+            let step = which.resolve(lab, node);
+            write_because(lab, notes, node, step, most, writer)
         }
-        Question::Races { only } => say_races(alloc, lab, only, writer),
-        Question::Who => say_who(lab, writer),
-        Question::Chip => writer.say_blocks(glance(lab).as_slice()),
-        Question::Save => say_saved(lab, writer),
-        Question::Help => say_help(writer),
-        Question::HelpOf(place) => say_command(place, writer),
+        Query::Races { only } => write_races(alloc, lab, only, writer),
+        Query::Who => write_who(lab, writer),
+        Query::Chip => writer.write_blocks(chip_overview(lab).as_slice()),
+        Query::Save => write_save(lab, writer),
+        Query::Help => say_help(writer),
+        Query::HelpOf(place) => say_command(place, writer),
     }
 }
 
@@ -381,9 +385,9 @@ static ROWS: &[Row] = &[
 ];
 
 /// The commands.
-#[tactic(auto, unfolding(crate::specs::Commands::rows))]
-pub(crate) fn rows() -> &'static [Row]
-    ensures { map entry_of result.now ≡ rows }
+#[tactic(auto, unfolding(crate::specs::Commands::command_table))]
+pub(crate) fn command_table() -> &'static [Row]
+    ensures { map entry_of result.now ≡ command_table }
 {
     ROWS
 }

@@ -3,21 +3,21 @@
 ghost use Rattle.std.specs.Prelude.{◌≡◌, ◌≤◌, length, drop, if◌then◌else◌, IsTrue, Some, None, option_map};
 ghost use Rattle.ga_explorer.specs.Reading.{behind_or, or_cut, or_split, conditions_in, no_condition, until_in};
 
-use crate::condition_request::condition_of;
-use ga_debug_info::Notes;
-use ga_scheduler::{Condition, MOST_CONDITIONS};
-use ga_text::cut;
+use crate::condition_request::parse_run_condition;
+use ga_debug_info::DebugInfo;
+use ga_scheduler::{Condition, MAX_CONDITIONS};
+use ga_text::split_at_space;
 
 /// As many conditions as a run watches at most. Those that are given come first, and in the places that are left stand those that hold
 /// never.
-pub(crate) type Conditions = [Condition; MOST_CONDITIONS];
+pub(crate) type Conditions = [Condition; MAX_CONDITIONS];
 
 /// The conditions where none is given: each holds never.
 pub(crate) fn no_condition() -> Conditions
     ensures size { length result ≡ 8 }
     ensures value { result ≡ no_condition }
 {
-    [Condition::Never; MOST_CONDITIONS]
+    [Condition::Never; MAX_CONDITIONS]
 }
 
 /// Whether a text begins with ` or `.
@@ -57,14 +57,14 @@ fn or_split(text: &[u8]) -> (&[u8], Option<&[u8]>)
 }
 
 /// The conditions of a text, at most as many as a run watches; or none.
-pub(crate) fn conditions_of(notes: &Option<Notes>, text: &[u8]) -> Option<Conditions>
+pub(crate) fn parse_conditions(notes: &Option<DebugInfo>, text: &[u8]) -> Option<Conditions>
     ensures { result ≡ conditions_in notes.now text.now }
 {
     let mut conditions = no_condition();
     let mut left = text;
-    for place in 0..MOST_CONDITIONS {
+    for place in 0..MAX_CONDITIONS {
         let (first, others) = or_split(left);
-        conditions[place] = condition_of(notes, first)?;
+        conditions[place] = parse_run_condition(notes, first)?;
         left = match others {
             Some(others) => others,
             None => return Some(conditions),
@@ -75,12 +75,12 @@ pub(crate) fn conditions_of(notes: &Option<Notes>, text: &[u8]) -> Option<Condit
 
 /// `until` and the conditions that follow it.
 #[tactic(auto, unfolding(crate::specs::Reading::until_in))]
-pub(crate) fn until_of(notes: &Option<Notes>, text: &[u8]) -> Option<Conditions>
+pub(crate) fn parse_until(notes: &Option<DebugInfo>, text: &[u8]) -> Option<Conditions>
     ensures { result ≡ until_in notes.now text.now }
 {
-    let (name, rest) = cut(text)?;
+    let (name, rest) = split_at_space(text)?;
     match name {
-        b"until" => conditions_of(notes, rest),
+        b"until" => parse_conditions(notes, rest),
         _ => None,
     }
 }

@@ -1,21 +1,21 @@
 //! What answers the lines of a session of exploring.
 
 ghost use Rattle.std.specs.Prelude.{◌≡◌, ◌≤◌, length, Some, None, IfSome, IfNone, IsTrue, false};
-ghost use Rattle.ga_text.specs.Output.{Says};
+ghost use Rattle.ga_text.specs.Output.{WritesSome};
 ghost use Rattle.ga_explorer.specs.Commands.{request_in, Explored};
-ghost use Rattle.ga_explorer.specs.inner.{exploring};
+ghost use Rattle.ga_explorer.specs.inner.{explorer_state};
 ghost use Rattle.ga_explorer.specs.Answers.{ExploresOrQuits, AnswersOther, IsOfDebugger, IsNoCommand};
 ghost use Rattle.ga_console.specs.Session.{Turns};
 
-use crate::commands::{ExplorerCommand, request_of, told};
-use crate::forms::say_no_command;
-use ga_console::{Command, Responder, Turn, answer_worded, command_of, obey_worded};
-use ga_debug_info::Notes;
+use crate::commands::{ExplorerCommand, answer_query, parse_command};
+use crate::forms::write_syntax_error;
+use ga_console::{Command, LineAction, Responder, answer_worded, command_of, obey_worded};
+use ga_debug_info::DebugInfo;
 use ga_display::Wording;
 use ga_image::LINE_LIMIT;
 use ga_lab::Lab;
-use ga_scheduler::{conditions_asked, run_schedule};
-use ga_text::{Spoken, WriteFailed, Writer};
+use ga_scheduler::{active_conditions, run_schedule};
+use ga_text::{WriteError, WriteResult, Writer};
 use std::alloc::Global;
 use std::io::Write;
 use std::marker::Model;
@@ -24,22 +24,22 @@ use std::marker::Model;
 #[derive(Drop)]
 pub struct Explorer {
     lab: Lab,
-    notes: Option<Notes>,
+    notes: Option<DebugInfo>,
 }
 
 impl Model for Explorer {
-    ghost use Rattle.ga_explorer.specs.Opening.{Exploring};
-    ghost use Rattle.ga_explorer.specs.inner.{exploring};
+    ghost use Rattle.ga_explorer.specs.Opening.{ExplorerState};
+    ghost use Rattle.ga_explorer.specs.inner.{explorer_state};
 
-    ghost Value = { Exploring };
+    ghost Value = { ExplorerState };
 
-    ghost view = { λ e. exploring e.lab e.notes };
+    ghost view = { λ e. explorer_state e.lab e.notes };
 }
 
 impl Explorer {
     /// To explore a lab, with these notes of its cells.
-    pub(crate) fn of(lab: Lab, notes: Option<Notes>) -> Self
-        ensures { result ≡ exploring lab notes }
+    pub(crate) fn of(lab: Lab, notes: Option<DebugInfo>) -> Self
+        ensures { result ≡ explorer_state lab notes }
     {
         Explorer { lab, notes }
     }
@@ -62,12 +62,12 @@ impl Explorer {
 
 impl Responder for Explorer {
     ghost use Rattle.std.specs.Prelude.{None};
-    ghost use Rattle.ga_explorer.specs.inner.{exploring};
+    ghost use Rattle.ga_explorer.specs.inner.{explorer_state};
     ghost use Rattle.ga_explorer.specs.Answers.{Explores};
 
     ghost answers = { Explores };
 
-    ghost begin = { λ s. exploring s None };
+    ghost begin = { λ s. explorer_state s None };
 
     fn open(lab: Lab) -> Self {
         Explorer { lab, notes: None }
@@ -78,7 +78,7 @@ impl Responder for Explorer {
         alloc: Global,
         line: &[u8],
         writer: &mut Writer<'_, W>,
-    ) -> Result<Turn, WriteFailed> {
+    ) -> Result<LineAction, WriteError> {
         answer_line(alloc, &mut self.lab, &self.notes, line, writer)
     }
 
@@ -88,7 +88,7 @@ impl Responder for Explorer {
         alloc: Global,
         command: Command,
         writer: &mut Writer<'_, W>,
-    ) -> Spoken {
+    ) -> WriteResult {
         obey_worded(alloc, &mut self.lab, command, Wording::Advised, writer)
     }
 }
@@ -100,17 +100,17 @@ impl Responder for Explorer {
 pub fn answer_line<W: Write>(
     alloc: Global,
     lab: &mut Lab,
-    notes: &Option<Notes>,
+    notes: &Option<DebugInfo>,
     line: &[u8],
     writer: &mut Writer<'_, W>,
-) -> Result<Turn, WriteFailed>
-    ensures { Says result (ExploresOrQuits (record { lab = lab.old; notes = notes.now }) line.now (record { lab = lab.new; notes = notes.now }) result)
+) -> Result<LineAction, WriteError>
+    ensures { WritesSome result (ExploresOrQuits (record { lab = lab.old; notes = notes.now }) line.now (record { lab = lab.new; notes = notes.now }) result)
         W.contents writer.old writer.new }
 {
     match asked_by(notes, line) {
         Some(asked) => {
             explored(alloc, lab, notes, asked, writer)?;
-            Ok(Turn::Answered)
+            Ok(LineAction::Answered)
         }
         None => answer_other(alloc, lab, line, writer),
     }
@@ -123,11 +123,11 @@ pub fn answer_line<W: Write>(
 fn explored<W: Write>(
     alloc: Global,
     lab: &mut Lab,
-    notes: &Option<Notes>,
+    notes: &Option<DebugInfo>,
     asked: ExplorerCommand,
     writer: &mut Writer<'_, W>,
-) -> Spoken
-    ensures { Says result (λ text. Explored (exploring lab.old notes.now) asked text (exploring lab.new notes.now))
+) -> WriteResult
+    ensures { WritesSome result (λ text. Explored (explorer_state lab.old notes.now) asked text (explorer_state lab.new notes.now))
         W.contents writer.old writer.new }
 {
     match asked {
@@ -136,24 +136,24 @@ fn explored<W: Write>(
             most,
             until,
         } => {
-            let watched = conditions_asked(&until);
+            let watched = active_conditions(&until);
             let ran = run_schedule(lab, schedule, u64::from(most), watched);
-            writer.say_blocks(ga_explorer_text::ran_text(&ran, watched.len()).as_slice())
+            writer.write_blocks(ga_explorer_text::run_result_text(&ran, watched.len()).as_slice())
         }
         ExplorerCommand::BackUntil { only, until } => {
-            ga_explorer_text::say_back(lab, conditions_asked(&until), only, writer)
+            ga_explorer_text::write_back_until(lab, active_conditions(&until), only, writer)
         }
-        ExplorerCommand::Tell(question) => told(alloc, lab, notes, question, writer),
+        ExplorerCommand::Tell(question) => answer_query(alloc, lab, notes, question, writer),
     }
 }
 
 /// The command of exploring that a line spells, where it is not too long.
-fn asked_by(notes: &Option<Notes>, line: &[u8]) -> Option<ExplorerCommand>
+fn asked_by(notes: &Option<DebugInfo>, line: &[u8]) -> Option<ExplorerCommand>
     ensures some { IfSome result (λ asked. (length line.now ≤ LINE_LIMIT) × (request_in notes.now line.now ≡ Some asked)) }
     ensures none { IfNone result (length line.now ≤ LINE_LIMIT → request_in notes.now line.now ≡ None) }
 {
     if line.len() <= LINE_LIMIT {
-        request_of(notes, line)
+        parse_command(notes, line)
     } else {
         None
     }
@@ -168,13 +168,13 @@ fn answer_other<W: Write>(
     lab: &mut Lab,
     line: &[u8],
     writer: &mut Writer<'_, W>,
-) -> Result<Turn, WriteFailed>
-    ensures { Says result (Turns AnswersOther lab.old line.now lab.new result)
+) -> Result<LineAction, WriteError>
+    ensures { WritesSome result (Turns AnswersOther lab.old line.now lab.new result)
         W.contents writer.old writer.new }
 {
     if is_no_command(line) {
-        say_no_command(line, writer)?;
-        return Ok(Turn::Answered);
+        write_syntax_error(line, writer)?;
+        return Ok(LineAction::Answered);
     }
     answer_worded(alloc, lab, line, Wording::Advised, writer)
 }

@@ -1,15 +1,15 @@
 //! What `help` answers, and the answer to a line that is no command.
 
 ghost use Rattle.std.specs.Prelude.{◌≡◌, ◌++◌, codes, map, option_map, option_copied, slice_get};
-ghost use Rattle.ga_text.specs.Output.{Says, SaysExactly};
+ghost use Rattle.ga_text.specs.Output.{WritesSome, WritesExactly};
 ghost use Rattle.ga_explorer.specs.Forms.{form_row_text, form_rows_text, about_text, place_from};
-ghost use Rattle.ga_explorer.specs.Commands.{rows, command_text, place_of_form};
-ghost use Rattle.ga_explorer.specs.NoCommand.{form_of_command, near_form_in, form_for, is_mark, is_return, has_blank_end, is_upper, cure, no_command};
+ghost use Rattle.ga_explorer.specs.Commands.{command_table, command_text, place_of_form};
+ghost use Rattle.ga_explorer.specs.NoCommand.{form_of_command, near_form_in, form_for, is_mark, is_return, has_blank_end, is_upper, suggestion, no_command};
 ghost use Rattle.ga_explorer.specs.inner.{entry_of};
 
-use crate::commands::rows;
+use crate::commands::command_table;
 use ga_parser::is_near;
-use ga_text::{Spoken, Writer, cut};
+use ga_text::{WriteResult, Writer, split_at_space};
 use std::fmt;
 use std::io::Write;
 
@@ -31,15 +31,15 @@ pub(crate) struct Row {
 ///
 /// # Errors
 /// A write failed.
-pub(crate) fn say_help<W: Write>(writer: &mut Writer<'_, W>) -> Spoken
-    ensures { Says result (λ text. text ≡ form_rows_text rows)
+pub(crate) fn say_help<W: Write>(writer: &mut Writer<'_, W>) -> WriteResult
+    ensures { WritesSome result (λ text. text ≡ form_rows_text command_table)
         W.contents writer.old writer.new }
 {
-    say_rows(rows(), writer)
+    say_rows(command_table(), writer)
 }
 
-fn say_rows<W: Write>(rows: &[Row], writer: &mut Writer<'_, W>) -> Spoken
-    ensures { Says result (λ text. text ≡ form_rows_text (map entry_of rows.now))
+fn say_rows<W: Write>(rows: &[Row], writer: &mut Writer<'_, W>) -> WriteResult
+    ensures { WritesSome result (λ text. text ≡ form_rows_text (map entry_of rows.now))
         W.contents writer.old writer.new }
 {
     'rows: for row in rows {
@@ -48,11 +48,11 @@ fn say_rows<W: Write>(rows: &[Row], writer: &mut Writer<'_, W>) -> Spoken
     Ok(())
 }
 
-fn say_row<W: Write>(row: &Row, writer: &mut Writer<'_, W>) -> Spoken
-    ensures { SaysExactly result (form_row_text (entry_of row.now)) W.contents writer.old writer.new }
+fn say_row<W: Write>(row: &Row, writer: &mut Writer<'_, W>) -> WriteResult
+    ensures { WritesExactly result (form_row_text (entry_of row.now)) W.contents writer.old writer.new }
 {
-    writer.say_blocks(row.form)?;
-    writer.say_blocks(row.does)
+    writer.write_blocks(row.form)?;
+    writer.write_blocks(row.does)
 }
 
 /// What `ga144 explore --help` says of the commands that only tell, a line each.
@@ -60,7 +60,7 @@ pub struct Usage;
 
 impl fmt::Display for Usage {
     fn fmt<W: fmt::Write>(&self, f: &mut fmt::Formatter<W>) -> fmt::Result {
-        for row in rows() {
+        for row in command_table() {
             f.write_str(row.usage)?;
         }
         Ok(())
@@ -71,21 +71,21 @@ impl fmt::Display for Usage {
 ///
 /// # Errors
 /// A write failed.
-pub(crate) fn say_command<W: Write>(place: usize, writer: &mut Writer<'_, W>) -> Spoken
-    ensures { Says result (λ text. text ≡ command_text place)
+pub(crate) fn say_command<W: Write>(place: usize, writer: &mut Writer<'_, W>) -> WriteResult
+    ensures { WritesSome result (λ text. text ≡ command_text place)
         W.contents writer.old writer.new }
 {
-    match row_in(rows(), place) {
+    match row_in(command_table(), place) {
         Some(row) => say_about(row, writer),
         None => Ok(()),
     }
 }
 
-fn say_about<W: Write>(row: &Row, writer: &mut Writer<'_, W>) -> Spoken
-    ensures { SaysExactly result (about_text (entry_of row.now)) W.contents writer.old writer.new }
+fn say_about<W: Write>(row: &Row, writer: &mut Writer<'_, W>) -> WriteResult
+    ensures { WritesExactly result (about_text (entry_of row.now)) W.contents writer.old writer.new }
 {
     say_row(row, writer)?;
-    writer.say_blocks(row.more)
+    writer.write_blocks(row.more)
 }
 
 /// The place among some commands of the one with this name.
@@ -106,7 +106,7 @@ fn place_among(rows: &'static [Row], word: &[u8]) -> Option<usize>
 pub(crate) fn place_of(word: &[u8]) -> Option<usize>
     ensures { result ≡ place_of_form word.now }
 {
-    place_among(rows(), word)
+    place_among(command_table(), word)
 }
 
 /// The command at a place.
@@ -120,27 +120,27 @@ pub(crate) fn row_in(rows: &'static [Row], place: usize) -> Option<&'static Row>
 ///
 /// # Errors
 /// A write failed.
-pub(crate) fn say_no_command<W: Write>(line: &[u8], writer: &mut Writer<'_, W>) -> Spoken
-    ensures { Says result (λ text. text ≡ no_command line.now)
+pub(crate) fn write_syntax_error<W: Write>(line: &[u8], writer: &mut Writer<'_, W>) -> WriteResult
+    ensures { WritesSome result (λ text. text ≡ no_command line.now)
         W.contents writer.old writer.new }
 {
-    writer.say(b"no 31 syntax: ")?;
+    writer.write_text(b"no 31 syntax: ")?;
     say_cure(line, writer)
 }
 
 /// Says what to write in place of a line that is no command.
-fn say_cure<W: Write>(line: &[u8], writer: &mut Writer<'_, W>) -> Spoken
-    ensures { SaysExactly result ((cure line.now ++ codes "\n")) W.contents writer.old writer.new }
+fn say_cure<W: Write>(line: &[u8], writer: &mut Writer<'_, W>) -> WriteResult
+    ensures { WritesExactly result ((suggestion line.now ++ codes "\n")) W.contents writer.old writer.new }
 {
-    writer.say_blocks(cure(line))?;
-    writer.say(b"\n")
+    writer.write_blocks(suggestion(line))?;
+    writer.write_text(b"\n")
 }
 
 /// What to write in place of a line that is no command.
-fn cure(line: &[u8]) -> &'static [u8]
-    ensures { result.now ≡ cure line.now }
+fn suggestion(line: &[u8]) -> &'static [u8]
+    ensures { result.now ≡ suggestion line.now }
 {
-    let word = match cut(line) {
+    let word = match split_at_space(line) {
         Some((word, _)) => word,
         None => line,
     };
@@ -198,9 +198,9 @@ fn is_upper(word: &[u8]) -> bool
 fn form_for(word: &[u8]) -> &'static [u8]
     ensures { result.now ≡ form_for word.now }
 {
-    match form_in(rows(), word) {
+    match form_in(command_table(), word) {
         Some(form) => form,
-        None => match near_form_in(rows(), word) {
+        None => match near_form_in(command_table(), word) {
             Some(form) => form,
             None => b"help",
         },

@@ -6,7 +6,8 @@ ghost use Rattle.ga_explorer.specs.inner.{IsUnopened};
 use crate::explorer::Explorer;
 use ga_console::open_image;
 use ga_debug_info::{
-    Notes, edited_image, edited_source, notes_of, tell_edited, tell_fault, tell_memory, tell_stores,
+    DebugInfo, debug_info_of, edited_image, edited_source, report_code_stores,
+    report_editor_artifact, report_fault, report_out_of_memory,
 };
 use ga_image::ImageFault;
 use ga_lab::Lab;
@@ -17,7 +18,7 @@ use std::io::Write;
 
 /// Why a session doesn't begin.
 #[derive(Clone, Copy, PartialEq, Eq)]
-pub(crate) enum Unopened {
+pub(crate) enum OpenError {
     /// The image has this fault, or memory was wanting for it.
     Image(ImageFault),
     /// The source has a fault, or an allocation failed for it. This was written to standard error.
@@ -52,7 +53,7 @@ pub(crate) fn open_text<E: Write>(
     text: Vec<u8>,
     chip: Option<Vec<u8>>,
     limit: u32,
-) -> Result<Explorer, Unopened>
+) -> Result<Explorer, OpenError>
     ensures ok { IfOk result (λ begun. OpensFront (image_of chip) text.items limit begun) }
     ensures err { IfErr result (λ why. IsUnopened (image_of chip) text.items why) }
 {
@@ -72,22 +73,22 @@ fn open_on_image<E: Write>(
     source: &[u8],
     image: Vec<u8>,
     limit: u32,
-) -> Result<Explorer, Unopened>
+) -> Result<Explorer, OpenError>
     ensures ok { IfOk result (λ begun. OpensOnImage source.now image.items limit begun) }
     ensures err { IfErr result (λ why. IsUnopened (Some image.items) source.now why) }
 {
     let notes = note_source(alloc, errors, source);
-    tell_edited(errors, edited_source(source));
+    report_editor_artifact(errors, edited_source(source));
     let Some(notes) = notes else {
-        return Err(Unopened::Source);
+        return Err(OpenError::Source);
     };
     let edited = edited_image(image.as_slice());
     match open_image(alloc, image, limit) {
         Ok(lab) => Ok(Explorer::of(lab, Some(notes))),
         Err(fault) => {
-            tell_edited(errors, edited);
+            report_editor_artifact(errors, edited);
             tell_chip(errors);
-            Err(Unopened::Image(fault))
+            Err(OpenError::Image(fault))
         }
     }
 }
@@ -100,24 +101,24 @@ fn tell_chip<E: Write>(errors: &mut E) {
 }
 
 /// Debug info of the cells of a source; or none, and the reason is reported.
-fn note_source<E: Write>(alloc: Global, errors: &mut E, source: &[u8]) -> Option<Notes>
+fn note_source<E: Write>(alloc: Global, errors: &mut E, source: &[u8]) -> Option<DebugInfo>
     ensures { IfSome result (λ notes. AreNotesOf source.now notes) }
 {
     match assemble(alloc, source) {
         Ok(assembled) => {
-            if !tell_stores(alloc, errors, &assembled) {
+            if !report_code_stores(alloc, errors, &assembled) {
                 return None;
             }
-            match notes_of(alloc, source, assembled.programs.as_slice()) {
+            match debug_info_of(alloc, source, assembled.programs.as_slice()) {
                 Ok(notes) => Some(notes),
                 Err(_) => {
-                    tell_memory(errors);
+                    report_out_of_memory(errors);
                     None
                 }
             }
         }
         Err(fault) => {
-            tell_fault(errors, fault);
+            report_fault(errors, fault);
             None
         }
     }
@@ -132,7 +133,7 @@ fn open_alone<E: Write>(
     errors: &mut E,
     text: Vec<u8>,
     limit: u32,
-) -> Result<Explorer, Unopened>
+) -> Result<Explorer, OpenError>
     ensures ok { IfOk result (λ begun. OpensExploring text.items limit begun) }
     ensures err { IfErr result (λ why. IsUnopened None text.items why) }
 {
@@ -141,16 +142,16 @@ fn open_alone<E: Write>(
         return match open_image(alloc, text, limit) {
             Ok(lab) => Ok(Explorer::of(lab, None)),
             Err(fault) => {
-                tell_edited(errors, edited);
-                Err(Unopened::Image(fault))
+                report_editor_artifact(errors, edited);
+                Err(OpenError::Image(fault))
             }
         };
     }
     let opened = open_source(alloc, errors, text.as_slice(), limit);
-    tell_edited(errors, edited_source(text.as_slice()));
+    report_editor_artifact(errors, edited_source(text.as_slice()));
     match opened {
         Some(begun) => Ok(begun),
-        None => Err(Unopened::Source),
+        None => Err(OpenError::Source),
     }
 }
 
@@ -165,19 +166,19 @@ fn open_source<E: Write>(
 {
     match assemble(alloc, source) {
         Ok(assembled) => {
-            if !tell_stores(alloc, errors, &assembled) {
+            if !report_code_stores(alloc, errors, &assembled) {
                 return None;
             }
-            if let Ok(notes) = notes_of(alloc, source, assembled.programs.as_slice()) {
+            if let Ok(notes) = debug_info_of(alloc, source, assembled.programs.as_slice()) {
                 if let Ok(lab) = Lab::new(alloc, assembled.chip, limit) {
                     return Some(Explorer::of(lab, Some(notes)));
                 }
             }
-            tell_memory(errors);
+            report_out_of_memory(errors);
             None
         }
         Err(fault) => {
-            tell_fault(errors, fault);
+            report_fault(errors, fault);
             None
         }
     }

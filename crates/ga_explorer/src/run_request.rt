@@ -4,19 +4,19 @@ ghost use Rattle.std.specs.Prelude.{◌≡◌};
 ghost use Rattle.ga_explorer.specs.Reading.{run_in, lone_order, named_order, seeded_in, bounded_in, bounded_by, run_until};
 
 use crate::commands::ExplorerCommand;
-use crate::conditions_request::{conditions_of, no_condition, until_of};
-use ga_debug_info::Notes;
+use crate::conditions_request::{no_condition, parse_conditions, parse_until};
+use ga_debug_info::DebugInfo;
 use ga_scheduler::Schedule;
-use ga_text::{cut, number_in};
+use ga_text::{parse_number, split_at_space};
 
 /// How many events are made at most where no number is given.
 pub(crate) const MOST_EVENTS: u32 = u32::MAX;
 
 /// What follows `run` and a space.
-pub(crate) fn run_of(notes: &Option<Notes>, text: &[u8]) -> Option<ExplorerCommand>
+pub(crate) fn parse_run(notes: &Option<DebugInfo>, text: &[u8]) -> Option<ExplorerCommand>
     ensures { result ≡ run_in notes.now text.now }
 {
-    match cut(text) {
+    match split_at_space(text) {
         Some((name, rest)) => named_order(notes, name, rest, text),
         None => lone_order(notes, text),
     }
@@ -24,24 +24,24 @@ pub(crate) fn run_of(notes: &Option<Notes>, text: &[u8]) -> Option<ExplorerComma
 
 /// An order of one word, or what bounds a run in rounds.
 #[tactic(auto, unfolding(crate::specs::Reading::lone_order))]
-fn lone_order(notes: &Option<Notes>, text: &[u8]) -> Option<ExplorerCommand>
+fn lone_order(notes: &Option<DebugInfo>, text: &[u8]) -> Option<ExplorerCommand>
     ensures { result ≡ lone_order notes.now text.now }
 {
     if text == b"greedy".as_slice() {
         Some(ExplorerCommand::Run {
-            schedule: Schedule::greedily(),
+            schedule: Schedule::greedy(),
             most: MOST_EVENTS,
             until: no_condition(),
         })
     } else {
-        bounded_of(notes, Schedule::in_rounds(), text)
+        bounded_of(notes, Schedule::round_robin(), text)
     }
 }
 
 /// An order with what follows it, or what bounds a run in rounds.
 #[tactic(auto, unfolding(crate::specs::Reading::named_order))]
 fn named_order(
-    notes: &Option<Notes>,
+    notes: &Option<DebugInfo>,
     name: &[u8],
     rest: &[u8],
     text: &[u8],
@@ -49,27 +49,27 @@ fn named_order(
     ensures { result ≡ named_order notes.now name.now rest.now text.now }
 {
     if name == b"greedy".as_slice() {
-        bounded_of(notes, Schedule::greedily(), rest)
+        bounded_of(notes, Schedule::greedy(), rest)
     } else if name == b"random".as_slice() {
         seeded_of(notes, rest)
     } else {
-        bounded_of(notes, Schedule::in_rounds(), text)
+        bounded_of(notes, Schedule::round_robin(), text)
     }
 }
 
 /// A seed, and what bounds the run.
-fn seeded_of(notes: &Option<Notes>, text: &[u8]) -> Option<ExplorerCommand>
+fn seeded_of(notes: &Option<DebugInfo>, text: &[u8]) -> Option<ExplorerCommand>
     ensures { result ≡ seeded_in notes.now text.now }
 {
-    match cut(text) {
+    match split_at_space(text) {
         Some((seed, rest)) => {
-            let seed = number_in(seed)?;
-            bounded_of(notes, Schedule::at_random(u64::from(seed)), rest)
+            let seed = parse_number(seed)?;
+            bounded_of(notes, Schedule::random(u64::from(seed)), rest)
         }
         None => {
-            let seed = number_in(text)?;
+            let seed = parse_number(text)?;
             Some(ExplorerCommand::Run {
-                schedule: Schedule::at_random(u64::from(seed)),
+                schedule: Schedule::random(u64::from(seed)),
                 most: MOST_EVENTS,
                 until: no_condition(),
             })
@@ -78,14 +78,14 @@ fn seeded_of(notes: &Option<Notes>, text: &[u8]) -> Option<ExplorerCommand>
 }
 
 /// A number, `until` and conditions, or both.
-fn bounded_of(notes: &Option<Notes>, schedule: Schedule, text: &[u8]) -> Option<ExplorerCommand>
+fn bounded_of(notes: &Option<DebugInfo>, schedule: Schedule, text: &[u8]) -> Option<ExplorerCommand>
     ensures { result ≡ bounded_in notes.now schedule text.now }
 {
-    match cut(text) {
+    match split_at_space(text) {
         Some((name, rest)) => bounded_by(notes, schedule, name, rest),
         None => Some(ExplorerCommand::Run {
             schedule,
-            most: number_in(text)?,
+            most: parse_number(text)?,
             until: no_condition(),
         }),
     }
@@ -94,7 +94,7 @@ fn bounded_of(notes: &Option<Notes>, schedule: Schedule, text: &[u8]) -> Option<
 /// A number, `until` and conditions, or both, by the first word and what follows it.
 #[tactic(auto, unfolding(crate::specs::Reading::bounded_by))]
 fn bounded_by(
-    notes: &Option<Notes>,
+    notes: &Option<DebugInfo>,
     schedule: Schedule,
     name: &[u8],
     rest: &[u8],
@@ -104,8 +104,8 @@ fn bounded_by(
     match name {
         b"until" => run_until(notes, schedule, MOST_EVENTS, rest),
         _ => {
-            let most = number_in(name)?;
-            let until = until_of(notes, rest)?;
+            let most = parse_number(name)?;
+            let until = parse_until(notes, rest)?;
             Some(ExplorerCommand::Run {
                 schedule,
                 most,
@@ -116,7 +116,7 @@ fn bounded_by(
 }
 
 fn run_until(
-    notes: &Option<Notes>,
+    notes: &Option<DebugInfo>,
     schedule: Schedule,
     most: u32,
     text: &[u8],
@@ -126,6 +126,6 @@ fn run_until(
     Some(ExplorerCommand::Run {
         schedule,
         most,
-        until: conditions_of(notes, text)?,
+        until: parse_conditions(notes, text)?,
     })
 }

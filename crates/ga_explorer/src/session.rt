@@ -1,9 +1,9 @@
 //! A whole session of exploring.
 ghost use Rattle.ga_text.specs.Output.{ReadsAndWrites};
 ghost use Rattle.ga_explorer.specs.Opening.{image_of};
-ghost use Rattle.ga_explorer.specs.Session.{RunsExploring};
+ghost use Rattle.ga_explorer.specs.Session.{RunsExplorer};
 
-use crate::beginning::begin;
+use crate::beginning::open_lab;
 use ga_console::{Status, serve, status_of};
 use ga_text::{Input, Writer};
 use std::alloc::Global;
@@ -21,11 +21,11 @@ pub fn explore<R: Read, W: Write, E: Write>(
     limit: u32,
 ) -> Status
     // Where the streams tell their bytes: what was read, and what was written for it by the status.
-    ensures { ReadsAndWrites (λ read rest text. RunsExploring (image_of chip) limit read rest text result)
+    ensures { ReadsAndWrites (λ read rest text. RunsExplorer (image_of chip) limit read rest text result)
         (R.remaining reader.old) (R.remaining reader.new) (W.contents writer.old) (W.contents writer.new) }
 {
     let mut input = Input::new();
-    match begin(alloc, &mut input, reader, writer, errors, chip, limit) {
+    match open_lab(alloc, &mut input, reader, writer, errors, chip, limit) {
         Ok(begun) => {
             let mut session = begun;
             let mut said = Writer::ready(writer);

@@ -4,7 +4,7 @@ use Rattle.std.specs.Prelude.{nat_le, option_map, codes}
 use Rattle.std.proofs.lemmas.List.{append-nil}
 use Rattle.std.proofs.lemmas.Bool.Decides.{nat_tests}
 use Rattle.ga_node.specs.Record.{NodeRecord}
-use Rattle.ga_explorer_text.specs.Waiting.{name_text, sole_awaited, ring_names, ring_line}
+use Rattle.ga_explorer_text.specs.Waiting.{name_text, only_awaited, ring_names, ring_line}
 
 -- a line that was begun, with the names that are left
 abbrev pub closed : List ℕ → Option (List ℕ) → List ℕ
@@ -55,7 +55,7 @@ longer m out (Some names) = simp append_assoc
 
 -- it continues
 pub goes_on : (chip : List NodeRecord) (first left more m : ℕ) (next : Option ℕ) (out new whole : List ℕ) → left ≡ suc more → m ≢ first → first ≤ m
-    → next ≡ sole_awaited chip m → new ≡ (out ++ codes " ") ++ name_text m
+    → next ≡ only_awaited chip m → new ≡ (out ++ codes " ") ++ name_text m
     → closed out (ring_names chip first left (Some m)) ≡ whole → closed new (ring_names chip first more next) ≡ whole
 unfolding ring_names
 goes_on chip first zero more m next out new whole l d e f g h = absurd (cc)
@@ -63,5 +63,5 @@ goes_on chip first (suc left) more m next out new whole l d e f g h =
     let other : (m == first) ≡ false = grind (arith, nat_tests) in
     let greater : nat_le m first ≡ false = grind (arith, nat_tests) in
     let same : more ≡ left = omega arith in
-    let was : closed out (option_map (λ names. codes " " ++ name_text m ++ names) (ring_names chip first left (sole_awaited chip m))) ≡ whole = rw (other, greater) at h in
-    rw (g, f, same) (longer m out (ring_names chip first left (sole_awaited chip m)) ∙ was)
+    let was : closed out (option_map (λ names. codes " " ++ name_text m ++ names) (ring_names chip first left (only_awaited chip m))) ≡ whole = rw (other, greater) at h in
+    rw (g, f, same) (longer m out (ring_names chip first left (only_awaited chip m)) ∙ was)

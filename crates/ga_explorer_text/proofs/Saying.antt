@@ -1,21 +1,21 @@
 -- A text that is written line by line.
 use Rattle.std.proofs.Common.{◌≡◌, ℕ, List, ◌++◌, Option, Result, subst, ◌+◌, ◌<◌, ◌≤◌, [], ◌∷◌, Ok, Err, length, get_or, drop, refl, sym, ap, ◌∙◌, append_assoc, arith, zero, suc, ◌-◌, Some, None, ◌==◌, Bool, false, codes, add-one, true, cond, nat_le, min, ◌⊎◌, inl, inr}
-use Rattle.ga_text.specs.Output.{IsSaidOrCut, IsSaid, IsCut}
-use Rattle.ga_text.specs.declared.output.WriteFailed.{WriteFailed}
+use Rattle.ga_text.specs.Output.{IsWrittenOrTruncated, IsWritten, IsTruncated}
+use Rattle.ga_text.specs.declared.output.WriteError.{WriteError}
 use Rattle.std.specs.Prelude.{flat_map, if◌then◌else◌, IsOk, is_none}
 use Rattle.std.proofs.lemmas.List.{append-nil, drop_more, drop_all}
-use Rattle.ga_text.proofs.SaidLemmas.{said_as, said_assoc, cut_assoc, cut_within}
+use Rattle.ga_text.proofs.WriteLemmas.{written_as, said_assoc, cut_assoc, truncated_within}
 use Rattle.ga_grid.specs.declared.node_id.NodeId.{NodeId}
-use Rattle.ga_lab.specs.Machine.{State, stands, history_of, chip_of, causes_of, rewind_answer}
+use Rattle.ga_lab.specs.Machine.{State, has_step, history_of, chip_of, causes_of, rewind_answer}
 use Rattle.ga_provenance.specs.Writes.{written_at, either, newest_written}
 use Rattle.ga_provenance.specs.declared.writes.CellWrite.{CellWrite}
 use Rattle.ga_provenance.proofs.Keeping.{written_step, first_told}
 use Rattle.ga_explorer_text.specs.Writing.{written_text, cell_writes}
 use Rattle.std.specs.List.{slice_get, All}
 use Rattle.std.proofs.lemmas.Option.{same_Some}
-use Rattle.ga_debug_info.specs.declared.notes.Notes.{Notes}
+use Rattle.ga_debug_info.specs.declared.notes.DebugInfo.{DebugInfo}
 use Rattle.ga_provenance.specs.declared.value.Value.{Value}
-use Rattle.ga_provenance.specs.declared.listing.Row.{Row}
+use Rattle.ga_provenance.specs.declared.listing.ProvenanceRow.{ProvenanceRow}
 use Rattle.ga_provenance.specs.Origins.{node_after, origin_of}
 use Rattle.ga_provenance.specs.Rows.{row_at, made_row, AreRows}
 use Rattle.ga_explorer_text.specs.inner.{is_first}
@@ -25,17 +25,17 @@ use Rattle.std.proofs.lemmas.Bool.Decides.{nat_tests}
 use Rattle.ga_event.specs.Told.{steps_of}
 use Rattle.ga_lab.specs.declared.fault.LabFault.TheVariants.{NoStep, Memory}
 use Rattle.ga_display.specs.Texts.{refusal_text, advised_text}
-use Rattle.ga_explorer_text.specs.Tails.{step_tail}
-use Rattle.ga_explorer_text.specs.Around.{passed_text, place_text, places_text, lesser, around_text}
+use Rattle.ga_explorer_text.specs.SourceSuffix.{step_tail}
+use Rattle.ga_explorer_text.specs.Around.{step_registers_text, place_text, places_text, lesser, around_text}
 use Rattle.ga_node.specs.Record.{NodeRecord}
 use Rattle.ga_lab.specs.declared.fault.LabFault.{LabFault}
 use Rattle.ga_scheduler.specs.Effects.{effects_of}
-use Rattle.ga_races.specs.Acts.{AreStuck, IsSubset}
+use Rattle.ga_races.specs.Acts.{AreDeadlocked, IsSubset}
 use Rattle.ga_scheduler.specs.Idle.{MarksIdle}
 use Rattle.ga_scheduler.specs.declared.effects.RollbackEffect.{RollbackEffect}
 use Rattle.ga_race_detector.specs.declared.races.Race.{Race}
 use Rattle.ga_race_detector.specs.Races.{races_asked, has_looks, first_ready}
-use Rattle.ga_race_detector.specs.declared.readings.Reading.{Reading}
+use Rattle.ga_race_detector.specs.declared.readings.LookRace.{LookRace}
 use Rattle.ga_race_detector.specs.Readings.{IsTold, NoneMissed}
 use Rattle.ga_explorer_text.specs.Races.{listed_text, TellsRaces}
 use Rattle.ga_explorer_text.specs.Texts.{effects_text, effects_answer}
@@ -43,39 +43,39 @@ use Rattle.ga_explorer_text.specs.Telling.{TellsEffects, TellsWho}
 
 -- ---- A text that was said, under another name
 
-pub told_as : {T : Type 0} (result : Result T WriteFailed) (contents : Option (List ℕ)) (before said text other pending : List ℕ) → text ≡ other
-    → IsSaidOrCut result contents before (said ++ text) pending → IsSaidOrCut result contents before (said ++ other) pending
-told_as result contents before said text other pending e h =
-    let P : List ℕ → Type 0 = λ t. IsSaidOrCut result contents before (said ++ t) pending in subst P e h
+pub text_as : {T : Type 0} (result : Result T WriteError) (contents : Option (List ℕ)) (before said text other pending : List ℕ) → text ≡ other
+    → IsWrittenOrTruncated result contents before (said ++ text) pending → IsWrittenOrTruncated result contents before (said ++ other) pending
+text_as result contents before said text other pending e h =
+    let P : List ℕ → Type 0 = λ t. IsWrittenOrTruncated result contents before (said ++ t) pending in subst P e h
 
 -- a front of the whole was said, and the rest is to be
-pub record IsSaidUpTo (contents : Option (List ℕ)) (before said whole rest pending : List ℕ) : Type 0 where
+pub record IsWrittenUpTo (contents : Option (List ℕ)) (before said whole rest pending : List ℕ) : Type 0 where
   pub front : List ℕ
   pub splits : front ++ rest ≡ whole
-  pub is_said : IsSaid contents before (said ++ front) pending
+  pub is_said : IsWritten contents before (said ++ front) pending
 
 -- one line more
 longer : (front line rest more whole : List ℕ) → rest ≡ line ++ more → front ++ rest ≡ whole → (front ++ line) ++ more ≡ whole
 longer front line rest more whole e f = append_assoc front line more ∙ ap (λ (z : List ℕ). front ++ z) (sym e) ∙ f
 
-pub line_said : (contents : Option (List ℕ)) (before said whole rest line more front pending : List ℕ) → rest ≡ line ++ more → front ++ rest ≡ whole
-    → IsSaid contents before ((said ++ front) ++ line) pending → IsSaidUpTo contents before said whole more pending
-line_said contents before said whole rest line more front pending e f h = record {
+pub line_written : (contents : Option (List ℕ)) (before said whole rest line more front pending : List ℕ) → rest ≡ line ++ more → front ++ rest ≡ whole
+    → IsWritten contents before ((said ++ front) ++ line) pending → IsWrittenUpTo contents before said whole more pending
+line_written contents before said whole rest line more front pending e f h = record {
   front = front ++ line;
   splits = longer front line rest more whole e f;
   is_said = said_assoc contents before said front line pending h;
 }
 
-pub line_cut : (contents : Option (List ℕ)) (before said whole rest line more front : List ℕ) → rest ≡ line ++ more → front ++ rest ≡ whole
-    → IsCut contents before ((said ++ front) ++ line) → IsCut contents before (said ++ whole)
-line_cut contents before said whole rest line more front e f h =
-    cut_within contents before said (front ++ line) more whole (longer front line rest more whole e f) (cut_assoc contents before said front line h)
+pub line_truncated : (contents : Option (List ℕ)) (before said whole rest line more front : List ℕ) → rest ≡ line ++ more → front ++ rest ≡ whole
+    → IsTruncated contents before ((said ++ front) ++ line) → IsTruncated contents before (said ++ whole)
+line_truncated contents before said whole rest line more front e f h =
+    truncated_within contents before said (front ++ line) more whole (longer front line rest more whole e f) (cut_assoc contents before said front line h)
 
 -- nothing is left
-pub all_said : (contents : Option (List ℕ)) (before said whole rest pending : List ℕ) → rest ≡ [] → IsSaidUpTo contents before said whole rest pending
-    → IsSaid contents before (said ++ whole) pending
+pub all_said : (contents : Option (List ℕ)) (before said whole rest pending : List ℕ) → rest ≡ [] → IsWrittenUpTo contents before said whole rest pending
+    → IsWritten contents before (said ++ whole) pending
 all_said contents before said whole rest pending e h =
-    said_as contents before said h.front whole pending (sym (append-nil h.front) ∙ ap (λ (z : List ℕ). h.front ++ z) (sym e) ∙ h.splits) h.is_said
+    written_as contents before said h.front whole pending (sym (append-nil h.front) ∙ ap (λ (z : List ℕ). h.front ++ z) (sym e) ∙ h.splits) h.is_said
 
 -- the lines of a list, from one on
 pub rest_lines : {A : Type 0} (line : A → List ℕ) (xs : List A) (i : ℕ) (default : A) (text : List ℕ) → i < length xs → text ≡ line (get_or xs i default)
@@ -93,10 +93,10 @@ none_left [] e = refl
 none_left (x ∷ xs) e = absurd (omega (arith, e))
 
 -- one text after another
-pub joined_said : {T : Type 0} (result : Result T WriteFailed) (contents : Option (List ℕ)) (before said text more pending : List ℕ)
-    → IsSaidOrCut result contents before ((said ++ text) ++ more) pending → IsSaidOrCut result contents before (said ++ (text ++ more)) pending
-joined_said (Ok done) contents before said text more pending h = said_assoc contents before said text more pending h
-joined_said (Err why) contents before said text more pending h = cut_assoc contents before said text more h
+pub joined_written : {T : Type 0} (result : Result T WriteError) (contents : Option (List ℕ)) (before said text more pending : List ℕ)
+    → IsWrittenOrTruncated result contents before ((said ++ text) ++ more) pending → IsWrittenOrTruncated result contents before (said ++ (text ++ more)) pending
+joined_written (Ok done) contents before said text more pending h = said_assoc contents before said text more pending h
+joined_written (Err why) contents before said text more pending h = cut_assoc contents before said text more h
 
 -- ---- steps that wrote, one after another from the newest on
 
@@ -145,16 +145,16 @@ next_write s node cell left wrote line e is = newest s node cell left wrote e �
 -- ---- A tree that was written
 
 -- whether the step of the query made the value can be read off the first row
-by_first : (s : State) (step : ℕ) (value : Value) (rows : List Row) → slice_get rows 0 ≡ Some (made_row s (row_at 0 value)) → is_first step rows ≡ ((origin_of s value).step == step)
+by_first : (s : State) (step : ℕ) (value : Value) (rows : List ProvenanceRow) → slice_get rows 0 ≡ Some (made_row s (row_at 0 value)) → is_first step rows ≡ ((origin_of s value).step == step)
 by_first s step value [] e = absurd (cc)
-by_first s step value (row ∷ rows) e = ap (λ (r : Row). r.value.step == step) (same_Some _ _ e)
+by_first s step value (row ∷ rows) e = ap (λ (r : ProvenanceRow). r.value.step == step) (same_Some _ _ e)
 
-pub made_by : (s : State) (step : ℕ) (value : Value) (rows : List Row) (is_whole : Bool) → AreRows s [] (row_at 0 value ∷ []) rows is_whole → (is_whole ≡ false → length rows ≡ most_rows)
+pub made_by : (s : State) (step : ℕ) (value : Value) (rows : List ProvenanceRow) (is_whole : Bool) → AreRows s [] (row_at 0 value ∷ []) rows is_whole → (is_whole ≡ false → length rows ≡ most_rows)
     → is_first step rows ≡ ((origin_of s value).step == step)
 made_by s step value rows is_whole told cut = by_first s step value rows (first_told s value rows is_whole told (λ no. let long = cut no in omega (arith, long)))
 
 -- the whole text
-pub tree_told : (notes : Option Notes) (s : State) (node : NodeId) (step : ℕ) (value : Value) (rows told : List Row) (is_whole : Bool) (first last : List ℕ) → AreRows s [] (row_at 0 value ∷ []) rows is_whole
+pub tree_told : (notes : Option DebugInfo) (s : State) (node : NodeId) (step : ℕ) (value : Value) (rows told : List ProvenanceRow) (is_whole : Bool) (first last : List ℕ) → AreRows s [] (row_at 0 value ∷ []) rows is_whole
     → length rows ≤ most_rows → (is_whole ≡ false → length rows ≡ most_rows) → told ≡ rows → first ≡ rows_by notes s node step (is_first step told) told → last ≡ more_text is_whole
     → TellsTree notes s node step value (first ++ last)
 tree_told notes s node step value rows told is_whole first last are most cut same f l = record {
@@ -235,38 +235,38 @@ counted_whole test n most count e all = e ∙ ap (node_count test) all
 
 -- ---- steps around one, one more at a time
 
-one_place : (notes : Option Notes) (s : State) (node : NodeId) (k more : ℕ) → places_text notes s node k (suc more) ≡ place_text notes s node k ++ places_text notes s node (k + 1) more
+one_place : (notes : Option DebugInfo) (s : State) (node : NodeId) (k more : ℕ) → places_text notes s node k (suc more) ≡ place_text notes s node k ++ places_text notes s node (k + 1) more
 unfolding places_text
 one_place notes s node k more = refl
 
-pub no_place : (notes : Option Notes) (s : State) (node : NodeId) (k left : ℕ) → left ≡ zero → places_text notes s node k left ≡ []
+pub no_place : (notes : Option DebugInfo) (s : State) (node : NodeId) (k left : ℕ) → left ≡ zero → places_text notes s node k left ≡ []
 unfolding places_text
 no_place notes s node k zero e = refl
 no_place notes s node k (suc more) e = absurd (omega (arith, e))
 
-pub next_place : (notes : Option Notes) (s : State) (node : NodeId) (k last m : ℕ) → k < last → m ≡ k
+pub next_place : (notes : Option DebugInfo) (s : State) (node : NodeId) (k last m : ℕ) → k < last → m ≡ k
     → places_text notes s node k (last - k) ≡ place_text notes s node m ++ places_text notes s node (k + 1) (last - (k + 1))
 next_place notes s node k last m l is =
     ap (places_text notes s node k) (let e : last - k ≡ suc (last - (k + 1)) = omega (arith, l) in e) ∙ one_place notes s node k (last - (k + 1))
     ∙ ap (λ (n : ℕ). place_text notes s node n ++ places_text notes s node (k + 1) (last - (k + 1))) (sym is)
 
 -- a step by its number, which is one more than its place
-pub placed : (notes : Option Notes) (s : State) (node : NodeId) (k step : ℕ) → k ≡ step → 0 < step
-    → passed_text node k (slice_get (history_of s node.number) (k - 1)) (node_after s node.number k) ++ step_tail notes s node k ≡ place_text notes s node (step - 1)
+pub placed : (notes : Option DebugInfo) (s : State) (node : NodeId) (k step : ℕ) → k ≡ step → 0 < step
+    → step_registers_text node k (slice_get (history_of s node.number) (k - 1)) (node_after s node.number k) ++ step_tail notes s node k ≡ place_text notes s node (step - 1)
 placed notes s node k step is some =
-    ap (λ (n : ℕ). passed_text node n (slice_get (history_of s node.number) (n - 1)) (node_after s node.number n) ++ step_tail notes s node n) is
-    ∙ ap (λ (n : ℕ). passed_text node n (slice_get (history_of s node.number) (step - 1)) (node_after s node.number n) ++ step_tail notes s node n)
+    ap (λ (n : ℕ). step_registers_text node n (slice_get (history_of s node.number) (n - 1)) (node_after s node.number n) ++ step_tail notes s node n) is
+    ∙ ap (λ (n : ℕ). step_registers_text node n (slice_get (history_of s node.number) (step - 1)) (node_after s node.number n) ++ step_tail notes s node n)
     (let e : step ≡ step - 1 + 1 = omega (arith, some) in e)
 
 -- if the step exists, and if it doesn't
-pub around_here : (notes : Option Notes) (s : State) (node : NodeId) (step around first last : ℕ) → stands s node.number step ≡ true → first ≡ step - 1 - around
+pub around_here : (notes : Option DebugInfo) (s : State) (node : NodeId) (step around first last : ℕ) → has_step s node.number step ≡ true → first ≡ step - 1 - around
     → last ≡ lesser (step + around) (steps_of node.number s.kept) → places_text notes s node first (last - first) ≡ around_text notes s node step around
 around_here notes s node step around first last is e f =
     ap (λ (m : ℕ). places_text notes s node m (last - m)) e
     ∙ ap (λ (m : ℕ). places_text notes s node (step - 1 - around) (m - (step - 1 - around))) f
     ∙ sym (ap (λ (b : Bool). if b then places_text notes s node (step - 1 - around) (lesser (step + around) (steps_of node.number s.kept) - (step - 1 - around)) else refusal_text NoStep) is)
 
-pub around_nowhere : (notes : Option Notes) (s : State) (node : NodeId) (step around : ℕ) → stands s node.number step ≡ false → refusal_text NoStep ≡ around_text notes s node step around
+pub around_nowhere : (notes : Option DebugInfo) (s : State) (node : NodeId) (step around : ℕ) → has_step s node.number step ≡ false → refusal_text NoStep ≡ around_text notes s node step around
 around_nowhere notes s node step around is =
     sym (ap (λ (b : Bool). if b then places_text notes s node (step - 1 - around) (lesser (step + around) (steps_of node.number s.kept) - (step - 1 - around)) else refusal_text NoStep) is)
 
@@ -296,19 +296,19 @@ effects_refused s node step why text (inl answer) t =
     inl (t ∙ ap (λ (r : Result ℕ LabFault). effects_answer (effects_of s node.number step) r) (sym answer))
 effects_refused s node step why text (inr wanting) t = inr (wanting.1, t ∙ ap advised_text wanting.0)
 
-pub who_told : (s : State) (chip : List NodeRecord) (marks idle : ℕ → Bool) (first second third last : List ℕ) → chip ≡ chip_of s → AreStuck chip marks
-    → ((others : ℕ → Bool) → AreStuck chip others → IsSubset others marks) → MarksIdle s idle → first ≡ all_waiting chip idle
+pub who_told : (s : State) (chip : List NodeRecord) (marks idle : ℕ → Bool) (first second third last : List ℕ) → chip ≡ chip_of s → AreDeadlocked chip marks
+    → ((others : ℕ → Bool) → AreDeadlocked chip others → IsSubset others marks) → MarksIdle s idle → first ≡ all_waiting chip idle
     → second ≡ stuck_text marks idle → third ≡ all_rings chip marks → last ≡ idle_text idle → TellsWho s (first ++ second ++ third ++ last)
 who_told s chip marks idle first second third last e stuck greatest silent f g h i = record {
   marks = marks;
-  stuck = subst (λ z. AreStuck z marks) e stuck;
-  greatest = λ others h. greatest others (subst (λ z. AreStuck z others) (sym e) h);
+  stuck = subst (λ z. AreDeadlocked z marks) e stuck;
+  greatest = λ others h. greatest others (subst (λ z. AreDeadlocked z others) (sym e) h);
   idle = idle;
   silent = silent;
   text = rw (f, g, h, i, e) refl;
 }
 
-pub races_found : (s : State) (only : Option NodeId) (races : List Race) (readings : List Reading) (looks quiet : Bool) (text : List ℕ) → races ≡ races_asked s only
+pub races_found : (s : State) (only : Option NodeId) (races : List Race) (readings : List LookRace) (looks quiet : Bool) (text : List ℕ) → races ≡ races_asked s only
     → All (IsTold s only) readings → NoneMissed s only readings → looks ≡ has_looks (causes_of s) (chip_of s) → quiet ≡ is_none (first_ready (chip_of s))
     → text ≡ listed_text only races readings looks quiet → TellsRaces s only text
 races_found s only races readings looks quiet text r told found l q t =

@@ -8,14 +8,14 @@ use Rattle.ga_node.specs.Table.{t, s as second, r}
 use Rattle.ga_grid.specs.declared.node_id.NodeId.{NodeId}
 use Rattle.ga_event.specs.Told.{steps_of}
 use Rattle.ga_event.specs.declared.made.Made.{Made}
-use Rattle.ga_lab.specs.Machine.{State, stands, history_of}
+use Rattle.ga_lab.specs.Machine.{State, has_step, history_of}
 use Rattle.ga_lab.specs.declared.fault.LabFault.TheVariants.{NoStep}
 use Rattle.ga_provenance.specs.Origins.{node_after}
 use Rattle.ga_text.specs.Digits.{step_text}
 use Rattle.ga_display.specs.Texts.{register_text, refusal_text}
-use Rattle.ga_debug_info.specs.declared.notes.Notes.{Notes}
-use Rattle.ga_explorer_text.specs.Deeds.{deed_text}
-use Rattle.ga_explorer_text.specs.Tails.{step_tail}
+use Rattle.ga_debug_info.specs.declared.notes.DebugInfo.{DebugInfo}
+use Rattle.ga_explorer_text.specs.Deeds.{action_text}
+use Rattle.ga_explorer_text.specs.SourceSuffix.{step_tail}
 
 -- the registers after a step: T, S, R, A, B and P
 abbrev pub behind_text : NodeRecord → Text
@@ -28,17 +28,17 @@ behind_text node =
     ++ register_text (codes "p") node.p
 
 -- a step with this number and this report, and the node just after it
-abbrev pub passed_text : NodeId → ℕ → Option Made → NodeRecord → Text
-passed_text node step None behind = []
-passed_text node step (Some made) behind = step_text node step ++ codes " " ++ deed_text made node.number ++ behind_text behind
+abbrev pub step_registers_text : NodeId → ℕ → Option Made → NodeRecord → Text
+step_registers_text node step None behind = []
+step_registers_text node step (Some made) behind = step_text node step ++ codes " " ++ action_text made node.number ++ behind_text behind
 
 -- the step after the first `k` of the node
-abbrev pub place_text : Option Notes → State → NodeId → ℕ → Text
+abbrev pub place_text : Option DebugInfo → State → NodeId → ℕ → Text
 place_text notes s node k =
-    passed_text node (k + 1) (slice_get (history_of s node.number) k) (node_after s node.number (k + 1)) ++ step_tail notes s node (k + 1)
+    step_registers_text node (k + 1) (slice_get (history_of s node.number) k) (node_after s node.number (k + 1)) ++ step_tail notes s node (k + 1)
 
 -- the text of `n` steps of the node, from the step after the first `k` on
-unfoldable pub places_text : Option Notes → State → NodeId → ℕ → ℕ → Text
+unfoldable pub places_text : Option DebugInfo → State → NodeId → ℕ → ℕ → Text
 places_text notes s node k zero = []
 places_text notes s node k (suc more) = place_text notes s node k ++ places_text notes s node (k + 1) more
 
@@ -47,8 +47,8 @@ abbrev pub lesser : ℕ → ℕ → ℕ
 lesser m n = if nat_le m n then m else n
 
 -- the steps of a node up to `around` before and after one, if it exists
-abbrev pub around_text : Option Notes → State → NodeId → ℕ → ℕ → Text
+abbrev pub around_text : Option DebugInfo → State → NodeId → ℕ → ℕ → Text
 around_text notes s node step around =
-    if stands s node.number step
+    if has_step s node.number step
     then (let first = step - 1 - around in places_text notes s node first (lesser (step + around) (steps_of node.number s.kept) - first))
     else refusal_text NoStep

@@ -4,7 +4,7 @@ use Rattle.ga_text.specs.Lines.{Text}
 use Rattle.ga_grid.specs.declared.node_id.NodeId.{NodeId}
 use Rattle.ga_event.specs.declared.made.Made.{Made}
 use Rattle.ga_event.specs.declared.made.Made.TheVariants.{Own, Pass}
-use Rattle.ga_lab.specs.Machine.{State, stands}
+use Rattle.ga_lab.specs.Machine.{State, has_step}
 use Rattle.ga_lab.specs.declared.fault.LabFault.TheVariants.{NoStep}
 use Rattle.ga_event.specs.declared.flow.part.Part.{Part}
 use Rattle.ga_provenance.specs.declared.deciding.Decision.{Decision}
@@ -12,9 +12,9 @@ use Rattle.ga_provenance.specs.Deciding.{newest_decided}
 use Rattle.ga_provenance.specs.Rows.{row_at}
 use Rattle.ga_text.specs.Digits.{step_text}
 use Rattle.ga_display.specs.Texts.{register_text, refusal_text}
-use Rattle.ga_debug_info.specs.declared.notes.Notes.{Notes}
-use Rattle.ga_explorer_text.specs.Deeds.{deed_text}
-use Rattle.ga_explorer_text.specs.Tails.{step_tail}
+use Rattle.ga_debug_info.specs.declared.notes.DebugInfo.{DebugInfo}
+use Rattle.ga_explorer_text.specs.Deeds.{action_text}
+use Rattle.ga_explorer_text.specs.SourceSuffix.{step_tail}
 use Rattle.ga_explorer_text.specs.Trees.{part_name, tree_row_text}
 
 -- the register that a step of the node's own tested, with its word; a transferred word is in the text already
@@ -25,24 +25,24 @@ tested_text (Pass writer i reader j word) at other = []
 -- the step of a decision, what it did and what it tested
 abbrev pub decided_text : NodeId → Decision → Text
 decided_text node decision =
-    step_text node decision.step ++ codes " " ++ deed_text decision.made node.number ++ tested_text decision.made decision.tested.part decision.word
+    step_text node decision.step ++ codes " " ++ action_text decision.made node.number ++ tested_text decision.made decision.tested.part decision.word
 
 -- the line of a decision, and below it the line of the value's origin, as `whence` prints it
-abbrev pub decision_text : Option Notes → State → NodeId → Decision → Text
+abbrev pub decision_text : Option DebugInfo → State → NodeId → Decision → Text
 decision_text notes s node decision =
     decided_text node decision ++ (step_tail notes s node decision.step ++ tree_row_text notes s 1 (row_at 0 decision.source))
 
 -- the newest decision, and those before it
-abbrev pub from_newest : Option Notes → State → NodeId → (ℕ → Text) → Option Decision → Text
+abbrev pub from_newest : Option DebugInfo → State → NodeId → (ℕ → Text) → Option Decision → Text
 from_newest notes s node before None = []
 from_newest notes s node before (Some decision) = decision_text notes s node decision ++ before (decision.step - 1)
 
 -- at most `left` decisions among the first `k` steps of a node, the newest first
-unfoldable pub decisions_text : Option Notes → State → NodeId → ℕ → ℕ → Text
+unfoldable pub decisions_text : Option DebugInfo → State → NodeId → ℕ → ℕ → Text
 decisions_text notes s node zero k = []
 decisions_text notes s node (suc more) k = from_newest notes s node (decisions_text notes s node more) (newest_decided s node k)
 
 -- the decisions before a step, if it exists
-abbrev pub because_text : Option Notes → State → NodeId → ℕ → ℕ → Text
+abbrev pub because_text : Option DebugInfo → State → NodeId → ℕ → ℕ → Text
 because_text notes s node step most =
-    if stands s node.number step then decisions_text notes s node most (step - 1) else refusal_text NoStep
+    if has_step s node.number step then decisions_text notes s node most (step - 1) else refusal_text NoStep

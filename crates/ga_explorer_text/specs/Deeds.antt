@@ -22,8 +22,8 @@ abbrev pub pass_text : Text → ℕ → Text → NodeId → ℕ → Text
 pass_text way word end other step = way ++ hex6_of word ++ end ++ step_text other step
 
 -- the text of a step, from the view of this node
-abbrev pub deed_text : Made → ℕ → Text
-deed_text (Own node step kind) n = kind_name kind
-deed_text (Pass writer i reader j word) n =
+abbrev pub action_text : Made → ℕ → Text
+action_text (Own node step kind) n = kind_name kind
+action_text (Pass writer i reader j word) n =
     if n == reader.number then pass_text (codes "takes ") word (codes " from ") writer i
     else pass_text (codes "sends ") word (codes " to ") reader j

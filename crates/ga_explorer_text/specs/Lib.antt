@@ -1,7 +1,7 @@
 pub mod Texts
 pub mod Deeds
 pub mod Writing
-pub mod Tails
+pub mod SourceSuffix
 pub mod Around
 pub mod Trees
 pub mod Because

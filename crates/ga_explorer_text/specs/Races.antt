@@ -1,5 +1,5 @@
 -- The texts of `races`: the steps that could have come out otherwise, and what holds of other orders (docs/REFERENCE.md, "Exploring";
--- this project's own). What the last line means is law `every_order` and law `no_other_order` of ga_race_detector.
+-- this project's own). What the last line means is law `every_order` and law `race_free_within_steps` of ga_race_detector.
 use Rattle.std.specs.Prelude.{◌≡◌, ◌+◌, ◌⊎◌, Bool, true, false, is_none, List, [], ◌∷◌, ◌++◌, length, flat_map, codes, decimal, ℕ, Option, Some, None}
 use Rattle.std.specs.List.{All}
 use Rattle.ga_text.specs.Lines.{Text}
@@ -8,7 +8,7 @@ use Rattle.ga_grid.specs.declared.node_id.NodeId.{NodeId}
 use Rattle.ga_lab.specs.Machine.{State, chip_of, causes_of}
 use Rattle.ga_lab.specs.declared.fault.LabFault.TheVariants.{Memory}
 use Rattle.ga_race_detector.specs.declared.races.Race.{Race}
-use Rattle.ga_race_detector.specs.declared.readings.Reading.{Reading}
+use Rattle.ga_race_detector.specs.declared.readings.LookRace.{LookRace}
 use Rattle.ga_race_detector.specs.Readings.{back_of, IsTold, NoneMissed}
 use Rattle.ga_race_detector.specs.Races.{races_asked, has_looks, first_ready}
 use Rattle.ga_text.specs.Digits.{name_of_node, step_text}
@@ -47,7 +47,7 @@ before_or_behind true = codes " behind "
 before_or_behind false = codes " before "
 
 -- a look and the word that it read, another that it could have read, and the commands that make it read that
-abbrev pub reading_text : Reading → Text
+abbrev pub reading_text : LookRace → Text
 reading_text reading =
     step_text reading.node reading.step ++ codes " reads " ++ hex6_of reading.word ++ codes ", or " ++ hex6_of reading.other
     ++ before_or_behind reading.early ++ step_text reading.neighbour reading.change
@@ -57,12 +57,12 @@ reading_text reading =
 abbrev pub race_lines_text : List Race → ℕ → Text
 race_lines_text races count = races_head count ++ flat_map race_text races
 
-abbrev pub listed_text : Option NodeId → List Race → List Reading → Bool → Bool → Text
+abbrev pub listed_text : Option NodeId → List Race → List LookRace → Bool → Bool → Text
 listed_text only races readings looks quiet =
     race_lines_text races (length races + length readings) ++ (flat_map reading_text readings ++ last_line only races looks quiet)
 
 -- the answer to `races`, with these looks
-abbrev pub races_text : State → Option NodeId → List Reading → Text
+abbrev pub races_text : State → Option NodeId → List LookRace → Text
 races_text s only readings =
     listed_text only (races_asked s only) readings (has_looks (causes_of s) (chip_of s)) (is_none (first_ready (chip_of s)))
 
@@ -70,4 +70,4 @@ races_text s only readings =
 -- allocation failed
 abbrev pub TellsRaces : State → Option NodeId → Text → Type 0
 TellsRaces s only answer =
-    ((readings : List Reading) × All (IsTold s only) readings × NoneMissed s only readings × (answer ≡ races_text s only readings)) ⊎ (answer ≡ advised_text Memory)
+    ((readings : List LookRace) × All (IsTold s only) readings × NoneMissed s only readings × (answer ≡ races_text s only readings)) ⊎ (answer ≡ advised_text Memory)

@@ -5,7 +5,7 @@ use Rattle.ga_grid.specs.declared.node_id.NodeId.{NodeId}
 use Rattle.ga_lab.specs.Machine.{State, chip_of, rewind_answer}
 use Rattle.ga_lab.specs.declared.fault.LabFault.TheVariants.{Memory}
 use Rattle.ga_scheduler.specs.Effects.{effects_of}
-use Rattle.ga_races.specs.Acts.{AreStuck, IsSubset}
+use Rattle.ga_races.specs.Acts.{AreDeadlocked, IsSubset}
 use Rattle.ga_scheduler.specs.Idle.{MarksIdle}
 use Rattle.ga_display.specs.Texts.{advised_text}
 use Rattle.ga_explorer_text.specs.Texts.{effects_answer}
@@ -21,8 +21,8 @@ TellsEffects s node step answer =
 -- set of such nodes.
 pub record TellsWho (s : State) (answer : Text) : Type 0 where
   pub marks : ℕ → Bool
-  pub stuck : AreStuck (chip_of s) marks
-  pub greatest : (others : ℕ → Bool) → AreStuck (chip_of s) others → IsSubset others marks
+  pub stuck : AreDeadlocked (chip_of s) marks
+  pub greatest : (others : ℕ → Bool) → AreDeadlocked (chip_of s) others → IsSubset others marks
   pub idle : ℕ → Bool
   pub silent : MarksIdle s idle
   pub text : answer ≡ who_text (chip_of s) marks idle

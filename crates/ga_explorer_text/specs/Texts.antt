@@ -14,9 +14,9 @@ use Rattle.ga_lab.specs.declared.fault.LabFault.TheVariants.{Waiting, Stopped, F
 use Rattle.ga_races.specs.HappensBefore.{are_linked}
 use Rattle.ga_scheduler.specs.Words.{words_of, word_count}
 use Rattle.ga_scheduler.specs.declared.effects.RollbackEffect.{RollbackEffect}
-use Rattle.ga_scheduler.specs.declared.words.Sent.{Sent}
-use Rattle.ga_scheduler.specs.declared.running.End.{End}
-use Rattle.ga_scheduler.specs.declared.running.End.TheVariants.{Reached, Made, Quiet, Refused}
+use Rattle.ga_scheduler.specs.declared.words.Transfer.{Transfer}
+use Rattle.ga_scheduler.specs.declared.running.RunEnd.{RunEnd}
+use Rattle.ga_scheduler.specs.declared.running.RunEnd.TheVariants.{Reached, Made, Quiet, Refused}
 use Rattle.ga_display.specs.Texts.{made_text, removed_text, advice_text, advised_text}
 use Rattle.ga_text.specs.Digits.{name_of_node, step_text}
 
@@ -37,7 +37,7 @@ abbrev pub which_text : ℕ → ℕ → Text
 which_text conditions which = if nat_lt 1 conditions then codes " by " ++ decimal (which + 1) else []
 
 -- how many events were made until one of the conditions held, why the run ended, and what to do if there is no room for more
-abbrev pub run_text : ℕ → ℕ → End → Text
+abbrev pub run_text : ℕ → ℕ → RunEnd → Text
 run_text conditions events (Reached made which) = codes "reached " ++ decimal events ++ which_text conditions which ++ codes " " ++ made_text made
 run_text conditions events Made = codes "made " ++ decimal events ++ codes "\n"
 run_text conditions events Quiet = codes "quiet " ++ decimal events ++ codes "\n"
@@ -112,7 +112,7 @@ back_text None kept = codes "none\n"
 -- ---- `words`
 
 -- a word: its number, the steps of both ends and itself
-abbrev pub sent_text : NodeId → NodeId → Sent → Text
+abbrev pub sent_text : NodeId → NodeId → Transfer → Text
 sent_text from to sent =
     decimal sent.number ++ codes " " ++ step_text from sent.writer_step ++ codes " " ++ step_text to sent.reader_step ++ codes " " ++ hex6_of sent.word
     ++ codes "\n"

@@ -6,19 +6,19 @@ use Rattle.ga_text.specs.Lines.{Text}
 use Rattle.ga_text.specs.Digits.{hex2_of, name_of_node, step_text}
 use Rattle.ga_grid.specs.declared.node_id.NodeId.{NodeId}
 use Rattle.ga_event.specs.declared.made.Made.{Made}
-use Rattle.ga_lab.specs.Machine.{State, stands, history_of}
+use Rattle.ga_lab.specs.Machine.{State, has_step, history_of}
 use Rattle.ga_lab.specs.declared.fault.LabFault.TheVariants.{NoStep, Memory}
 use Rattle.ga_event.specs.declared.flow.part.Part.{Part}
 use Rattle.ga_event.specs.declared.flow.part.Part.TheVariants as part
 use Rattle.ga_provenance.specs.declared.value.Value.{Value}
-use Rattle.ga_provenance.specs.declared.listing.Row.{Row}
+use Rattle.ga_provenance.specs.declared.listing.ProvenanceRow.{ProvenanceRow}
 use Rattle.ga_provenance.specs.Origins.{origin_of}
 use Rattle.ga_provenance.specs.Rows.{row_at, AreRows}
-use Rattle.ga_provenance.specs.Asked.{asked_of}
+use Rattle.ga_provenance.specs.Asked.{queried_value}
 use Rattle.ga_display.specs.Texts.{refusal_text, advised_text}
-use Rattle.ga_debug_info.specs.declared.notes.Notes.{Notes}
-use Rattle.ga_explorer_text.specs.Deeds.{deed_text}
-use Rattle.ga_explorer_text.specs.Tails.{step_tail, value_tail}
+use Rattle.ga_debug_info.specs.declared.notes.DebugInfo.{DebugInfo}
+use Rattle.ga_explorer_text.specs.Deeds.{action_text}
+use Rattle.ga_explorer_text.specs.SourceSuffix.{step_tail, value_tail}
 
 -- how many lines a tree has at most
 abbrev pub most_rows : ℕ
@@ -58,7 +58,7 @@ mark_text at = codes " " ++ part_name at
 -- what a step with this report did
 abbrev pub told_step_text : Option Made → ℕ → Text
 told_step_text None n = []
-told_step_text (Some made) n = deed_text made n
+told_step_text (Some made) n = action_text made n
 
 -- the step of a node, with what it did
 abbrev pub did_text : State → NodeId → ℕ → Text
@@ -76,18 +76,18 @@ blanks zero = []
 blanks (suc level) = codes "  " ++ blanks level
 
 -- a line, `depth` levels deeper than the row
-abbrev pub tree_row_text : Option Notes → State → ℕ → Row → Text
+abbrev pub tree_row_text : Option DebugInfo → State → ℕ → ProvenanceRow → Text
 tree_row_text notes s deeper row = blanks (row.depth + deeper) ++ (value_text s row.value ++ value_tail notes s row.value)
 
-abbrev pub head_text : Option Notes → State → NodeId → ℕ → Text
+abbrev pub head_text : Option DebugInfo → State → NodeId → ℕ → Text
 head_text notes s node step = did_text s node step ++ step_tail notes s node step
 
 -- The step of the query is the first row if it made the value. Otherwise it comes before the rows, which are one level deeper.
-abbrev pub rows_by : Option Notes → State → NodeId → ℕ → Bool → List Row → Text
+abbrev pub rows_by : Option DebugInfo → State → NodeId → ℕ → Bool → List ProvenanceRow → Text
 rows_by notes s node step made rows =
     if made then flat_map (tree_row_text notes s 0) rows else head_text notes s node step ++ flat_map (tree_row_text notes s 1) rows
 
-abbrev pub tree_rows_text : Option Notes → State → NodeId → ℕ → Value → List Row → Text
+abbrev pub tree_rows_text : Option DebugInfo → State → NodeId → ℕ → Value → List ProvenanceRow → Text
 tree_rows_text notes s node step value rows = rows_by notes s node step ((origin_of s value).step == step) rows
 
 -- the line after the rows of a tree, if these are not all
@@ -96,8 +96,8 @@ more_text true = []
 more_text false = codes "more\n"
 
 -- The rows of the value are written, all or as many as allowed; or an allocation failed.
-pub record TellsTree (notes : Option Notes) (s : State) (node : NodeId) (step : ℕ) (value : Value) (answer : Text) : Type 0 where
-  pub rows : List Row
+pub record TellsTree (notes : Option DebugInfo) (s : State) (node : NodeId) (step : ℕ) (value : Value) (answer : Text) : Type 0 where
+  pub rows : List ProvenanceRow
   pub is_whole : Bool
   pub told : AreRows s [] (row_at 0 value ∷ []) rows is_whole
   pub most : length rows ≤ most_rows
@@ -105,11 +105,11 @@ pub record TellsTree (notes : Option Notes) (s : State) (node : NodeId) (step : 
   pub text : answer ≡ tree_rows_text notes s node step value rows ++ more_text is_whole
 
 -- the text about a step for which this value is queried; the step alone if it made none
-abbrev pub TellsAsked : Option Notes → State → NodeId → ℕ → Option Value → Text → Type 0
+abbrev pub TellsAsked : Option DebugInfo → State → NodeId → ℕ → Option Value → Text → Type 0
 TellsAsked notes s node step None answer = answer ≡ head_text notes s node step
 TellsAsked notes s node step (Some value) answer = (answer ≡ advised_text Memory) ⊎ TellsTree notes s node step value answer
 
-abbrev pub TellsWhence : Option Notes → State → NodeId → ℕ → Text → Type 0
+abbrev pub TellsWhence : Option DebugInfo → State → NodeId → ℕ → Text → Type 0
 TellsWhence notes s node step answer =
-    ((stands s node.number step ≡ false) × (answer ≡ refusal_text NoStep))
-    ⊎ ((stands s node.number step ≡ true) × TellsAsked notes s node step (asked_of s node step) answer)
+    ((has_step s node.number step ≡ false) × (answer ≡ refusal_text NoStep))
+    ⊎ ((has_step s node.number step ≡ true) × TellsAsked notes s node step (queried_value s node step) answer)

@@ -109,8 +109,8 @@ sole None None None (Some m) = Some m
 sole right down left up = None
 
 -- the neighbour that a node awaits, where it awaits no other
-abbrev pub sole_awaited : List NodeRecord → ℕ → Option ℕ
-sole_awaited chip n = sole (awaited_at chip n Right) (awaited_at chip n Down) (awaited_at chip n Left) (awaited_at chip n Up)
+abbrev pub only_awaited : List NodeRecord → ℕ → Option ℕ
+only_awaited chip n = sole (awaited_at chip n Right) (awaited_at chip n Down) (awaited_at chip n Left) (awaited_at chip n Up)
 
 -- The names of the nodes by which a wait cycle leads to its first node, each awaited only by the one before, if at most `left`
 -- are left: none if it doesn't return there, or passes a node of a lower number, which is the first of that cycle.
@@ -118,18 +118,18 @@ unfoldable pub ring_names : List NodeRecord → ℕ → ℕ → Option ℕ → O
 ring_names chip first left None = None
 ring_names chip first zero (Some m) = None
 ring_names chip first (suc left) (Some m) =
-    if m == first then Some [] else if nat_le m first then None else option_map (λ names. codes " " ++ name_text m ++ names) (ring_names chip first left (sole_awaited chip m))
+    if m == first then Some [] else if nat_le m first then None else option_map (λ names. codes " " ++ name_text m ++ names) (ring_names chip first left (only_awaited chip m))
 
 abbrev pub ring_line : ℕ → Option Text → Text
 ring_line first None = []
 ring_line first (Some names) = codes "ring " ++ name_text first ++ names ++ codes "\n"
 
 -- the line of a ring of nodes that can never go on, at its node of the lowest number
-abbrev pub ring_text : List NodeRecord → (ℕ → Bool) → ℕ → Text
-ring_text chip marks n = if marks n then ring_line n (ring_names chip n 144 (sole_awaited chip n)) else []
+abbrev pub wait_cycle_text : List NodeRecord → (ℕ → Bool) → ℕ → Text
+wait_cycle_text chip marks n = if marks n then ring_line n (ring_names chip n 144 (only_awaited chip n)) else []
 
 abbrev pub all_rings : List NodeRecord → (ℕ → Bool) → Text
-all_rings chip marks = each_node (ring_text chip marks) 0 144
+all_rings chip marks = each_node (wait_cycle_text chip marks) 0 144
 
 abbrev pub who_text : List NodeRecord → (ℕ → Bool) → (ℕ → Bool) → Text
 who_text chip marks idle = all_waiting chip idle ++ stuck_text marks idle ++ all_rings chip marks ++ idle_text idle

@@ -8,13 +8,13 @@ use Rattle.ga_lab.specs.Machine.{State}
 use Rattle.ga_provenance.specs.Writes.{written_at}
 use Rattle.ga_provenance.specs.declared.writes.CellWrite.{CellWrite}
 use Rattle.ga_text.specs.Digits.{step_text}
-use Rattle.ga_explorer_text.specs.Deeds.{deed_text}
+use Rattle.ga_explorer_text.specs.Deeds.{action_text}
 
 -- a step that wrote: its number, the opcode's name, and the word
 abbrev pub written_text : NodeId → Option CellWrite → Text
 written_text node None = []
 written_text node (Some written) =
-    step_text node written.step ++ codes " " ++ deed_text written.made node.number ++ codes " " ++ hex6_of written.word ++ codes "\n"
+    step_text node written.step ++ codes " " ++ action_text written.made node.number ++ codes " " ++ hex6_of written.word ++ codes "\n"
 
 -- the steps that wrote the cell, among the first `k` steps of a node, the newest first
 unfoldable pub cell_writes : State → NodeId → ℕ → ℕ → Text

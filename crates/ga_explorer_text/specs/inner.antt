@@ -7,7 +7,7 @@ use Rattle.ga_event.specs.declared.event.Cause.{Cause}
 use Rattle.ga_event.specs.declared.made.Made.{Made}
 use Rattle.ga_event.specs.declared.made.Made.TheVariants.{Own, Pass}
 use Rattle.ga_explorer_text.specs.Saved.{saved_line, with_feed}
-use Rattle.ga_provenance.specs.declared.listing.Row.{Row}
+use Rattle.ga_provenance.specs.declared.listing.ProvenanceRow.{ProvenanceRow}
 
 -- ---- what private contracts cite
 
@@ -27,6 +27,6 @@ cause_line cause = with_feed (saved_line cause.event)
 
 -- ---- which step the first of some rows is of
 
-abbrev pub is_first : ℕ → List Row → Bool
+abbrev pub is_first : ℕ → List ProvenanceRow → Bool
 is_first step [] = false
 is_first step (row ∷ rows) = row.value.step == step

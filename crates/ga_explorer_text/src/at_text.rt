@@ -1,53 +1,53 @@
 //! The steps around one, each with the registers after it, written line by line.
 
 ghost use Rattle.std.specs.Prelude.{◌≡◌, ◌<◌, ◌≤◌, ◌+◌, ◌-◌};
-ghost use Rattle.ga_text.specs.Output.{Says};
+ghost use Rattle.ga_text.specs.Output.{WritesSome};
 ghost use Rattle.ga_explorer_text.specs.Around.{around_text};
 
-use crate::passed_text::step_line;
-use crate::tail_text::Outlook;
+use crate::passed_text::step_registers_line;
+use crate::source_suffix::StepContext;
 use arrayvec::ArrayVec;
-use ga_debug_info::Notes;
+use ga_debug_info::DebugInfo;
 use ga_display::refusal_text;
 use ga_grid::NodeId;
 use ga_lab::{Lab, LabFault};
-use ga_text::{Spoken, TextBuffer, Writer};
+use ga_text::{TextBuffer, WriteResult, Writer};
 use std::io::Write;
 
 /// `at NNN K [N]`: writes the steps of a node up to N before and after one. Allocates nothing.
 ///
 /// # Errors
 /// A write failed.
-pub fn say_around<W: Write>(
+pub fn write_at<W: Write>(
     lab: &Lab,
-    notes: &Option<Notes>,
+    notes: &Option<DebugInfo>,
     node: NodeId,
     step: u32,
     around: u32,
     writer: &mut Writer<'_, W>,
-) -> Spoken
-    ensures { Says result (λ text. text ≡ around_text notes.now lab.now node step around) W.contents writer.old writer.new }
+) -> WriteResult
+    ensures { WritesSome result (λ text. text ≡ around_text notes.now lab.now node step around) W.contents writer.old writer.new }
 {
-    if lab.stands((node, step)) {
+    if lab.has_step((node, step)) {
         let first = (step - 1).saturating_sub(around);
         let last = step.saturating_add(around).min(lab.steps(node));
-        Outlook::new(lab, notes, node, last).say_places(first, writer)
+        StepContext::new(lab, notes, node, last).say_places(first, writer)
     } else {
-        writer.say(refusal_text(LabFault::NoStep))
+        writer.write_text(refusal_text(LabFault::NoStep))
     }
 }
 
-impl<'l> Outlook<'l> {
+impl<'l> StepContext<'l> {
     ghost use Rattle.std.specs.Prelude.{◌≡◌, ◌<◌, ◌≤◌, ◌-◌};
     ghost use Rattle.std.specs.List.{slice_get};
     ghost use Rattle.ga_lab.specs.Machine.{history_of};
     ghost use Rattle.ga_provenance.specs.Origins.{node_after};
-    ghost use Rattle.ga_text.specs.Output.{Says, SaysExactly};
-    ghost use Rattle.ga_explorer_text.specs.Around.{passed_text, place_text, places_text};
+    ghost use Rattle.ga_text.specs.Output.{WritesSome, WritesExactly};
+    ghost use Rattle.ga_explorer_text.specs.Around.{step_registers_text, place_text, places_text};
 
     /// Says the steps from one place on, the first of which is at place 0, up to the step to which the node is walked back.
-    fn say_places<W: Write>(&self, first: u32, writer: &mut Writer<'_, W>) -> Spoken
-        ensures { Says result (λ text. text ≡ places_text self.now.notes.now self.now.lab.now self.now.node first (self.now.near.step - first))
+    fn say_places<W: Write>(&self, first: u32, writer: &mut Writer<'_, W>) -> WriteResult
+        ensures { WritesSome result (λ text. text ≡ places_text self.now.notes.now self.now.lab.now self.now.node first (self.now.near.step - first))
             W.contents writer.old writer.new }
     {
         let last = self.near.step();
@@ -58,32 +58,32 @@ impl<'l> Outlook<'l> {
     }
 
     /// Says a step that the node had made, from a copy of the walk.
-    fn say_made<W: Write>(&self, step: u32, writer: &mut Writer<'_, W>) -> Spoken
+    fn say_made<W: Write>(&self, step: u32, writer: &mut Writer<'_, W>) -> WriteResult
         requires some { 0 < step }
         requires made { step ≤ self.now.near.step }
-        ensures { SaysExactly result (place_text self.now.notes.now self.now.lab.now self.now.node (step - 1)) W.contents writer.old writer.new }
+        ensures { WritesExactly result (place_text self.now.notes.now self.now.lab.now self.now.node (step - 1)) W.contents writer.old writer.new }
     {
         let mut near = self.near.copy();
         near.back_to(step);
-        let there = Outlook {
+        let there = StepContext {
             lab: self.lab,
             notes: self.notes,
             node: self.node,
             near,
         };
-        writer.say_blocks(there.place_line().as_slice())?;
+        writer.write_blocks(there.place_line().as_slice())?;
         there.say_own_tail(writer)
     }
 
     /// The text of the step to which the node is walked back.
     fn place_line(&self) -> TextBuffer
         requires { 0 < self.now.near.step }
-        ensures { result.items ≡ passed_text self.now.node self.now.near.step (slice_get (history_of self.now.lab.now self.now.node.number) (self.now.near.step - 1))
+        ensures { result.items ≡ step_registers_text self.now.node self.now.near.step (slice_get (history_of self.now.lab.now self.now.node.number) (self.now.near.step - 1))
             (node_after self.now.lab.now self.now.node.number self.now.near.step) }
     {
         let step = self.near.step();
-        match self.lab.told(self.node, step - 1) {
-            Some(made) => step_line(self.node, step, made, self.near.node()),
+        match self.lab.made_by_step(self.node, step - 1) {
+            Some(made) => step_registers_line(self.node, step, made, self.near.node()),
             None => ArrayVec::new(),
         }
     }

@@ -1,32 +1,32 @@
 //! Back to where a condition held, and how many events went.
 
 ghost use Rattle.std.specs.Prelude.{◌≡◌, length};
-ghost use Rattle.ga_text.specs.Output.{Says};
-ghost use Rattle.ga_scheduler.specs.Backward.{newest_held, left_from, gone_from};
+ghost use Rattle.ga_text.specs.Output.{WritesSome};
+ghost use Rattle.ga_scheduler.specs.Backward.{find_newest_holding, left_from, gone_from};
 ghost use Rattle.ga_explorer_text.specs.Texts.{back_text};
 
-use ga_display::say_removed;
+use ga_display::write_removed;
 use ga_grid::NodeId;
 use ga_lab::Lab;
 use ga_scheduler::{Condition, back_until};
-use ga_text::{Spoken, Writer};
+use ga_text::{WriteResult, Writer};
 use std::io::Write;
 
 /// `back until COND`, `back NNN until COND`: takes events back, and says how many went, or that none did.
 ///
 /// # Errors
 /// A write failed.
-pub fn say_back<W: Write>(
+pub fn write_back_until<W: Write>(
     lab: &mut Lab,
     until: &[Condition],
     only: Option<NodeId>,
     writer: &mut Writer<'_, W>,
-) -> Spoken
-    ensures said { Says result (λ text. text ≡ back_text (gone_from only lab.old (newest_held until.now only lab.old)) (length lab.new.kept)) W.contents writer.old writer.new }
-    ensures state { lab.new ≡ left_from only lab.old (newest_held until.now only lab.old) }
+) -> WriteResult
+    ensures said { WritesSome result (λ text. text ≡ back_text (gone_from only lab.old (find_newest_holding until.now only lab.old)) (length lab.new.kept)) W.contents writer.old writer.new }
+    ensures state { lab.new ≡ left_from only lab.old (find_newest_holding until.now only lab.old) }
 {
     match back_until(lab, until, only) {
-        Some(gone) => say_removed(writer, gone, lab.counts().kept),
-        None => writer.say(b"none\n"),
+        Some(gone) => write_removed(writer, gone, lab.counts().kept),
+        None => writer.write_text(b"none\n"),
     }
 }

@@ -3,46 +3,46 @@
 ghost use Rattle.std.specs.Prelude.{◌≡◌, ◌+◌, ◌-◌, ◌≤◌, ◌<◌, ◌^◌, ◌++◌};
 ghost use Rattle.arrayvec.specs.ArrayVec.{array_vec_len};
 ghost use Rattle.ga_display.specs.Texts.{register_text};
-ghost use Rattle.ga_text.specs.Output.{Says};
+ghost use Rattle.ga_text.specs.Output.{WritesSome};
 ghost use Rattle.ga_explorer_text.specs.Because.{decided_text, because_text};
 ghost use Rattle.ga_explorer_text.specs.Trees.{part_name};
 
-use crate::deed_text::push_deed;
-use crate::part_text::{PART_ROOM, push_part};
-use crate::tail_text::Outlook;
+use crate::deed_text::push_action;
+use crate::part_text::{MAX_PART_BYTES, push_part};
+use crate::source_suffix::StepContext;
 use arrayvec::ArrayVec;
-use ga_debug_info::Notes;
+use ga_debug_info::DebugInfo;
 use ga_display::refusal_text;
 use ga_event::Part;
 use ga_grid::NodeId;
 use ga_lab::{Lab, LabFault, Made};
-use ga_provenance::{Decision, Decisions, Row};
-use ga_text::{Spoken, TextBuffer, WORD_ROOM, Writer, push_spaced, push_step, push_text};
+use ga_provenance::{Decision, Decisions, ProvenanceRow};
+use ga_text::{TextBuffer, WORD_DIGITS, WriteResult, Writer, push_spaced, push_step, push_text};
 use ga_word::Word18;
 use std::io::Write;
 
 /// The most bytes of a register that was tested, with its word.
-const TESTED_ROOM: usize = 1 + PART_ROOM + 1 + WORD_ROOM;
+const TESTED_ROOM: usize = 1 + MAX_PART_BYTES + 1 + WORD_DIGITS;
 
 /// `because NNN K [N]`: writes the last steps of a node before one at which a value decided where it continued, the newest
 /// first, each with the step that made the value. Allocates nothing.
 ///
 /// # Errors
 /// A write failed.
-pub fn say_because<W: Write>(
+pub fn write_because<W: Write>(
     lab: &Lab,
-    notes: &Option<Notes>,
+    notes: &Option<DebugInfo>,
     node: NodeId,
     step: u32,
     most: u32,
     writer: &mut Writer<'_, W>,
-) -> Spoken
-    ensures { Says result (λ text. text ≡ because_text notes.now lab.now node step most) W.contents writer.old writer.new }
+) -> WriteResult
+    ensures { WritesSome result (λ text. text ≡ because_text notes.now lab.now node step most) W.contents writer.old writer.new }
 {
-    if lab.stands((node, step)) {
-        Outlook::new(lab, notes, node, step).say_decisions(most, writer)
+    if lab.has_step((node, step)) {
+        StepContext::new(lab, notes, node, step).say_decisions(most, writer)
     } else {
-        writer.say(refusal_text(LabFault::NoStep))
+        writer.write_text(refusal_text(LabFault::NoStep))
     }
 }
 
@@ -53,7 +53,7 @@ fn decided_line(node: NodeId, decision: Decision) -> TextBuffer
     let mut out = ArrayVec::new();
     push_step(&mut out, node, decision.step);
     push_text(&mut out, b" ");
-    push_deed(&mut out, decision.made, node);
+    push_action(&mut out, decision.made, node);
     if let Made::Own { .. } = decision.made {
         push_tested(&mut out, decision.tested.part, decision.word);
     }
@@ -70,14 +70,14 @@ fn push_tested(out: &mut TextBuffer, part: Part, word: Word18)
     push_spaced(out, word);
 }
 
-impl<'l> Outlook<'l> {
+impl<'l> StepContext<'l> {
     ghost use Rattle.std.specs.Prelude.{◌≡◌, ◌-◌};
-    ghost use Rattle.ga_text.specs.Output.{Says, SaysExactly};
+    ghost use Rattle.ga_text.specs.Output.{WritesSome, WritesExactly};
     ghost use Rattle.ga_explorer_text.specs.Because.{decision_text, decisions_text};
 
     /// Says those before the step to which the node is walked back.
-    fn say_decisions<W: Write>(&self, most: u32, writer: &mut Writer<'_, W>) -> Spoken
-        ensures { Says result (λ text. text ≡ decisions_text self.now.notes.now self.now.lab.now self.now.node most (self.now.near.step - 1))
+    fn say_decisions<W: Write>(&self, most: u32, writer: &mut Writer<'_, W>) -> WriteResult
+        ensures { WritesSome result (λ text. text ≡ decisions_text self.now.notes.now self.now.lab.now self.now.node most (self.now.near.step - 1))
             W.contents writer.old writer.new }
     {
         let mut decisions = Decisions::before(self.lab, &self.near, self.node);
@@ -93,16 +93,16 @@ impl<'l> Outlook<'l> {
     }
 
     /// Says a step with what it tested, and below it the step that made the value.
-    fn say_decision<W: Write>(&self, decision: Decision, writer: &mut Writer<'_, W>) -> Spoken
-        ensures { SaysExactly result (decision_text self.now.notes.now self.now.lab.now self.now.node decision) W.contents writer.old writer.new }
+    fn say_decision<W: Write>(&self, decision: Decision, writer: &mut Writer<'_, W>) -> WriteResult
+        ensures { WritesExactly result (decision_text self.now.notes.now self.now.lab.now self.now.node decision) W.contents writer.old writer.new }
     {
         let step = decision.step;
-        let row = Row {
+        let row = ProvenanceRow {
             depth: 0,
             value: decision.source,
         };
-        writer.say_blocks(decided_line(self.node, decision).as_slice())?;
-        self.say_step_tail(self.node, step, writer)?;
+        writer.write_blocks(decided_line(self.node, decision).as_slice())?;
+        self.write_step_suffix(self.node, step, writer)?;
         self.say_row(1, row, writer)
     }
 }

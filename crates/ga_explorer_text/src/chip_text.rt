@@ -26,7 +26,7 @@ const CHIP_ROOM: usize = 8 * ROW_ROOM;
 pub type ChipText = ArrayVec<u8, CHIP_ROOM>;
 
 /// What each node does, row by row, the upmost first.
-pub fn glance(lab: &Lab) -> ChipText
+pub fn chip_overview(lab: &Lab) -> ChipText
     ensures { result.items ≡ chip_text lab.now }
 {
     let mut out = ArrayVec::new();

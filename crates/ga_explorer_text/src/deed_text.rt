@@ -3,14 +3,15 @@
 ghost use Rattle.std.specs.Prelude.{◌≡◌, ◌+◌, ◌≤◌, ◌++◌, ◌%◌, length};
 ghost use Rattle.arrayvec.specs.ArrayVec.{array_vec_len};
 ghost use Rattle.ga_slots.specs.Codes.{name_of, op_of};
-ghost use Rattle.ga_explorer_text.specs.Deeds.{deed_text, kind_name, pass_text};
+ghost use Rattle.ga_explorer_text.specs.Deeds.{action_text, kind_name, pass_text};
 
 use ga_grid::NodeId;
 use ga_lab::Made;
 use ga_node::Kind;
 use ga_slots::Op;
 use ga_text::{
-    NUMBER_ROOM, STEP_ROOM, TextBuffer, WORD_ROOM, push_number, push_step, push_text, push_word,
+    MAX_NUMBER_DIGITS, MAX_STEP_BYTES, TextBuffer, WORD_DIGITS, push_number, push_step, push_text,
+    push_word,
 };
 use ga_word::Word18;
 
@@ -18,17 +19,17 @@ use ga_word::Word18;
 const NAME_ROOM: usize = b"invert".len();
 
 /// The most bytes of what an event of a node's own was.
-const KIND_ROOM: usize = b"stop ".len() + NUMBER_ROOM;
+const KIND_ROOM: usize = b"stop ".len() + MAX_NUMBER_DIGITS;
 
 /// The most bytes of what a step did.
-pub(crate) const DEED_ROOM: usize = b"takes  from ".len() + WORD_ROOM + STEP_ROOM;
+pub(crate) const MAX_ACTION_BYTES: usize = b"takes  from ".len() + WORD_DIGITS + MAX_STEP_BYTES;
 
 /// Adds what a step of a node did: the opcode's name, what came in its place, or the word that was passed and the step at the other
 /// end.
-pub(crate) fn push_deed(out: &mut TextBuffer, made: Made, node: NodeId)
-    requires { array_vec_len out.old + DEED_ROOM ≤ 256 }
-    ensures text { out.new.items ≡ out.old.items ++ deed_text made node.number }
-    ensures len { array_vec_len out.new ≤ array_vec_len out.old + DEED_ROOM }
+pub(crate) fn push_action(out: &mut TextBuffer, made: Made, node: NodeId)
+    requires { array_vec_len out.old + MAX_ACTION_BYTES ≤ 256 }
+    ensures text { out.new.items ≡ out.old.items ++ action_text made node.number }
+    ensures len { array_vec_len out.new ≤ array_vec_len out.old + MAX_ACTION_BYTES }
 {
     match &made {
         Made::Own { kind, .. } => push_kind(out, *kind),
@@ -52,9 +53,9 @@ pub(crate) fn push_deed(out: &mut TextBuffer, made: Made, node: NodeId)
 
 /// Adds which way a word went, the word, and the step at the other end.
 fn push_pass(out: &mut TextBuffer, way: &[u8], word: Word18, end: &[u8], other: NodeId, step: u32)
-    requires { array_vec_len out.old + length way.now + length end.now + WORD_ROOM + STEP_ROOM ≤ 256 }
+    requires { array_vec_len out.old + length way.now + length end.now + WORD_DIGITS + MAX_STEP_BYTES ≤ 256 }
     ensures text { out.new.items ≡ out.old.items ++ pass_text way.now word end.now other step }
-    ensures len { array_vec_len out.new ≤ array_vec_len out.old + length way.now + length end.now + WORD_ROOM + STEP_ROOM }
+    ensures len { array_vec_len out.new ≤ array_vec_len out.old + length way.now + length end.now + WORD_DIGITS + MAX_STEP_BYTES }
 {
     push_text(out, way);
     push_word(out, word);

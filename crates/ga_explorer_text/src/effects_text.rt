@@ -1,7 +1,7 @@
 //! What a rollback would remove, written line by line.
 
 ghost use Rattle.std.specs.Prelude.{◌≡◌};
-ghost use Rattle.ga_text.specs.Output.{Says, SaysExactly};
+ghost use Rattle.ga_text.specs.Output.{WritesSome, WritesExactly};
 ghost use Rattle.ga_explorer_text.specs.Texts.{effect_text, effects_head, effects_text};
 ghost use Rattle.ga_explorer_text.specs.Telling.{TellsEffects};
 
@@ -10,7 +10,7 @@ use ga_display::advised_text;
 use ga_grid::NodeId;
 use ga_lab::Lab;
 use ga_scheduler::{Effects, RollbackEffect, find_effects};
-use ga_text::{Spoken, TextBuffer, Writer, push_number, push_step, push_text};
+use ga_text::{TextBuffer, WriteResult, Writer, push_number, push_step, push_text};
 use std::alloc::Global;
 use std::io::Write;
 
@@ -18,35 +18,39 @@ use std::io::Write;
 ///
 /// # Errors
 /// A write failed.
-pub fn say_effects<W: Write>(
+pub fn write_effects<W: Write>(
     alloc: Global,
     lab: &mut Lab,
     node: NodeId,
     step: u32,
     writer: &mut Writer<'_, W>,
-) -> Spoken
-    ensures said { Says result (TellsEffects lab.old node step) W.contents writer.old writer.new }
+) -> WriteResult
+    ensures said { WritesSome result (TellsEffects lab.old node step) W.contents writer.old writer.new }
     ensures same { lab.new ≡ lab.old }
 {
     match find_effects(alloc, lab, node, step) {
         Ok(effects) => say_found(&effects, writer),
-        Err(fault) => writer.say(advised_text(fault)),
+        Err(fault) => writer.write_text(advised_text(fault)),
     }
 }
 
 /// Says how many events would go, then what would go of each node.
-fn say_found<W: Write>(effects: &Effects, writer: &mut Writer<'_, W>) -> Spoken
-    ensures { Says result (λ text. text ≡ effects_text effects.now.events effects.now.nodes.items)
+fn say_found<W: Write>(effects: &Effects, writer: &mut Writer<'_, W>) -> WriteResult
+    ensures { WritesSome result (λ text. text ≡ effects_text effects.now.events effects.now.nodes.items)
         W.contents writer.old writer.new }
 {
     say_nodes(effects.events, effects.nodes.as_slice(), writer)
 }
 
-fn say_nodes<W: Write>(events: u32, nodes: &[RollbackEffect], writer: &mut Writer<'_, W>) -> Spoken
-    ensures { Says result (λ text. text ≡ effects_text events nodes.now)
+fn say_nodes<W: Write>(
+    events: u32,
+    nodes: &[RollbackEffect],
+    writer: &mut Writer<'_, W>,
+) -> WriteResult
+    ensures { WritesSome result (λ text. text ≡ effects_text events nodes.now)
         W.contents writer.old writer.new }
 {
-    writer.say_blocks(head_line(events, nodes.len()).as_slice())?;
+    writer.write_blocks(head_line(events, nodes.len()).as_slice())?;
     'nodes: for effect in nodes {
         say_effect(*effect, writer)?;
     }
@@ -54,10 +58,10 @@ fn say_nodes<W: Write>(events: u32, nodes: &[RollbackEffect], writer: &mut Write
 }
 
 /// Says what would go of a node.
-fn say_effect<W: Write>(effect: RollbackEffect, writer: &mut Writer<'_, W>) -> Spoken
-    ensures { SaysExactly result (effect_text effect) W.contents writer.old writer.new }
+fn say_effect<W: Write>(effect: RollbackEffect, writer: &mut Writer<'_, W>) -> WriteResult
+    ensures { WritesExactly result (effect_text effect) W.contents writer.old writer.new }
 {
-    writer.say_blocks(effect_line(effect).as_slice())
+    writer.write_blocks(effect_line(effect).as_slice())
 }
 
 /// How many events would go, and of how many nodes.

@@ -5,16 +5,16 @@ ghost use Rattle.arrayvec.specs.ArrayVec.{array_vec_len};
 ghost use Rattle.ga_explorer_text.specs.Trees.{data_name, return_name, part_name, mark_text};
 
 use ga_event::Part;
-use ga_text::{NUMBER_ROOM, TextBuffer, push_byte, push_number, push_text};
+use ga_text::{MAX_NUMBER_DIGITS, TextBuffer, push_byte, push_number, push_text};
 
 /// The most bytes of a part's name.
-pub(crate) const PART_ROOM: usize = b"d".len() + NUMBER_ROOM;
+pub(crate) const MAX_PART_BYTES: usize = b"d".len() + MAX_NUMBER_DIGITS;
 
 /// Adds the name of a part: of a cell its address.
 pub(crate) fn push_part(out: &mut TextBuffer, part: Part)
-    requires { array_vec_len out.old + PART_ROOM ≤ 256 }
+    requires { array_vec_len out.old + MAX_PART_BYTES ≤ 256 }
     ensures text { out.new.items ≡ out.old.items ++ part_name part }
-    ensures len { array_vec_len out.new ≤ array_vec_len out.old + PART_ROOM }
+    ensures len { array_vec_len out.new ≤ array_vec_len out.old + MAX_PART_BYTES }
 {
     match part {
         Part::Data(k) => push_data(out, k),
@@ -36,9 +36,9 @@ pub(crate) fn push_part(out: &mut TextBuffer, part: Part)
 
 /// Adds the name of a word of the data stack.
 fn push_data(out: &mut TextBuffer, k: u8)
-    requires { array_vec_len out.old + PART_ROOM ≤ 256 }
+    requires { array_vec_len out.old + MAX_PART_BYTES ≤ 256 }
     ensures text { out.new.items ≡ out.old.items ++ data_name k }
-    ensures len { array_vec_len out.new ≤ array_vec_len out.old + PART_ROOM }
+    ensures len { array_vec_len out.new ≤ array_vec_len out.old + MAX_PART_BYTES }
 {
     if k == 0 {
         push_text(out, b"t");
@@ -52,9 +52,9 @@ fn push_data(out: &mut TextBuffer, k: u8)
 
 /// Adds the name of a word of the return stack.
 fn push_return(out: &mut TextBuffer, k: u8)
-    requires { array_vec_len out.old + PART_ROOM ≤ 256 }
+    requires { array_vec_len out.old + MAX_PART_BYTES ≤ 256 }
     ensures text { out.new.items ≡ out.old.items ++ return_name k }
-    ensures len { array_vec_len out.new ≤ array_vec_len out.old + PART_ROOM }
+    ensures len { array_vec_len out.new ≤ array_vec_len out.old + MAX_PART_BYTES }
 {
     push_text(out, b"r");
     if k > 0 {
@@ -63,10 +63,10 @@ fn push_return(out: &mut TextBuffer, k: u8)
 }
 
 /// Adds the name of the part in which a step left what it made, but for T, the instruction word and a cell.
-pub(crate) fn push_mark(out: &mut TextBuffer, part: Part)
-    requires { array_vec_len out.old + 1 + PART_ROOM ≤ 256 }
+pub(crate) fn push_part_suffix(out: &mut TextBuffer, part: Part)
+    requires { array_vec_len out.old + 1 + MAX_PART_BYTES ≤ 256 }
     ensures text { out.new.items ≡ out.old.items ++ mark_text part }
-    ensures len { array_vec_len out.new ≤ array_vec_len out.old + 1 + PART_ROOM }
+    ensures len { array_vec_len out.new ≤ array_vec_len out.old + 1 + MAX_PART_BYTES }
 {
     match part {
         Part::Data(0) => (),

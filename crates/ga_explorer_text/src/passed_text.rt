@@ -5,30 +5,30 @@ ghost use Rattle.arrayvec.specs.ArrayVec.{array_vec_len};
 ghost use Rattle.ga_word.specs.Word.{hex6_of};
 ghost use Rattle.ga_node.specs.Record.{record_of};
 ghost use Rattle.ga_display.specs.Texts.{register_text};
-ghost use Rattle.ga_explorer_text.specs.Around.{behind_text, passed_text};
+ghost use Rattle.ga_explorer_text.specs.Around.{behind_text, step_registers_text};
 
-use crate::deed_text::push_deed;
+use crate::deed_text::push_action;
 use arrayvec::ArrayVec;
 use ga_grid::NodeId;
 use ga_lab::Made;
 use ga_node::{Node, Place};
-use ga_text::{TextBuffer, WORD_ROOM, push_spaced, push_step, push_text};
+use ga_text::{TextBuffer, WORD_DIGITS, push_spaced, push_step, push_text};
 use ga_word::Word18;
 
 /// The bytes of a register: a space, its name, a space and a word.
-const REGISTER_ROOM: usize = b" t ".len() + WORD_ROOM;
+const REGISTER_ROOM: usize = b" t ".len() + WORD_DIGITS;
 
 /// The bytes of the registers after a step.
 const BEHIND_ROOM: usize = 6 * REGISTER_ROOM;
 
 /// A step: its number, what it did, and the registers after it.
-pub(crate) fn step_line(node: NodeId, step: u32, made: Made, behind: &Node) -> TextBuffer
-    ensures { result.items ≡ passed_text node step (Some made) (record_of behind.now) }
+pub(crate) fn step_registers_line(node: NodeId, step: u32, made: Made, behind: &Node) -> TextBuffer
+    ensures { result.items ≡ step_registers_text node step (Some made) (record_of behind.now) }
 {
     let mut out = ArrayVec::new();
     push_step(&mut out, node, step);
     push_text(&mut out, b" ");
-    push_deed(&mut out, made, node);
+    push_action(&mut out, made, node);
     push_behind(&mut out, behind);
     out
 }
@@ -62,9 +62,9 @@ fn push_register(out: &mut TextBuffer, name: &[u8; 1], value: u32)
 /// Adds a space, and a value of at most 18 bits as a word.
 fn push_value(out: &mut TextBuffer, value: u32)
     requires small { value < 2 ^ 18 }
-    requires room { array_vec_len out.old + 1 + WORD_ROOM ≤ 256 }
+    requires room { array_vec_len out.old + 1 + WORD_DIGITS ≤ 256 }
     ensures text { out.new.items ≡ out.old.items ++ (codes " " ++ hex6_of value) }
-    ensures len { array_vec_len out.new ≡ array_vec_len out.old + 1 + WORD_ROOM }
+    ensures len { array_vec_len out.new ≡ array_vec_len out.old + 1 + WORD_DIGITS }
 {
     push_spaced(out, Word18::truncated(value));
 }

@@ -3,7 +3,7 @@
 ghost use Rattle.std.specs.Prelude.{◌≡◌, ◌≤◌, ◌+◌, ◌++◌, flat_map, codes};
 ghost use Rattle.arrayvec.specs.ArrayVec.{array_vec_len};
 ghost use Rattle.ga_word.specs.Word.{hex6_of};
-ghost use Rattle.ga_text.specs.Output.{Says, SaysExactly};
+ghost use Rattle.ga_text.specs.Output.{WritesSome, WritesExactly};
 ghost use Rattle.ga_text.specs.Digits.{name_of_node};
 ghost use Rattle.ga_race_detector.specs.Readings.{back_of};
 ghost use Rattle.ga_explorer_text.specs.Races.{race_text, reading_text, before_or_behind, races_head, race_lines_text, last_line, listed_text, TellsRaces};
@@ -12,40 +12,44 @@ use arrayvec::ArrayVec;
 use ga_display::advised_text;
 use ga_grid::NodeId;
 use ga_lab::Lab;
-use ga_race_detector::{Race, Races, Reading, find_races};
+use ga_race_detector::{LookRace, Race, Races, find_races};
 use ga_text::{
-    NODE_ROOM, Spoken, TextBuffer, WORD_ROOM, Writer, push_node, push_number, push_step, push_text,
-    push_word,
+    NODE_NAME_BYTES, TextBuffer, WORD_DIGITS, WriteResult, Writer, push_node, push_number,
+    push_step, push_text, push_word,
 };
 use ga_word::Word18;
 use std::alloc::Global;
 use std::io::Write;
 
 /// The most bytes of a word and the node that it comes from.
-const FROM_ROOM: usize = WORD_ROOM + b" from ".len() + NODE_ROOM;
+const FROM_ROOM: usize = WORD_DIGITS + b" from ".len() + NODE_NAME_BYTES;
 
 /// `races` or `races NNN`: writes the races of all nodes or of one, and what holds of other interleavings. Nothing is removed.
 ///
 /// # Errors
 /// A write failed.
-pub fn say_races<W: Write>(
+pub fn write_races<W: Write>(
     alloc: Global,
     lab: &mut Lab,
     only: Option<NodeId>,
     writer: &mut Writer<'_, W>,
-) -> Spoken
-    ensures said { Says result (TellsRaces lab.old only) W.contents writer.old writer.new }
+) -> WriteResult
+    ensures said { WritesSome result (TellsRaces lab.old only) W.contents writer.old writer.new }
     ensures same { lab.new ≡ lab.old }
 {
     match find_races(alloc, lab, only) {
         Ok(races) => say_found(only, &races, writer),
-        Err(fault) => writer.say(advised_text(fault)),
+        Err(fault) => writer.write_text(advised_text(fault)),
     }
 }
 
 /// Says the lines of these, and the last one.
-fn say_found<W: Write>(only: Option<NodeId>, races: &Races, writer: &mut Writer<'_, W>) -> Spoken
-    ensures { Says result (λ text. text ≡ listed_text only races.now.list.items races.now.readings.items races.now.looks races.now.quiet)
+fn say_found<W: Write>(
+    only: Option<NodeId>,
+    races: &Races,
+    writer: &mut Writer<'_, W>,
+) -> WriteResult
+    ensures { WritesSome result (λ text. text ≡ listed_text only races.now.list.items races.now.readings.items races.now.looks races.now.quiet)
         W.contents writer.old writer.new }
 {
     let list = races.list.as_slice();
@@ -57,11 +61,11 @@ fn say_found<W: Write>(only: Option<NodeId>, races: &Races, writer: &mut Writer<
 }
 
 /// Writes that `count` lines of steps follow, then each of these passes.
-fn say_list<W: Write>(races: &[Race], count: u64, writer: &mut Writer<'_, W>) -> Spoken
-    ensures { Says result (λ text. text ≡ race_lines_text races.now count)
+fn say_list<W: Write>(races: &[Race], count: u64, writer: &mut Writer<'_, W>) -> WriteResult
+    ensures { WritesSome result (λ text. text ≡ race_lines_text races.now count)
         W.contents writer.old writer.new }
 {
-    writer.say_blocks(head_line(count).as_slice())?;
+    writer.write_blocks(head_line(count).as_slice())?;
     'races: for race in races {
         say_race(*race, writer)?;
     }
@@ -70,31 +74,31 @@ fn say_list<W: Write>(races: &[Race], count: u64, writer: &mut Writer<'_, W>) ->
 
 /// Says each of these, and the last line.
 fn say_rest<W: Write>(
-    readings: &[Reading],
+    readings: &[LookRace],
     last: &'static [u8],
     writer: &mut Writer<'_, W>,
-) -> Spoken
-    ensures { Says result (λ text. text ≡ flat_map reading_text readings.now ++ last.now)
+) -> WriteResult
+    ensures { WritesSome result (λ text. text ≡ flat_map reading_text readings.now ++ last.now)
         W.contents writer.old writer.new }
 {
     'readings: for reading in readings {
         say_reading(*reading, writer)?;
     }
-    writer.say_blocks(last)
+    writer.write_blocks(last)
 }
 
 /// Says a look that could have read otherwise.
-fn say_reading<W: Write>(reading: Reading, writer: &mut Writer<'_, W>) -> Spoken
-    ensures { SaysExactly result (reading_text reading) W.contents writer.old writer.new }
+fn say_reading<W: Write>(reading: LookRace, writer: &mut Writer<'_, W>) -> WriteResult
+    ensures { WritesExactly result (reading_text reading) W.contents writer.old writer.new }
 {
-    writer.say_blocks(reading_line(reading).as_slice())
+    writer.write_blocks(reading_line(reading).as_slice())
 }
 
 /// Says a pass whose reader could have taken another word.
-fn say_race<W: Write>(race: Race, writer: &mut Writer<'_, W>) -> Spoken
-    ensures { SaysExactly result (race_text race) W.contents writer.old writer.new }
+fn say_race<W: Write>(race: Race, writer: &mut Writer<'_, W>) -> WriteResult
+    ensures { WritesExactly result (race_text race) W.contents writer.old writer.new }
 {
-    writer.say_blocks(race_line(race).as_slice())
+    writer.write_blocks(race_line(race).as_slice())
 }
 
 /// How many lines of steps follow.
@@ -110,7 +114,7 @@ fn head_line(count: u64) -> TextBuffer
 
 /// A look with the word that it read, another that it could have read, the change before or after which it would have read
 /// that, and the commands that lead there.
-fn reading_line(reading: Reading) -> TextBuffer
+fn reading_line(reading: LookRace) -> TextBuffer
     ensures { result.items ≡ reading_text reading }
 {
     let (node, step) = back_of(&reading);
@@ -138,7 +142,7 @@ fn side_of(early: bool) -> &'static [u8; 8]
 }
 
 /// The step that is taken back for a look to read the other word.
-fn back_of(reading: &Reading) -> (NodeId, u32)
+fn back_of(reading: &LookRace) -> (NodeId, u32)
     ensures { result ≡ back_of reading.now }
 {
     if reading.early {

@@ -1,17 +1,17 @@
 //! Wait cycles of deadlocked nodes, written line by line.
 
-ghost use Rattle.ga_text.specs.Output.{Says};
+ghost use Rattle.ga_text.specs.Output.{WritesSome};
 ghost use Rattle.std.specs.Prelude.{◌≡◌, ◌+◌, [], Some};
 ghost use Rattle.ga_grid.specs.Grid.{number_where_any};
 ghost use Rattle.ga_grid.specs.Chip.{records_of};
 ghost use Rattle.ga_causal.specs.Dependence.{is_marked};
-ghost use Rattle.ga_explorer_text.specs.Waiting.{awaited_at, sole, sole_awaited, ring_names, ring_line, ring_text, all_rings};
+ghost use Rattle.ga_explorer_text.specs.Waiting.{awaited_at, sole, only_awaited, ring_names, ring_line, wait_cycle_text, all_rings};
 
 use arrayvec::ArrayVec;
 use ga_grid::{Chip, NodeId, neighbour};
 use ga_ports::Side;
 use ga_races::awaits;
-use ga_text::{Spoken, Writer, push_node, push_text};
+use ga_text::{WriteResult, Writer, push_node, push_text};
 use std::io::Write;
 
 /// Room for a line: a name after a space for each node, and one more after the last that is followed.
@@ -21,24 +21,24 @@ const RING_ROOM: usize = b"ring".len() + 145 * b" 717".len() + b"\n".len();
 type RingLine = ArrayVec<u8, RING_ROOM>;
 
 /// Says a line for each ring of marked nodes, each of which awaits the next alone.
-pub(crate) fn say_rings<W: Write>(
+pub(crate) fn write_wait_cycles<W: Write>(
     chip: &Chip,
     stuck: &[bool; 144],
     writer: &mut Writer<'_, W>,
-) -> Spoken
-    ensures { Says result (λ text. text ≡ all_rings (records_of chip.now) (is_marked stuck.now))
+) -> WriteResult
+    ensures { WritesSome result (λ text. text ≡ all_rings (records_of chip.now) (is_marked stuck.now))
         W.contents writer.old writer.new }
 {
     'nodes: for number in 0..144u8 {
         let line = line_of_ring(chip, stuck, NodeId::new(number));
-        writer.say_blocks(line.as_slice())?;
+        writer.write_blocks(line.as_slice())?;
     }
     Ok(())
 }
 
 /// The line of a ring at its node of the lowest number, where that is marked.
 fn line_of_ring(chip: &Chip, stuck: &[bool; 144], node: NodeId) -> RingLine
-    ensures { result.items ≡ ring_text (records_of chip.now) (is_marked stuck.now) node.number }
+    ensures { result.items ≡ wait_cycle_text (records_of chip.now) (is_marked stuck.now) node.number }
 {
     if stuck[node.index()] {
         ring_from(chip, node)
@@ -49,12 +49,12 @@ fn line_of_ring(chip: &Chip, stuck: &[bool; 144], node: NodeId) -> RingLine
 
 /// The line of the wait cycle that leads from a node back to it by nodes of greater numbers; empty if it doesn't.
 fn ring_from(chip: &Chip, first: NodeId) -> RingLine
-    ensures { result.items ≡ ring_line first.number (ring_names (records_of chip.now) first.number 144 (sole_awaited (records_of chip.now) first.number)) }
+    ensures { result.items ≡ ring_line first.number (ring_names (records_of chip.now) first.number 144 (only_awaited (records_of chip.now) first.number)) }
 {
     let mut out = ArrayVec::new();
     push_text(&mut out, b"ring ");
     push_node(&mut out, first);
-    let mut next = sole_awaited(chip, first);
+    let mut next = only_awaited(chip, first);
     'ring: for _ in 0..144u8 {
         let Some(node) = next else {
             return ArrayVec::new();
@@ -68,14 +68,14 @@ fn ring_from(chip: &Chip, first: NodeId) -> RingLine
         }
         push_text(&mut out, b" ");
         push_node(&mut out, node);
-        next = sole_awaited(chip, node);
+        next = only_awaited(chip, node);
     }
     ArrayVec::new()
 }
 
 /// The neighbour that a node awaits, where it awaits no other.
-fn sole_awaited(chip: &Chip, node: NodeId) -> Option<NodeId>
-    ensures { number_where_any result ≡ sole_awaited (records_of chip.now) node.number }
+fn only_awaited(chip: &Chip, node: NodeId) -> Option<NodeId>
+    ensures { number_where_any result ≡ only_awaited (records_of chip.now) node.number }
 {
     let right = awaited_at(chip, node, Side::Right);
     let down = awaited_at(chip, node, Side::Down);

@@ -7,41 +7,41 @@ ghost use Rattle.ga_explorer_text.specs.Texts.{run_text, which_text, fault_word}
 use arrayvec::ArrayVec;
 use ga_display::{advice_text, push_made};
 use ga_lab::LabFault;
-use ga_scheduler::{End, Ran};
-use ga_text::{LINE_ROOM, NUMBER_ROOM, push_number, push_text};
+use ga_scheduler::{RunEnd, RunResult};
+use ga_text::{MAX_LINE_BYTES, MAX_NUMBER_DIGITS, push_number, push_text};
 
 /// The most bytes of a run's line.
-const RUN_ROOM: usize = 2 * LINE_ROOM;
+const RUN_ROOM: usize = 2 * MAX_LINE_BYTES;
 
 /// The text of a run's line.
 pub type RunText = ArrayVec<u8, RUN_ROOM>;
 
 /// How many events a run made, and why no more: where several conditions are asked for, which of them held first; where there is no room,
 /// what to do.
-pub fn ran_text(ran: &Ran, conditions: usize) -> RunText
+pub fn run_result_text(ran: &RunResult, conditions: usize) -> RunText
     ensures { result.items ≡ run_text conditions ran.now.events ran.now.end }
 {
     let mut out = ArrayVec::new();
     match ran.end {
-        End::Reached { made, which } => {
+        RunEnd::Reached { made, which } => {
             push_text(&mut out, b"reached ");
             push_number(&mut out, ran.events);
             push_which(&mut out, conditions, which);
             push_text(&mut out, b" ");
             push_made(&mut out, made);
         }
-        End::Made => push_count(&mut out, b"made ", ran.events, b"\n"),
-        End::Quiet => push_count(&mut out, b"quiet ", ran.events, b"\n"),
-        End::Refused(why) => push_count(&mut out, word_of(why), ran.events, advice_text(why)),
+        RunEnd::Made => push_count(&mut out, b"made ", ran.events, b"\n"),
+        RunEnd::Quiet => push_count(&mut out, b"quiet ", ran.events, b"\n"),
+        RunEnd::Refused(why) => push_count(&mut out, word_of(why), ran.events, advice_text(why)),
     }
     out
 }
 
 /// Adds which of several conditions held, counted from 1, and nothing of one alone.
 fn push_which(out: &mut RunText, conditions: usize, which: u8)
-    requires { array_vec_len out.old + 2 * NUMBER_ROOM ≤ LINE_ROOM }
+    requires { array_vec_len out.old + 2 * MAX_NUMBER_DIGITS ≤ MAX_LINE_BYTES }
     ensures text { out.new.items ≡ out.old.items ++ which_text conditions which }
-    ensures len { array_vec_len out.new ≤ array_vec_len out.old + 2 * NUMBER_ROOM }
+    ensures len { array_vec_len out.new ≤ array_vec_len out.old + 2 * MAX_NUMBER_DIGITS }
 {
     if conditions > 1 {
         push_text(out, b" by ");
@@ -51,7 +51,7 @@ fn push_which(out: &mut RunText, conditions: usize, which: u8)
 
 /// Adds a word, a number and the rest of the line.
 fn push_count(out: &mut RunText, word: &[u8], events: u64, rest: &[u8])
-    requires word { array_vec_len out.old + length word.now ≤ LINE_ROOM }
+    requires word { array_vec_len out.old + length word.now ≤ MAX_LINE_BYTES }
     requires rest { length rest.now ≤ 80 }
     ensures { out.new.items ≡ out.old.items ++ word.now ++ decimal events ++ rest.now }
 {

@@ -3,7 +3,7 @@
 ghost use Rattle.std.specs.Prelude.{◌≡◌, flat_map};
 ghost use Rattle.std.specs.List.{slice_get};
 ghost use Rattle.ga_lab.specs.Machine.{actor_of};
-ghost use Rattle.ga_text.specs.Output.{Says, SaysExactly};
+ghost use Rattle.ga_text.specs.Output.{WritesSome, WritesExactly};
 ghost use Rattle.ga_explorer_text.specs.Saved.{step_line, with_feed, saved_text};
 ghost use Rattle.ga_explorer_text.specs.inner.{actor_in, line_at, cause_line};
 
@@ -11,7 +11,7 @@ use arrayvec::ArrayVec;
 use ga_event::{Cause, Event};
 use ga_grid::NodeId;
 use ga_lab::{Lab, Made};
-use ga_text::{Spoken, TextBuffer, Writer, push_node, push_text};
+use ga_text::{TextBuffer, WriteResult, Writer, push_node, push_text};
 use std::io::Write;
 
 /// `save`: says a line `step NNN` for each kept event. Takes memory for the list of the events, and time by how many they are; where
@@ -19,8 +19,8 @@ use std::io::Write;
 ///
 /// # Errors
 /// A write failed.
-pub fn say_saved<W: Write>(lab: &Lab, writer: &mut Writer<'_, W>) -> Spoken
-    ensures { SaysExactly result (saved_text lab.now) W.contents writer.old writer.new }
+pub fn write_save<W: Write>(lab: &Lab, writer: &mut Writer<'_, W>) -> WriteResult
+    ensures { WritesExactly result (saved_text lab.now) W.contents writer.old writer.new }
 {
     // So the kept events are those that are listed.
     let _chip = lab.chip();
@@ -31,8 +31,8 @@ pub fn say_saved<W: Write>(lab: &Lab, writer: &mut Writer<'_, W>) -> Spoken
 }
 
 /// Says the lines of these events.
-fn say_listed<W: Write>(causes: &[Cause], writer: &mut Writer<'_, W>) -> Spoken
-    ensures { Says result (λ text. text ≡ flat_map cause_line causes.now)
+fn say_listed<W: Write>(causes: &[Cause], writer: &mut Writer<'_, W>) -> WriteResult
+    ensures { WritesSome result (λ text. text ≡ flat_map cause_line causes.now)
         W.contents writer.old writer.new }
 {
     'causes: for cause in causes {
@@ -42,10 +42,10 @@ fn say_listed<W: Write>(causes: &[Cause], writer: &mut Writer<'_, W>) -> Spoken
 }
 
 /// Says the line of an event.
-fn say_event<W: Write>(event: Event, writer: &mut Writer<'_, W>) -> Spoken
-    ensures { SaysExactly result (with_feed (step_line (actor_of event))) W.contents writer.old writer.new }
+fn say_event<W: Write>(event: Event, writer: &mut Writer<'_, W>) -> WriteResult
+    ensures { WritesExactly result (with_feed (step_line (actor_of event))) W.contents writer.old writer.new }
 {
-    writer.say_blocks(step_line(actor_of(event)).as_slice())
+    writer.write_blocks(step_line(actor_of(event)).as_slice())
 }
 
 /// The node that makes the event: of a pass the writer.
@@ -59,8 +59,8 @@ fn actor_of(event: Event) -> NodeId
 }
 
 /// Writes the lines of the history, each of whose events is looked up separately.
-fn say_unlisted<W: Write>(lab: &Lab, writer: &mut Writer<'_, W>) -> Spoken
-    ensures { Says result (λ text. text ≡ saved_text lab.now)
+fn say_unlisted<W: Write>(lab: &Lab, writer: &mut Writer<'_, W>) -> WriteResult
+    ensures { WritesSome result (λ text. text ≡ saved_text lab.now)
         W.contents writer.old writer.new }
 {
     'places: for place in 0..lab.counts().kept {
@@ -70,14 +70,14 @@ fn say_unlisted<W: Write>(lab: &Lab, writer: &mut Writer<'_, W>) -> Spoken
 }
 
 /// Says the line of the event at a place.
-fn say_step<W: Write>(lab: &Lab, place: u32, writer: &mut Writer<'_, W>) -> Spoken
-    ensures { Says result (λ text. text ≡ line_at (slice_get lab.now.kept place))
+fn say_step<W: Write>(lab: &Lab, place: u32, writer: &mut Writer<'_, W>) -> WriteResult
+    ensures { WritesSome result (λ text. text ≡ line_at (slice_get lab.now.kept place))
         W.contents writer.old writer.new }
 {
     // So the history is the one that is written.
     let _chip = lab.chip();
     match lab.made_at(place) {
-        Some(made) => writer.say_blocks(step_line(actor(&made)).as_slice()),
+        Some(made) => writer.write_blocks(step_line(actor(&made)).as_slice()),
         None => Ok(()),
     }
 }

@@ -2,20 +2,20 @@
 
 ghost use Rattle.std.specs.Prelude.{◌≡◌, ◌≤◌, ◌<◌, ◌+◌, ◌++◌};
 ghost use Rattle.arrayvec.specs.ArrayVec.{array_vec_len};
-ghost use Rattle.ga_text.specs.Output.{Says, SaysExactly};
+ghost use Rattle.ga_text.specs.Output.{WritesSome, WritesExactly};
 ghost use Rattle.ga_explorer_text.specs.Trees.{blanks, value_text, did_text, more_text, TellsWhence};
 ghost use Rattle.ga_explorer_text.specs.inner.{is_first};
 
-use crate::deed_text::{DEED_ROOM, push_deed};
-use crate::part_text::{push_mark, push_part};
-use crate::tail_text::Outlook;
+use crate::deed_text::{MAX_ACTION_BYTES, push_action};
+use crate::part_text::{push_part, push_part_suffix};
+use crate::source_suffix::StepContext;
 use arrayvec::ArrayVec;
-use ga_debug_info::Notes;
+use ga_debug_info::DebugInfo;
 use ga_display::{advised_text, refusal_text};
 use ga_grid::NodeId;
 use ga_lab::{Lab, LabFault};
-use ga_provenance::{Row, Value, asked_behind, whence_near};
-use ga_text::{STEP_ROOM, Spoken, TextBuffer, Writer, push_node, push_step, push_text};
+use ga_provenance::{ProvenanceRow, Value, find_provenance_at, queried_value_at};
+use ga_text::{MAX_STEP_BYTES, TextBuffer, WriteResult, Writer, push_node, push_step, push_text};
 use std::alloc::Global;
 use std::io::Write;
 
@@ -23,28 +23,28 @@ use std::io::Write;
 const MOST_ROWS: u32 = 100;
 
 /// The most bytes of a step with what it did.
-const DID_ROOM: usize = STEP_ROOM + 1 + DEED_ROOM;
+const DID_ROOM: usize = MAX_STEP_BYTES + 1 + MAX_ACTION_BYTES;
 
 /// `whence NNN K`: writes the steps whose values went into what a step made, as a tree. The node is walked back to the step
 /// once, and the rest is found from there.
 ///
 /// # Errors
 /// A write failed.
-pub fn say_whence<W: Write>(
+pub fn write_whence<W: Write>(
     alloc: Global,
     lab: &Lab,
-    notes: &Option<Notes>,
+    notes: &Option<DebugInfo>,
     node: NodeId,
     step: u32,
     writer: &mut Writer<'_, W>,
-) -> Spoken
-    ensures { Says result (TellsWhence notes.now lab.now node step) W.contents writer.old writer.new }
+) -> WriteResult
+    ensures { WritesSome result (TellsWhence notes.now lab.now node step) W.contents writer.old writer.new }
 {
-    if !lab.stands((node, step)) {
-        return writer.say(refusal_text(LabFault::NoStep));
+    if !lab.has_step((node, step)) {
+        return writer.write_text(refusal_text(LabFault::NoStep));
     }
-    let here = Outlook::new(lab, notes, node, step);
-    match asked_behind(lab, &here.near, node) {
+    let here = StepContext::new(lab, notes, node, step);
+    match queried_value_at(lab, &here.near, node) {
         Some(value) => here.say_asked(alloc, value, writer),
         None => here.say_head(writer),
     }
@@ -58,7 +58,7 @@ fn more(is_whole: bool) -> &'static [u8]
 }
 
 /// Whether the first of some rows is of this step.
-fn is_first(step: u32, rows: &[Row]) -> bool
+fn is_first(step: u32, rows: &[ProvenanceRow]) -> bool
     ensures { result ≡ is_first step rows.now }
 {
     match rows {
@@ -68,12 +68,12 @@ fn is_first(step: u32, rows: &[Row]) -> bool
 }
 
 /// Says two blanks for each level.
-fn say_blanks<W: Write>(levels: u64, writer: &mut Writer<'_, W>) -> Spoken
-    ensures { SaysExactly result (blanks levels) W.contents writer.old writer.new }
+fn say_blanks<W: Write>(levels: u64, writer: &mut Writer<'_, W>) -> WriteResult
+    ensures { WritesExactly result (blanks levels) W.contents writer.old writer.new }
 {
     let mut left = levels;
     'levels: while left > 0 {
-        writer.say(b"  ")?;
+        writer.write_text(b"  ")?;
         left -= 1;
     }
     Ok(())
@@ -99,7 +99,7 @@ fn value_line(lab: &Lab, value: Value) -> TextBuffer
         push_part(&mut out, value.part);
     } else {
         push_did(&mut out, lab, value.node, value.step);
-        push_mark(&mut out, value.part);
+        push_part_suffix(&mut out, value.part);
     }
     out
 }
@@ -112,36 +112,41 @@ fn push_did(out: &mut TextBuffer, lab: &Lab, node: NodeId, step: u32)
 {
     push_step(out, node, step);
     push_text(out, b" ");
-    if let Some(made) = lab.told(node, step.saturating_sub(1)) {
-        push_deed(out, made, node);
+    if let Some(made) = lab.made_by_step(node, step.saturating_sub(1)) {
+        push_action(out, made, node);
     }
 }
 
-impl<'l> Outlook<'l> {
+impl<'l> StepContext<'l> {
     ghost use Rattle.std.specs.Prelude.{◌≡◌, Some, flat_map};
     ghost use Rattle.ga_event.specs.Flow.{IsPart};
-    ghost use Rattle.ga_text.specs.Output.{Says, SaysExactly};
+    ghost use Rattle.ga_text.specs.Output.{WritesSome, WritesExactly};
     ghost use Rattle.ga_explorer_text.specs.Trees.{tree_row_text, rows_by, head_text, TellsAsked};
     ghost use Rattle.ga_explorer_text.specs.inner.{is_first};
 
     /// Writes the tree of a value for the step to which its node is walked back.
-    fn say_asked<W: Write>(&self, alloc: Global, value: Value, writer: &mut Writer<'_, W>) -> Spoken
+    fn say_asked<W: Write>(
+        &self,
+        alloc: Global,
+        value: Value,
+        writer: &mut Writer<'_, W>,
+    ) -> WriteResult
         requires { IsPart value.part }
-        ensures { Says result (λ text. TellsAsked self.now.notes.now self.now.lab.now self.now.node self.now.near.step (Some value) text)
+        ensures { WritesSome result (λ text. TellsAsked self.now.notes.now self.now.lab.now self.now.node self.now.near.step (Some value) text)
             W.contents writer.old writer.new }
     {
-        match whence_near(alloc, self.lab, &self.near, self.node, value, MOST_ROWS) {
+        match find_provenance_at(alloc, self.lab, &self.near, self.node, value, MOST_ROWS) {
             Ok(listing) => {
                 self.say_rows(listing.rows.as_slice(), writer)?;
-                writer.say_blocks(more(listing.is_whole))
+                writer.write_blocks(more(listing.is_whole))
             }
-            Err(_) => writer.say(advised_text(LabFault::Memory)),
+            Err(_) => writer.write_text(advised_text(LabFault::Memory)),
         }
     }
 
     /// Writes the rows, after the step of the query if this isn't the first of them.
-    fn say_rows<W: Write>(&self, rows: &[Row], writer: &mut Writer<'_, W>) -> Spoken
-        ensures { Says result (λ text. text ≡ rows_by self.now.notes.now self.now.lab.now self.now.node self.now.near.step (is_first self.now.near.step rows.now) rows.now)
+    fn say_rows<W: Write>(&self, rows: &[ProvenanceRow], writer: &mut Writer<'_, W>) -> WriteResult
+        ensures { WritesSome result (λ text. text ≡ rows_by self.now.notes.now self.now.lab.now self.now.node self.now.near.step (is_first self.now.near.step rows.now) rows.now)
             W.contents writer.old writer.new }
     {
         if is_first(self.near.step(), rows) {
@@ -152,17 +157,22 @@ impl<'l> Outlook<'l> {
     }
 
     /// Says the step asked for, to which its node is walked back.
-    fn say_head<W: Write>(&self, writer: &mut Writer<'_, W>) -> Spoken
-        ensures { Says result (λ text. text ≡ head_text self.now.notes.now self.now.lab.now self.now.node self.now.near.step)
+    fn say_head<W: Write>(&self, writer: &mut Writer<'_, W>) -> WriteResult
+        ensures { WritesSome result (λ text. text ≡ head_text self.now.notes.now self.now.lab.now self.now.node self.now.near.step)
             W.contents writer.old writer.new }
     {
-        writer.say_blocks(head_line(self.lab, self.node, self.near.step()).as_slice())?;
+        writer.write_blocks(head_line(self.lab, self.node, self.near.step()).as_slice())?;
         self.say_own_tail(writer)
     }
 
     /// Says the lines of some rows, each so much deeper.
-    fn say_lines<W: Write>(&self, deeper: u8, rows: &[Row], writer: &mut Writer<'_, W>) -> Spoken
-        ensures { Says result (λ text. text ≡ flat_map (tree_row_text self.now.notes.now self.now.lab.now deeper) rows.now)
+    fn say_lines<W: Write>(
+        &self,
+        deeper: u8,
+        rows: &[ProvenanceRow],
+        writer: &mut Writer<'_, W>,
+    ) -> WriteResult
+        ensures { WritesSome result (λ text. text ≡ flat_map (tree_row_text self.now.notes.now self.now.lab.now deeper) rows.now)
             W.contents writer.old writer.new }
     {
         'rows: for row in rows {
@@ -172,11 +182,16 @@ impl<'l> Outlook<'l> {
     }
 
     /// Says the line of a row.
-    pub fn say_row<W: Write>(&self, deeper: u8, row: Row, writer: &mut Writer<'_, W>) -> Spoken
-        ensures { SaysExactly result (tree_row_text self.now.notes.now self.now.lab.now deeper row) W.contents writer.old writer.new }
+    pub fn say_row<W: Write>(
+        &self,
+        deeper: u8,
+        row: ProvenanceRow,
+        writer: &mut Writer<'_, W>,
+    ) -> WriteResult
+        ensures { WritesExactly result (tree_row_text self.now.notes.now self.now.lab.now deeper row) W.contents writer.old writer.new }
     {
         say_blanks(u64::from(row.depth) + u64::from(deeper), writer)?;
-        writer.say_blocks(value_line(self.lab, row.value).as_slice())?;
-        self.say_value_tail(row.value, writer)
+        writer.write_blocks(value_line(self.lab, row.value).as_slice())?;
+        self.write_value_suffix(row.value, writer)
     }
 }

@@ -5,19 +5,21 @@ ghost use Rattle.arrayvec.specs.ArrayVec.{array_vec_len};
 ghost use Rattle.ga_grid.specs.Grid.{number_where_any};
 ghost use Rattle.ga_grid.specs.Chip.{records_of};
 ghost use Rattle.ga_causal.specs.Dependence.{is_marked};
-ghost use Rattle.ga_text.specs.Output.{Says, SaysExactly};
+ghost use Rattle.ga_text.specs.Output.{WritesSome, WritesExactly};
 ghost use Rattle.ga_explorer_text.specs.Waiting.{doing_word, does_text, beside_text, awaited_text, awaiting_text, waiting_text, busy_text, all_waiting, name_if, busy_names, node_count, idle_tail, stuck_line, stuck_text, idle_line, idle_text};
 ghost use Rattle.ga_explorer_text.specs.Telling.{TellsWho};
 
-use super::ring_text::say_rings;
+use super::ring_text::write_wait_cycles;
 use arrayvec::ArrayVec;
 use ga_grid::{Chip, NodeId, neighbour};
 use ga_lab::Lab;
 use ga_node::{Node, Wait};
 use ga_ports::Side;
-use ga_races::{awaits, find_stuck};
+use ga_races::{awaits, find_deadlocked};
 use ga_scheduler::find_idle;
-use ga_text::{NUMBER_ROOM, Spoken, TextBuffer, Writer, push_node, push_number, push_text};
+use ga_text::{
+    MAX_NUMBER_DIGITS, TextBuffer, WriteResult, Writer, push_node, push_number, push_text,
+};
 use std::io::Write;
 
 /// The most bytes of what a node does.
@@ -36,7 +38,7 @@ const NAMES_ROOM: usize = 144 * NAME_ROOM;
 type Names = ArrayVec<u8, NAMES_ROOM>;
 
 /// The most bytes of how many idle nodes there are.
-const IDLE_ROOM: usize = b" and ".len() + NUMBER_ROOM + b" idle".len();
+const IDLE_ROOM: usize = b" and ".len() + MAX_NUMBER_DIGITS + b" idle".len();
 
 /// The most bytes of the line of nodes that can never go on.
 const STUCK_ROOM: usize = b"stuck".len() + NAMES_ROOM + IDLE_ROOM + b"\n".len();
@@ -49,21 +51,21 @@ type StuckLine = ArrayVec<u8, STUCK_ROOM>;
 ///
 /// # Errors
 /// A write failed.
-pub fn say_who<W: Write>(lab: &Lab, writer: &mut Writer<'_, W>) -> Spoken
-    ensures { Says result (TellsWho lab.now) W.contents writer.old writer.new }
+pub fn write_who<W: Write>(lab: &Lab, writer: &mut Writer<'_, W>) -> WriteResult
+    ensures { WritesSome result (TellsWho lab.now) W.contents writer.old writer.new }
 {
     let chip = lab.chip();
-    let stuck = find_stuck(chip);
+    let stuck = find_deadlocked(chip);
     let idle = find_idle(lab);
     say_waiting(chip, &idle, writer)?;
-    writer.say_blocks(stuck_line(&stuck, &idle).as_slice())?;
-    say_rings(chip, &stuck, writer)?;
-    writer.say_blocks(idle_line(&idle).as_slice())
+    writer.write_blocks(stuck_line(&stuck, &idle).as_slice())?;
+    write_wait_cycles(chip, &stuck, writer)?;
+    writer.write_blocks(idle_line(&idle).as_slice())
 }
 
 /// Says the lines of the nodes that wait and are not idle.
-fn say_waiting<W: Write>(chip: &Chip, idle: &[bool; 144], writer: &mut Writer<'_, W>) -> Spoken
-    ensures { Says result (λ text. text ≡ all_waiting (records_of chip.now) (is_marked idle.now))
+fn say_waiting<W: Write>(chip: &Chip, idle: &[bool; 144], writer: &mut Writer<'_, W>) -> WriteResult
+    ensures { WritesSome result (λ text. text ≡ all_waiting (records_of chip.now) (is_marked idle.now))
         W.contents writer.old writer.new }
 {
     'nodes: for number in 0..144u8 {
@@ -78,10 +80,10 @@ fn say_node<W: Write>(
     idle: &[bool; 144],
     node: NodeId,
     writer: &mut Writer<'_, W>,
-) -> Spoken
-    ensures { SaysExactly result (busy_text (records_of chip.now) (is_marked idle.now) node.number) W.contents writer.old writer.new }
+) -> WriteResult
+    ensures { WritesExactly result (busy_text (records_of chip.now) (is_marked idle.now) node.number) W.contents writer.old writer.new }
 {
-    writer.say_blocks(busy_line(chip, idle, node).as_slice())
+    writer.write_blocks(busy_line(chip, idle, node).as_slice())
 }
 
 /// The line of a node that waits, where it is not idle.

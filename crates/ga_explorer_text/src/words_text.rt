@@ -1,16 +1,16 @@
 //! The transferred words of a link, written line by line.
 
 ghost use Rattle.std.specs.Prelude.{◌≡◌};
-ghost use Rattle.ga_text.specs.Output.{Says, SaysExactly};
+ghost use Rattle.ga_text.specs.Output.{WritesSome, WritesExactly};
 ghost use Rattle.ga_explorer_text.specs.Texts.{sent_text, words_head, linked_text, link_words_text};
 
 use arrayvec::ArrayVec;
 use ga_grid::NodeId;
 use ga_lab::Lab;
 use ga_races::are_linked;
-use ga_scheduler::{Sent, Words, count_words};
+use ga_scheduler::{Transfer, TransferIter, count_transfers};
 use ga_text::{
-    Spoken, TextBuffer, Writer, push_node, push_number, push_spaced, push_step, push_text,
+    TextBuffer, WriteResult, Writer, push_node, push_number, push_spaced, push_step, push_text,
 };
 use std::io::Write;
 
@@ -18,29 +18,34 @@ use std::io::Write;
 ///
 /// # Errors
 /// A write failed.
-pub fn say_words<W: Write>(
+pub fn write_words<W: Write>(
     lab: &Lab,
     from: NodeId,
     to: NodeId,
     writer: &mut Writer<'_, W>,
-) -> Spoken
-    ensures { Says result (λ text. text ≡ link_words_text lab.now from to) W.contents writer.old writer.new }
+) -> WriteResult
+    ensures { WritesSome result (λ text. text ≡ link_words_text lab.now from to) W.contents writer.old writer.new }
 {
     if are_linked(from, to) {
         say_linked(lab, from, to, writer)
     } else {
-        writer.say(b"no 34 nolink\n")
+        writer.write_text(b"no 34 nolink\n")
     }
 }
 
 /// Says how many words of a link are kept, then each of them.
-fn say_linked<W: Write>(lab: &Lab, from: NodeId, to: NodeId, writer: &mut Writer<'_, W>) -> Spoken
-    ensures { Says result (λ text. text ≡ linked_text lab.now from to)
+fn say_linked<W: Write>(
+    lab: &Lab,
+    from: NodeId,
+    to: NodeId,
+    writer: &mut Writer<'_, W>,
+) -> WriteResult
+    ensures { WritesSome result (λ text. text ≡ linked_text lab.now from to)
         W.contents writer.old writer.new }
 {
-    let count = count_words(lab, from, to);
-    writer.say_blocks(head_line(from, to, count).as_slice())?;
-    let mut words = Words::new(from, to);
+    let count = count_transfers(lab, from, to);
+    writer.write_blocks(head_line(from, to, count).as_slice())?;
+    let mut words = TransferIter::new(from, to);
     'telling: for _ in 0..count {
         let Some(sent) = words.next(lab) else {
             return Ok(());
@@ -51,10 +56,15 @@ fn say_linked<W: Write>(lab: &Lab, from: NodeId, to: NodeId, writer: &mut Writer
 }
 
 /// Says a word of a link.
-fn say_sent<W: Write>(from: NodeId, to: NodeId, sent: &Sent, writer: &mut Writer<'_, W>) -> Spoken
-    ensures { SaysExactly result (sent_text from to sent.now) W.contents writer.old writer.new }
+fn say_sent<W: Write>(
+    from: NodeId,
+    to: NodeId,
+    sent: &Transfer,
+    writer: &mut Writer<'_, W>,
+) -> WriteResult
+    ensures { WritesExactly result (sent_text from to sent.now) W.contents writer.old writer.new }
 {
-    writer.say_blocks(sent_line(from, to, sent).as_slice())
+    writer.write_blocks(sent_line(from, to, sent).as_slice())
 }
 
 /// The link, and how many words of it are kept.
@@ -73,7 +83,7 @@ fn head_line(from: NodeId, to: NodeId, count: u32) -> TextBuffer
 }
 
 /// A word: its number, the steps of both ends and itself.
-fn sent_line(from: NodeId, to: NodeId, sent: &Sent) -> TextBuffer
+fn sent_line(from: NodeId, to: NodeId, sent: &Transfer) -> TextBuffer
     ensures { result.items ≡ sent_text from to sent.now }
 {
     let mut out = ArrayVec::new();

@@ -1,29 +1,29 @@
 //! The steps that wrote a cell, written line by line.
 
 ghost use Rattle.std.specs.Prelude.{◌≡◌, ◌<◌, Some};
-ghost use Rattle.ga_text.specs.Output.{Says};
+ghost use Rattle.ga_text.specs.Output.{WritesSome};
 ghost use Rattle.ga_event.specs.Told.{steps_of};
 ghost use Rattle.ga_explorer_text.specs.Writing.{written_text, cell_writes, writes_text};
 
-use crate::deed_text::push_deed;
+use crate::deed_text::push_action;
 use arrayvec::ArrayVec;
 use ga_grid::NodeId;
 use ga_lab::Lab;
 use ga_provenance::{CellWrite, CellWrites};
-use ga_text::{Spoken, TextBuffer, Writer, push_spaced, push_step, push_text};
+use ga_text::{TextBuffer, WriteResult, Writer, push_spaced, push_step, push_text};
 use std::io::Write;
 
 /// `writes NNN HH`: writes the steps of a node that wrote at an address of its memory, the newest first. Allocates nothing.
 ///
 /// # Errors
 /// A write failed.
-pub fn say_writes<W: Write>(
+pub fn write_writes<W: Write>(
     lab: &Lab,
     node: NodeId,
     address: u8,
     writer: &mut Writer<'_, W>,
-) -> Spoken
-    ensures { Says result (λ text. text ≡ writes_text lab.now node address) W.contents writer.old writer.new }
+) -> WriteResult
+    ensures { WritesSome result (λ text. text ≡ writes_text lab.now node address) W.contents writer.old writer.new }
 {
     if address < 128 {
         say_cell(lab, node, address % 64, writer)
@@ -33,14 +33,14 @@ pub fn say_writes<W: Write>(
 }
 
 /// Says the steps that wrote a cell of RAM.
-fn say_cell<W: Write>(lab: &Lab, node: NodeId, cell: u8, writer: &mut Writer<'_, W>) -> Spoken
+fn say_cell<W: Write>(lab: &Lab, node: NodeId, cell: u8, writer: &mut Writer<'_, W>) -> WriteResult
     requires { cell < 64 }
-    ensures { Says result (λ text. text ≡ cell_writes lab.now node cell (steps_of node.number lab.now.kept))
+    ensures { WritesSome result (λ text. text ≡ cell_writes lab.now node cell (steps_of node.number lab.now.kept))
         W.contents writer.old writer.new }
 {
     let mut writes = CellWrites::new(lab, node, cell);
     'going: while let Some(written) = writes.next() {
-        writer.say_blocks(written_line(node, written).as_slice())?;
+        writer.write_blocks(written_line(node, written).as_slice())?;
     }
     Ok(())
 }
@@ -53,7 +53,7 @@ fn written_line(node: NodeId, written: CellWrite) -> TextBuffer
     let mut out = ArrayVec::new();
     push_step(&mut out, node, step);
     push_text(&mut out, b" ");
-    push_deed(&mut out, made, node);
+    push_action(&mut out, made, node);
     push_spaced(&mut out, word);
     push_text(&mut out, b"\n");
     out

@@ -269,8 +269,8 @@ whole_from : (nodes : List NodeRecord) → AllByRecursion IsSoundRecord nodes �
 whole_from [] sound steady = tt
 whole_from (node ∷ nodes) sound steady = ((sound.0, steady 0 (omega arith)), whole_from nodes sound.1 (λ n small. steady (suc n) (omega arith)))
 
-pub prints_back : (nodes : List NodeRecord) → AreSound nodes → AreSteady nodes → Describes (lines_of (printed nodes)) nodes
-prints_back nodes sound steady =
+pub print_parse_round_trips : (nodes : List NodeRecord) → AreSound nodes → AreSteady nodes → Describes (lines_of (printed nodes)) nodes
+print_parse_round_trips nodes sound steady =
     let size = sound.size in
     let whole = whole_from nodes sound.each (λ n small. steady n (omega arith)) in
     let blocks = blocks_from 0 nodes in

@@ -17,7 +17,7 @@ pub fn images_are_short()
 
 /// Reading line after line accepts the images alone, each with its chip, and answers the first fault of any other text: so a
 /// text is an image of one chip or has one first fault, and never both.
-pub fn reading_tells()
+pub fn reader_agrees_with_grammar()
     ensures images { (texts : List (List ℕ)) (chip : List NodeState) →
         IsImage texts chip ↔ (reading start 1 texts ≡ Ok chip) }
     ensures faults { (texts : List (List ℕ)) (fault : ImageFault) →
@@ -26,8 +26,8 @@ pub fn reading_tells()
 
 /// The printed text of a chip is an image of a chip with the same records, if in each node the wait, the slot and the stop are
 /// consistent. Reading it gives the chip back, unless an allocation fails.
-#[tactic(auto, using(crate::proofs::PrintedBack::prints_back))]
-pub fn prints_back()
+#[tactic(auto, using(crate::proofs::PrintedBack::print_parse_round_trips))]
+pub fn print_parse_round_trips()
     ensures { (nodes : List NodeRecord) → AreSound nodes → AreSteady nodes → Describes (lines_of (printed nodes)) nodes }
 {}
 

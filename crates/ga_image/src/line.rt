@@ -9,7 +9,7 @@ use super::field::{Bank, Field};
 use arrayvec::ArrayVec;
 use ga_grid::node_number;
 use ga_ports::set_number;
-use ga_text::byte_of;
+use ga_text::parse_hex_byte;
 use ga_word::Word18;
 
 /// A line after the header.
@@ -57,7 +57,7 @@ fn cells_line(bank: Bank, text: &[u8]) -> Option<Line>
         return None;
     }
     let (digits, rest) = text.split_at(2);
-    let cell = byte_of(digits)?;
+    let cell = parse_hex_byte(digits)?;
     let words = read_words(rest)?;
     Some(Line::Words(bank.field(cell), words))
 }

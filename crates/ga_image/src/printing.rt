@@ -52,7 +52,7 @@ const RETURN_WORDS: u8 = 9;
 ///
 /// # Errors
 /// `Memory` alone, at line 0.
-#[tactic(auto, using(crate::proofs::PrintedBack::prints_back))]
+#[tactic(auto, using(crate::proofs::PrintedBack::print_parse_round_trips))]
 pub fn print(alloc: Global, chip: &Chip) -> Result<Vec<u8>, ImageFault>
     // The text is the one that the records determine.
     ensures text { IfOk result (λ text. text.items ≡ printed (records_of chip.now)) }

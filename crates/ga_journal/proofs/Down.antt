@@ -6,10 +6,10 @@ use Rattle.std.proofs.lemmas.List.Sums.{sum_by-append}
 use Rattle.ga_event.specs.declared.event.Event.{Event}
 use Rattle.ga_event.specs.declared.event.Cause.{Cause}
 use Rattle.ga_event.specs.Touches.{touches}
-use Rattle.ga_event.specs.Apply.{Told}
+use Rattle.ga_event.specs.Apply.{EventOutcome}
 use Rattle.ga_journal.specs.declared.fault.JournalFault.{JournalFault}
 use Rattle.ga_journal.specs.declared.since.Since.{Since}
-use Rattle.ga_journal.specs.Histories.{Past, history, Book}
+use Rattle.ga_journal.specs.Histories.{EntryRecord, history, JournalState}
 use Rattle.ga_journal.specs.inner.Histories.{Held, lists_of, Keeps, cut, older_causes, older_events, WalksBack, IsFirst, IsWalked, pasts_of, IsUntold, IsToldAt, AreTold}
 use Rattle.ga_event.specs.Told.{steps_of, events_in, events_told, made_in}
 use Rattle.ga_journal.specs.Logs.{Stamped, Records, IsSince, IsWhole}
@@ -22,14 +22,14 @@ use Rattle.std.proofs.Math.Seq.{drop-cons}
 use Rattle.std.proofs.lemmas.List.Elements.{All-head, All-tail}
 
 -- how many steps of a node are left is what is not walked of its history
-pub left_steps : (hs : List (List Past)) (lengths : List ℕ) (top n : ℕ) (log : List Stamped) → length hs ≡ 144 → length lengths ≡ 144 → n < 144 → WalksBack hs lengths top log
+pub left_steps : (hs : List (List EntryRecord)) (lengths : List ℕ) (top n : ℕ) (log : List Stamped) → length hs ≡ 144 → length lengths ≡ 144 → n < 144 → WalksBack hs lengths top log
     → slice_index lengths n ≡ steps_of n (older_events log)
 left_steps hs lengths top n log size all at w =
     sym (ap length (history-cut hs lengths n (omega (arith, size, at)) (omega (arith, all, at))) ∙ length-take-le (slice_index lengths n) (history hs n) (w.fits n))
     ∙ steps_older log top n (cut hs lengths) w.records.order w.records.histories
 
 -- i events are walked back, and the step was within the list before the last of them
-pub record IsDown (hs : List (List Past)) (lengths : List ℕ) (top : ℕ) (log : List Stamped) (n k : ℕ) (items : List Cause) (i : ℕ) : Type 0 where
+pub record IsDown (hs : List (List EntryRecord)) (lengths : List ℕ) (top : ℕ) (log : List Stamped) (n k : ℕ) (items : List Cause) (i : ℕ) : Type 0 where
   pub walk : WalksBack hs lengths top (drop i log)
   pub list : items ≡ map cause_at (take i log)
   pub stood : k ≤ steps_of n (older_events (drop (i - 1) log))
@@ -47,23 +47,23 @@ some_left (x ∷ older) zero n k some l = omega arith
 some_left (x ∷ older) (suc i) n k some l = let h = some_left older i n k some l in omega (arith, h)
 
 -- how many steps are left, by the walk
-down_steps : (hs : List (List Past)) (lengths : List ℕ) (top : ℕ) (log : List Stamped) (n k : ℕ) (items : List Cause) (i : ℕ) → length hs ≡ 144 → length lengths ≡ 144 → n < 144 → k ≤ slice_index lengths n → IsDown hs lengths top log n k items i
+down_steps : (hs : List (List EntryRecord)) (lengths : List ℕ) (top : ℕ) (log : List Stamped) (n k : ℕ) (items : List Cause) (i : ℕ) → length hs ≡ 144 → length lengths ≡ 144 → n < 144 → k ≤ slice_index lengths n → IsDown hs lengths top log n k items i
     → k ≤ steps_of n (older_events (drop i log))
 down_steps hs lengths top log n k items i size all at l d = subst (λ (z : ℕ). k ≤ z) (left_steps hs lengths top n (drop i log) size all at d.walk) l
 
-pub down_within : (hs : List (List Past)) (lengths : List ℕ) (top : ℕ) (log : List Stamped) (n k : ℕ) (items : List Cause) (i : ℕ) → length hs ≡ 144 → length lengths ≡ 144 → n < 144 → 0 < k → k ≤ slice_index lengths n → IsDown hs lengths top log n k items i
+pub down_within : (hs : List (List EntryRecord)) (lengths : List ℕ) (top : ℕ) (log : List Stamped) (n k : ℕ) (items : List Cause) (i : ℕ) → length hs ≡ 144 → length lengths ≡ 144 → n < 144 → 0 < k → k ≤ slice_index lengths n → IsDown hs lengths top log n k items i
     → i < length log
 down_within hs lengths top log n k items i size all at some l d = some_left log i n k some (down_steps hs lengths top log n k items i size all at l d)
 
 -- so one is left to be walked
-pub down_some : (hs : List (List Past)) (lengths : List ℕ) (top : ℕ) (log : List Stamped) (n k kept before : ℕ) (items : List Cause) → length hs ≡ 144 → length lengths ≡ 144 → n < 144 → 0 < k → k ≤ slice_index lengths n → kept ≡ length log
+pub down_some : (hs : List (List EntryRecord)) (lengths : List ℕ) (top : ℕ) (log : List Stamped) (n k kept before : ℕ) (items : List Cause) → length hs ≡ 144 → length lengths ≡ 144 → n < 144 → 0 < k → k ≤ slice_index lengths n → kept ≡ length log
     → before + length items ≡ kept → IsDown hs lengths top log n k items (kept - before) → 0 < before
 down_some hs lengths top log n k kept before items size all at some l long count d =
     let within : kept - before < length log = down_within hs lengths top log n k items (kept - before) size all at some l d in
     omega (arith, within, long, count)
 
 -- at first
-pub down_first : (hs : List (List Past)) (lengths : List ℕ) (top : ℕ) (log : List Stamped) (n k : ℕ) (items : List Cause) → length hs ≡ 144 → length lengths ≡ 144 → ((m : ℕ) → m < 144 → slice_index lengths m ≡ length (history hs m))
+pub down_first : (hs : List (List EntryRecord)) (lengths : List ℕ) (top : ℕ) (log : List Stamped) (n k : ℕ) (items : List Cause) → length hs ≡ 144 → length lengths ≡ 144 → ((m : ℕ) → m < 144 → slice_index lengths m ≡ length (history hs m))
     → Records log hs top → k ≤ length (history hs n) → items ≡ [] → IsDown hs lengths top log n k items 0
 down_first hs lengths top log n k items size all same r l none = record {
   walk = walk_whole hs lengths top log size all same r;
@@ -72,7 +72,7 @@ down_first hs lengths top log n k items size all same r l none = record {
 }
 
 -- an event more is walked
-pub down_more : (hs : List (List Past)) (lengths more : List ℕ) (top now : ℕ) (log : List Stamped) (n k : ℕ) (items all : List Cause) (i : ℕ) (e : Cause) (told : Made) → length hs ≡ 144 → length lengths ≡ 144 → n < 144
+pub down_more : (hs : List (List EntryRecord)) (lengths more : List ℕ) (top now : ℕ) (log : List Stamped) (n k : ℕ) (items all : List Cause) (i : ℕ) (e : Cause) (told : Made) → length hs ≡ 144 → length lengths ≡ 144 → n < 144
     → 0 < k → k ≤ slice_index lengths n → IsDown hs lengths top log n k items i → IsFirst (drop i log) e told → IsWalked hs more now (drop i log) → all ≡ items ++ e ∷ [] → IsDown hs more now log n k all (suc i)
 down_more hs lengths more top now log n k items all i e told size whole at some l d first walked is = record {
   walk = walked_drop hs more now log i (down_within hs lengths top log n k items i size whole at some l d) walked;
@@ -85,7 +85,7 @@ events_older : (log : List Stamped) → events_in (older_causes log) ≡ older_e
 events_older log = ap events_in (older_causes_are log) ∙ sym (older_are log)
 
 length-older : (log : List Stamped) → length (older_causes log) ≡ length log
-length-older log = ap length (older_causes_are log) ∙ length-map (tellings log) (λ (y : Cause × Told). y.0) ∙ length-tellings log
+length-older log = ap length (older_causes_are log) ∙ length-map (tellings log) (λ (y : Cause × EventOutcome). y.0) ∙ length-tellings log
 
 step_more : (n : ℕ) (xs : List Event) (e : Event) → steps_of n (xs ++ e ∷ []) ≡ steps_of n xs + cond (touches e n) 1 0
 step_more n xs e = sum_by-append (λ (y : Event). cond (touches y n) 1 0) xs (e ∷ []) ∙ ap (λ (z : ℕ). steps_of n xs + z) (let h : 0 + cond (touches e n) 1 0 ≡ cond (touches e n) 1 0 = omega arith in h)
@@ -141,7 +141,7 @@ stopped log n k m steps zero within l below is =
 stopped log n k m steps (suc i) within l below is =
     since_of log i n k m steps within (subst (λ (j : ℕ). k ≤ steps_of n (older_events (drop j log))) (let y : suc i - 1 ≡ i = omega arith in y) l) below is
 
-pub down_last : (hs : List (List Past)) (lengths : List ℕ) (top : ℕ) (log : List Stamped) (n k m before steps : ℕ) (items all : List Cause) (i : ℕ) → length hs ≡ 144 → length lengths ≡ 144 → n < 144 → m < 144 → i ≤ length log → length log - i ≡ before
+pub down_last : (hs : List (List EntryRecord)) (lengths : List ℕ) (top : ℕ) (log : List Stamped) (n k m before steps : ℕ) (items all : List Cause) (i : ℕ) → length hs ≡ 144 → length lengths ≡ 144 → n < 144 → m < 144 → i ≤ length log → length log - i ≡ before
     → slice_index lengths n < k → IsDown hs lengths top log n k items i → all ≡ reverse items → steps ≡ slice_index lengths m → IsSince (older_causes log) n k m all before steps
 down_last hs lengths top log n k m before steps items all i size whole at there within count l d is other =
     subst (λ z. IsSince (older_causes log) n k m z before steps) (sym (is ∙ ap reverse d.list))
@@ -191,7 +191,7 @@ older_dropped (x ∷ older) (suc j) place q =
     older_dropped older j place (omega (arith, q)) ∙ sym (take-append-le place (older_events older) (x.event ∷ []) (omega (arith, n, q)))
 
 -- at first no event was read
-pub none_told : (vecs : List Held) (lengths : List ℕ) (top kept : ℕ) (book : Book) → book.histories ≡ lists_of vecs → (kept_is : kept ≡ length (kept_of book)) → Keeps vecs top book.made kept book.limit → IsWhole book.histories book.made
+pub none_told : (vecs : List Held) (lengths : List ℕ) (top kept : ℕ) (book : JournalState) → book.histories ≡ lists_of vecs → (kept_is : kept ≡ length (kept_of book)) → Keeps vecs top book.made kept book.limit → IsWhole book.histories book.made
     → length vecs ≡ 144 → length lengths ≡ 144 → ((n : ℕ) → n < 144 → slice_index lengths n ≡ length (history (lists_of vecs) n)) → IsUntold book lengths top kept
 none_told vecs lengths top kept book is kept_is k whole size all same =
     let log : List Stamped = whole.log in
@@ -209,7 +209,7 @@ none_told vecs lengths top kept book is kept_is k whole size all same =
     }
 
 -- the event that is read, and the place reached then
-pub told_next : (book : Book) (lengths : List ℕ) (top place : ℕ) (cause : Cause) (made : Made) → 0 < place → (u : IsUntold book lengths top place)
+pub told_next : (book : JournalState) (lengths : List ℕ) (top place : ℕ) (cause : Cause) (made : Made) → 0 < place → (u : IsUntold book lengths top place)
     → ((log : List Stamped) → WalksBack book.histories lengths top log → IsFirst log cause made) → made_in (kept_of book) (place - 1) ≡ Some made
 told_next book lengths top place cause made some u first =
     let w = u.within in
@@ -217,7 +217,7 @@ told_next book lengths top place cause made some u first =
     ap (λ kept. made_in kept (place - 1)) (kept_log u.log book u.records)
     ∙ (at_place u.log (length u.log - place) (place - 1) cause made q (first (drop (length u.log - place) u.log) u.walks)).made
 
-pub left_next : (book : Book) (lengths more : List ℕ) (top now place : ℕ) → 0 < place → length more ≡ 144 → (u : IsUntold book lengths top place)
+pub left_next : (book : JournalState) (lengths more : List ℕ) (top now place : ℕ) → 0 < place → length more ≡ 144 → (u : IsUntold book lengths top place)
     → ((log : List Stamped) → WalksBack book.histories lengths top log → IsWalked book.histories more now log) → IsUntold book more now (place - 1)
 left_next book lengths more top now place some all u left =
     let w = u.within in
@@ -232,14 +232,14 @@ left_next book lengths more top now place some all u left =
     }
 
 -- how many steps of a node are left
-pub steps_left : (book : Book) (lengths : List ℕ) (top place n : ℕ) → n < 144 → (u : IsUntold book lengths top place) → slice_index lengths n ≡ steps_of n (take place (events_of book))
+pub steps_left : (book : JournalState) (lengths : List ℕ) (top place n : ℕ) → n < 144 → (u : IsUntold book lengths top place) → slice_index lengths n ≡ steps_of n (take place (events_of book))
 steps_left book lengths top place n at u =
     let w = u.within in
     left_steps book.histories lengths top n (drop (length u.log - place) u.log) (ap length u.records.histories ∙ length-built u.log) u.size at u.walks
     ∙ ap (steps_of n) (older_dropped u.log (length u.log - place) place (omega (arith, w)))
     ∙ ap (λ events. steps_of n (take place events)) (older_are u.log ∙ ap events_told (sym (kept_log u.log book u.records)))
 
-pub place_within : (book : Book) (lengths : List ℕ) (top place : ℕ) → (u : IsUntold book lengths top place) → place ≤ length (kept_of book)
+pub place_within : (book : JournalState) (lengths : List ℕ) (top place : ℕ) → (u : IsUntold book lengths top place) → place ≤ length (kept_of book)
 place_within book lengths top place u =
     let w = u.within in
     let n : length (kept_of book) ≡ length u.log = ap length (kept_log u.log book u.records) ∙ length-tellings u.log in
@@ -251,7 +251,7 @@ place_within book lengths top place u =
 pub left_long : (log : List Stamped) (kept left place : ℕ) → kept ≡ length log → left ≤ kept → left - place ≤ length (drop (kept - left) log)
 left_long log kept left place long within = let n : length (drop (kept - left) log) ≡ length log - (kept - left) = length-drop (kept - left) log in omega (arith, n)
 
-pub walked_on : (hs : List (List Past)) (lengths : List ℕ) (top : ℕ) (log : List Stamped) (kept left place : ℕ) → left ≤ kept → place < left
+pub walked_on : (hs : List (List EntryRecord)) (lengths : List ℕ) (top : ℕ) (log : List Stamped) (kept left place : ℕ) → left ≤ kept → place < left
     → WalksBack hs lengths top (drop (left - place) (drop (kept - left) log)) → WalksBack hs lengths top (drop (kept - place) log)
 walked_on hs lengths top log kept left place within l w =
     subst (λ n. WalksBack hs lengths top (drop n log)) (let q : kept - left + (left - place) ≡ kept - place = omega arith in q)

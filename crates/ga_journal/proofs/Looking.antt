@@ -13,7 +13,7 @@ use Rattle.ga_journal.specs.declared.entry.Part.{Part}
 use Rattle.ga_journal.specs.declared.entry.Part.TheVariants.{Own, Look, Passed}
 use Rattle.ga_journal.specs.declared.entry.Pass.{Pass}
 use Rattle.ga_journal.specs.declared.entry.Entry.{Entry}
-use Rattle.ga_journal.specs.Histories.{Past, deed}
+use Rattle.ga_journal.specs.Histories.{EntryRecord, own_outcome}
 use Rattle.ga_journal.specs.inner.Histories.{Rises, IsPastNewest}
 use Rattle.ga_journal.specs.Events.{has_looked_in}
 use Rattle.ga_journal.specs.Looks.{HasLook, IsNewestLook, HasNoLook, IsLookAfter, HasNoLookAfter}
@@ -49,16 +49,16 @@ keep_other ps qs at n m a b (e ∷ es) f num h = (
 )
 
 -- an own event more
-own_looked : (ps : List Pass) (kind : Kind) (look : Bool) (place : ℕ) → looked_in ps (own_part (deed kind look)) place ≡ place
+own_looked : (ps : List Pass) (kind : Kind) (look : Bool) (place : ℕ) → looked_in ps (own_part (own_outcome kind look)) place ≡ place
 own_looked ps kind true place = refl
 own_looked ps kind false place = refl
 
-pub own_more : (es : List Entry) (ps : List Pass) (looked : ℕ) (e : Entry) (kind : Kind) (look : Bool) → IsHistory es ps looked → e.part ≡ own_part (deed kind look) → e.place ≡ looked
-    → IsHistory (es ++ e ∷ []) ps (looked_after looked (length es) (own_part (deed kind look)))
+pub own_more : (es : List Entry) (ps : List Pass) (looked : ℕ) (e : Entry) (kind : Kind) (look : Bool) → IsHistory es ps looked → e.part ≡ own_part (own_outcome kind look) → e.place ≡ looked
+    → IsHistory (es ++ e ∷ []) ps (looked_after looked (length es) (own_part (own_outcome kind look)))
 own_more es ps looked e kind look h part place = record {
   numbered = own_numbered es (length ps) e kind look h.numbered part;
   looks = subst (λ z. KeepLooks ps 0 0 (es ++ e ∷ []) z)
-      (ap (λ z. looked_after looked (0 + length es) z) part ∙ ap (λ z. looked_after looked z (own_part (deed kind look))) (let q : 0 + length es ≡ length es = omega arith in q))
+      (ap (λ z. looked_after looked (0 + length es) z) part ∙ ap (λ z. looked_after looked z (own_part (own_outcome kind look))) (let q : 0 + length es ≡ length es = omega arith in q))
       (keep_push ps 0 0 looked es e h.looks (ap (λ z. looked_in ps z e.place) part ∙ own_looked ps kind look e.place ∙ place));
 }
 
@@ -99,10 +99,10 @@ act_looks ps (Passed Writer) place = refl
 act_looks ps (Passed Reader) place = refl
 
 -- no look more
-past_blind : (h : List Past) (at n : ℕ) (e : Past) → IsPastNewest h at n → slice_get h at ≡ Some e → has_looked_in e.act ≡ false → IsPastNewest h (at + 1) n
+past_blind : (h : List EntryRecord) (at n : ℕ) (e : EntryRecord) → IsPastNewest h at n → slice_get h at ≡ Some e → has_looked_in e.act ≡ false → IsPastNewest h (at + 1) n
 past_blind h at zero e t found blind = λ p f l g. ⊎_elim
     (λ k. t p f k g)
-    (λ k. ap (λ (z : Past). has_looked_in z.act) (same_Some f e (sym g ∙ ap (slice_get h) (let q : p ≡ at = omega (arith, l, k) in q) ∙ found)) ∙ blind)
+    (λ k. ap (λ (z : EntryRecord). has_looked_in z.act) (same_Some f e (sym g ∙ ap (slice_get h) (let q : p ≡ at = omega (arith, l, k) in q) ∙ found)) ∙ blind)
     (cases_lt p at)
 past_blind h at (suc n) e t found blind = record {
   entry = t.entry;
@@ -111,12 +111,12 @@ past_blind h at (suc n) e t found blind = record {
   looked = t.looked;
   newest = λ p f above l g. ⊎_elim
       (λ k. t.newest p f above k g)
-      (λ k. ap (λ (z : Past). has_looked_in z.act) (same_Some f e (sym g ∙ ap (slice_get h) (let q : p ≡ at = omega (arith, l, k) in q) ∙ found)) ∙ blind)
+      (λ k. ap (λ (z : EntryRecord). has_looked_in z.act) (same_Some f e (sym g ∙ ap (slice_get h) (let q : p ≡ at = omega (arith, l, k) in q) ∙ found)) ∙ blind)
       (cases_lt p at);
 }
 
 -- an entry on
-past_next : (h : List Past) (at n : ℕ) (e : Past) (part : Part) → IsPastNewest h at n → slice_get h at ≡ Some e → has_looked_in e.act ≡ part_looks part → IsPastNewest h (at + 1) (looked_after n at part)
+past_next : (h : List EntryRecord) (at n : ℕ) (e : EntryRecord) (part : Part) → IsPastNewest h at n → slice_get h at ≡ Some e → has_looked_in e.act ≡ part_looks part → IsPastNewest h (at + 1) (looked_after n at part)
 past_next h at n e (Own kind) t found is = past_blind h at n e t found is
 past_next h at n e (Look kind) t found is =
     subst (λ z. IsPastNewest h (at + 1) z) (sym (add-one at))
@@ -124,7 +124,7 @@ past_next h at n e (Look kind) t found is =
 past_next h at n e (Passed role) t found is = past_blind h at n e t found is
 
 -- what each entry keeps
-pub past_at : (h : List Past) (ps : List Pass) (at n m : ℕ) (es : List Entry) (i : ℕ) (e : Entry) → ((j : ℕ) → slice_get h (at + j) ≡ slice_get (map (past_in ps) es) j) → IsPastNewest h at n → KeepLooks ps at n es m
+pub past_at : (h : List EntryRecord) (ps : List Pass) (at n m : ℕ) (es : List Entry) (i : ℕ) (e : Entry) → ((j : ℕ) → slice_get h (at + j) ≡ slice_get (map (past_in ps) es) j) → IsPastNewest h at n → KeepLooks ps at n es m
     → i < length es → e ≡ get_or es i e → IsPastNewest h (at + i) (looked_in ps e.part e.place)
 past_at h ps at n m [] i e same t k l is = absurd (omega (arith, l))
 past_at h ps at n m (x ∷ xs) zero e same t k l is =
@@ -136,7 +136,7 @@ past_at h ps at n m (x ∷ xs) (suc i) e same t k l is =
     (λ j. ap (slice_get h) (let q : (at + 1) + j ≡ at + suc j = omega arith in q) ∙ same (suc j))
     (past_next h at n (past_in ps x) x.part t (ap (slice_get h) (let q : at ≡ at + 0 = omega arith in q) ∙ same 0) (act_looks ps x.part x.place)) k.1 (omega (arith, l)) is)
 
-pub past_end : (h : List Past) (ps : List Pass) (at n m : ℕ) (es : List Entry) → ((j : ℕ) → slice_get h (at + j) ≡ slice_get (map (past_in ps) es) j) → IsPastNewest h at n → KeepLooks ps at n es m → IsPastNewest h (at + length es) m
+pub past_end : (h : List EntryRecord) (ps : List Pass) (at n m : ℕ) (es : List Entry) → ((j : ℕ) → slice_get h (at + j) ≡ slice_get (map (past_in ps) es) j) → IsPastNewest h at n → KeepLooks ps at n es m → IsPastNewest h (at + length es) m
 past_end h ps at n m [] same t k = subst (λ z. IsPastNewest h (at + 0) z) k (subst (λ z. IsPastNewest h z n) (let q : at ≡ at + 0 = omega arith in q) t)
 past_end h ps at n m (x ∷ xs) same t k =
     subst (λ z. IsPastNewest h z m) (let q : (at + 1) + length xs ≡ at + suc (length xs) = omega arith in q)
@@ -145,35 +145,35 @@ past_end h ps at n m (x ∷ xs) same t k =
     (past_next h at n (past_in ps x) x.part t (ap (slice_get h) (let q : at ≡ at + 0 = omega arith in q) ∙ same 0) (act_looks ps x.part x.place)) k.1)
 
 -- at first there is none
-pub none_first : (h : List Past) → IsPastNewest h 0 0
+pub none_first : (h : List EntryRecord) → IsPastNewest h 0 0
 none_first h p e l g = absurd (omega (arith, l))
 
-pub past_none : (h : List Past) (mark n : ℕ) → n ≡ 0 → IsPastNewest h mark n → HasNoLook h mark
+pub past_none : (h : List EntryRecord) (mark n : ℕ) → n ≡ 0 → IsPastNewest h mark n → HasNoLook h mark
 past_none h mark zero q t = t
 past_none h mark (suc n) q t = absurd (omega (arith, q))
 
-pub past_some : (h : List Past) (mark n : ℕ) → 0 < n → IsPastNewest h mark n → IsNewestLook h mark (n - 1)
+pub past_some : (h : List EntryRecord) (mark n : ℕ) → 0 < n → IsPastNewest h mark n → IsNewestLook h mark (n - 1)
 past_some h mark zero l t = absurd (omega (arith, l))
 past_some h mark (suc n) l t = subst (λ z. IsNewestLook h mark z) (let q : n ≡ suc n - 1 = omega arith in q) t
 
 -- the newest look, and an entry of another history
-pub look_first : (h : List Past) (mark : ℕ) (others : List Past) (place at stamp : ℕ) (e f : Past) → (k : IsNewestLook h mark at) → slice_get others place ≡ Some f → f.stamp ≡ stamp → slice_get h at ≡ Some e → stamp < e.stamp
+pub look_first : (h : List EntryRecord) (mark : ℕ) (others : List EntryRecord) (place at stamp : ℕ) (e f : EntryRecord) → (k : IsNewestLook h mark at) → slice_get others place ≡ Some f → f.stamp ≡ stamp → slice_get h at ≡ Some e → stamp < e.stamp
     → IsLookAfter h mark others place at
 look_first h mark others place at stamp e f k first is found l = record {
   look = k;
   gone = f;
   first = first;
-  after = let q : k.entry.stamp ≡ e.stamp = ap (λ (z : Past). z.stamp) (same_Some k.entry e (sym k.found ∙ found)) in omega (arith, q, is, l);
+  after = let q : k.entry.stamp ≡ e.stamp = ap (λ (z : EntryRecord). z.stamp) (same_Some k.entry e (sym k.found ∙ found)) in omega (arith, q, is, l);
 }
 
-pub look_before : (h : List Past) (mark : ℕ) (others : List Past) (place at stamp top : ℕ) (e f : Past) → Rises 0 h top → IsNewestLook h mark at → slice_get others place ≡ Some f → f.stamp ≡ stamp → slice_get h at ≡ Some e → e.stamp ≤ stamp
+pub look_before : (h : List EntryRecord) (mark : ℕ) (others : List EntryRecord) (place at stamp top : ℕ) (e f : EntryRecord) → Rises 0 h top → IsNewestLook h mark at → slice_get others place ≡ Some f → f.stamp ≡ stamp → slice_get h at ≡ Some e → e.stamp ≤ stamp
     → HasNoLookAfter h mark others place
 look_before h mark others place at stamp top e f rise k first is found l p x y below there looked gone =
-    let s : y.stamp ≡ stamp = ap (λ (z : Past). z.stamp) (same_Some y f (sym gone ∙ first)) ∙ is in
+    let s : y.stamp ≡ stamp = ap (λ (z : EntryRecord). z.stamp) (same_Some y f (sym gone ∙ first)) ∙ is in
     ⊎_elim
     (λ j. let q = entries_ordered 0 top p at h x e rise there found j in omega (arith, q, s, l))
     (λ j. ⊎_elim
-    (λ i. let q : x.stamp ≡ e.stamp = ap (λ (z : Past). z.stamp) (same_Some x e (sym there ∙ ap (slice_get h) i ∙ found)) in omega (arith, q, s, l))
+    (λ i. let q : x.stamp ≡ e.stamp = ap (λ (z : EntryRecord). z.stamp) (same_Some x e (sym there ∙ ap (slice_get h) i ∙ found)) in omega (arith, q, s, l))
     (λ ne. absurd (looks_blind (k.newest p x (omega (arith, j, ne)) below there) looked))
     (cases_eq p at))
     (cases_lt p at)
@@ -182,14 +182,14 @@ look_before h mark others place at stamp top e f rise k first is found l p x y b
     looks_blind q r = cc
 
 -- whether a history has a look at all
-pub some_looked : (items : List Past) (looked : ℕ) → IsPastNewest items (length items) looked → OnTrue (not (nat_eq looked 0)) (HasLook items)
+pub some_looked : (items : List EntryRecord) (looked : ℕ) → IsPastNewest items (length items) looked → OnTrue (not (nat_eq looked 0)) (HasLook items)
 some_looked items zero h = tt
 some_looked items (suc at) h = subst (λ b. OnTrue (not b) (HasLook items)) (sym (ne_eqb (suc at) 0 (λ q. omega (arith, q)))) (at, h.entry, h.found, h.looked)
 
-pub none_looked : (items : List Past) (looked : ℕ) → IsPastNewest items (length items) looked → OnFalse (not (nat_eq looked 0)) (HasNoLook items (length items))
+pub none_looked : (items : List EntryRecord) (looked : ℕ) → IsPastNewest items (length items) looked → OnFalse (not (nat_eq looked 0)) (HasNoLook items (length items))
 none_looked items zero h = h
 none_looked items (suc at) h = subst (λ b. OnFalse (not b) (HasNoLook items (length items))) (sym (ne_eqb (suc at) 0 (λ q. omega (arith, q)))) tt
 
 -- where there is none, none came after anything
-pub none_after : (items : List Past) (mark : ℕ) (others : List Past) (place : ℕ) → HasNoLook items (length items) → HasNoLookAfter items mark others place
+pub none_after : (items : List EntryRecord) (mark : ℕ) (others : List EntryRecord) (place : ℕ) → HasNoLook items (length items) → HasNoLookAfter items mark others place
 none_after items mark others place none p e f below found looked first = absurd (both_ways (has_looked_in e.act) (none p e (slice_get_within items p e found) found) looked)

@@ -12,7 +12,7 @@ use Rattle.ga_journal.specs.declared.entry.Part.{Part}
 use Rattle.ga_journal.specs.declared.entry.Part.TheVariants.{Own, Look, Passed}
 use Rattle.ga_journal.specs.declared.entry.Pass.{Pass}
 use Rattle.ga_journal.specs.declared.entry.Entry.{Entry}
-use Rattle.ga_journal.specs.Histories.{Past, past, deed}
+use Rattle.ga_journal.specs.Histories.{EntryRecord, past, own_outcome}
 use Rattle.ga_journal.specs.inner.Histories.{bound_from, bound_of}
 use Rattle.ga_journal.specs.inner.Stored.{own_part, act_with, no_pass, act_in, past_in, passes_in, Names, IsBelow, IsDropped, AreNumbered, IsHistory}
 use Rattle.ga_journal.proofs.Walks.{entry_in_front}
@@ -123,11 +123,11 @@ none_bound ps [] h = refl
 none_bound ps (x ∷ xs) h = absurd (omega (arith, h))
 
 -- an own event more
-act_own : (ps : List Pass) (kind : Kind) (look : Bool) (place : ℕ) → act_in ps (own_part (deed kind look)) place ≡ act.Own (deed kind look)
+act_own : (ps : List Pass) (kind : Kind) (look : Bool) (place : ℕ) → act_in ps (own_part (own_outcome kind look)) place ≡ act.Own (own_outcome kind look)
 act_own ps kind true place = refl
 act_own ps kind false place = refl
 
-pub pasts_deed : (ps : List Pass) (es : List Entry) (e : Entry) (kind : Kind) (look : Bool) → e.part ≡ own_part (deed kind look) → map (past_in ps) (es ++ e ∷ []) ≡ map (past_in ps) es ++ past e.stamp (act.Own (deed kind look)) e.saved ∷ []
+pub pasts_deed : (ps : List Pass) (es : List Entry) (e : Entry) (kind : Kind) (look : Bool) → e.part ≡ own_part (own_outcome kind look) → map (past_in ps) (es ++ e ∷ []) ≡ map (past_in ps) es ++ past e.stamp (act.Own (own_outcome kind look)) e.saved ∷ []
 pasts_deed ps es e kind look part =
     pasts_own ps es e ∙ ap (λ z. map (past_in ps) es ++ past e.stamp z e.saved ∷ []) (ap (λ z. act_in ps z e.place) part ∙ act_own ps kind look e.place)
 
@@ -186,7 +186,7 @@ set_last es all first e k is long =
     ap (λ z. set z k e) is ∙ ap (λ z. set (es ++ first ∷ []) z e) q ∙ set_end es first e
 
 -- an own event more is numbered
-pub own_numbered : (es : List Entry) (m : ℕ) (e : Entry) (kind : Kind) (look : Bool) → AreNumbered 0 es m → e.part ≡ own_part (deed kind look) → AreNumbered 0 (es ++ e ∷ []) m
+pub own_numbered : (es : List Entry) (m : ℕ) (e : Entry) (kind : Kind) (look : Bool) → AreNumbered 0 es m → e.part ≡ own_part (own_outcome kind look) → AreNumbered 0 (es ++ e ∷ []) m
 own_numbered es m e kind true h part =
     subst (λ z. AreNumbered 0 (es ++ e ∷ []) z) (ap (λ (p : Part). m + passes_in p) part ∙ add-zero m)
     (numbered_push 0 m es e h (subst (λ (p : Part). Names p e.place m) (sym part) tt))
@@ -205,10 +205,10 @@ some_entries ps [] h = h
 some_entries ps (x ∷ xs) h = omega arith
 
 -- an entry that was read, in the first entries of the history
-pub read_back : (ps : List Pass) (es : List Entry) (all : List Past) (from at : ℕ) (e : Entry) → all ≡ map (past_in ps) es → at < from → from ≤ length all → e ≡ get_or es at e → slice_get (take from all) at ≡ Some (past_in ps e)
+pub read_back : (ps : List Pass) (es : List Entry) (all : List EntryRecord) (from at : ℕ) (e : Entry) → all ≡ map (past_in ps) es → at < from → from ≤ length all → e ≡ get_or es at e → slice_get (take from all) at ≡ Some (past_in ps e)
 read_back ps es all from at e same l within read =
     let long : length all ≡ length es = ap length same ∙ length-map es (past_in ps) in
-    entry_in_front all from at (past_in ps e) l (ap (λ (h : List Past). slice_get h at) same ∙ pasts_at ps es at e (omega (arith, long, l, within)) read)
+    entry_in_front all from at (past_in ps e) l (ap (λ (h : List EntryRecord). slice_get h at) same ∙ pasts_at ps es at e (omega (arith, long, l, within)) read)
 
 -- the last entry, read before it is taken out
 pub popped_end : (ps : List Pass) (es new : List Entry) (e : Entry) (i n : ℕ) → 0 < bound_of (map (past_in ps) es) → i ≡ length es - 1 → n ≡ length es → e ≡ get_or es i e → new ≡ take (n - 1) es → es ≡ new ++ e ∷ []
@@ -229,7 +229,7 @@ ended ps es read e n looked same long some at stored =
 -- ---- entries read from the last one back
 
 -- how many entries are read
-pub slice_length : (ps : List Pass) (es slice : List Entry) (all : List Past) (from to : ℕ) → all ≡ map (past_in ps) es → from ≤ length all → slice ≡ take (from - to) (drop to es) → length slice ≡ from - to
+pub slice_length : (ps : List Pass) (es slice : List Entry) (all : List EntryRecord) (from to : ℕ) → all ≡ map (past_in ps) es → from ≤ length all → slice ≡ take (from - to) (drop to es) → length slice ≡ from - to
 slice_length ps es slice all from to same within is =
     let long : length all ≡ length es = ap length same ∙ length-map es (past_in ps) in
     let after : length (drop to es) ≡ length es - to = length-drop to es in
@@ -248,7 +248,7 @@ left_before slice left rest e first last =
     ∙ take-take (length rest) (length left) slice (omega (arith, long))
 
 -- the last entry of what is left
-pub read_last_left : (ps : List Pass) (es slice left rest : List Entry) (all : List Past) (from to : ℕ) (e : Entry) → all ≡ map (past_in ps) es → to ≤ from → from ≤ length all → slice ≡ take (from - to) (drop to es)
+pub read_last_left : (ps : List Pass) (es slice left rest : List Entry) (all : List EntryRecord) (from to : ℕ) (e : Entry) → all ≡ map (past_in ps) es → to ≤ from → from ≤ length all → slice ≡ take (from - to) (drop to es)
     → left ≡ take (length left) slice → left ≡ rest ++ e ∷ [] → slice_get (take from all) (to + length rest) ≡ Some (past_in ps e)
 read_last_left ps es slice left rest all from to e same order within is first last =
     let long = longer left rest e last in

@@ -10,16 +10,16 @@ use ga_node::{Node, Place};
 /// A journal whose events are also read as a list. These calls read entries that no tick counts; code that gets a reference to
 /// the journal only, as a rollback does, can neither make them nor reset the count.
 #[derive(Drop)]
-pub struct Chronicle {
+pub struct OrderedJournal {
     pub journal: Journal,
 }
 
-impl Chronicle {
+impl OrderedJournal {
     ghost use Rattle.std.specs.Prelude.{◌≡◌, ◌<◌, ◌≤◌, ◌+◌, ◌^◌, ◌↔◌, length, map, take, drop, Some, IfOk, IfErr, IsNone};
     ghost use Rattle.std.specs.List.{slice_get, All};
     ghost use Rattle.std.specs.List.Sorted.{IsStrictlyIncreasing};
-    ghost use Rattle.ga_journal.specs.Histories.{no_work, history, untold};
-    ghost use Rattle.ga_journal.specs.Walked.{walked, CanWalk, overwritten};
+    ghost use Rattle.ga_journal.specs.Histories.{no_work, history, backward_of};
+    ghost use Rattle.ga_journal.specs.Walked.{walked_back, CanWalk, overwritten};
     ghost use Rattle.ga_journal.specs.Events.{kept_of, causes_in_book, events_of};
     ghost use Rattle.ga_event.specs.Told.{steps_of, mades_of, made_in};
     ghost use Rattle.ga_journal.specs.Logs.{IsSince, IsWhole};
@@ -37,11 +37,11 @@ impl Chronicle {
     }
 
     /// The event at a place of those of the history that touch a node, from 0 on; none past their end.
-    pub fn told(&self, node: NodeId, place: u32) -> Option<Made>
+    pub fn made_by_step(&self, node: NodeId, place: u32) -> Option<Made>
         requires { IsWhole self.now.journal.histories self.now.journal.made }
         ensures { result ≡ slice_get (mades_of (kept_of self.now.journal) node.number) place }
     {
-        self.journal.told(node, place)
+        self.journal.made_by_step(node, place)
     }
 
     /// What a place of a node held before its step, the one at a position from 0 on: P, A, B, the wait or a cell of RAM. None where the
@@ -58,7 +58,7 @@ impl Chronicle {
         requires order { to ≤ from }
         requires within { from ≤ length (history self.now.journal.histories node.number) }
         requires can { CanWalk now.old (drop to (take from (history self.now.journal.histories node.number))) }
-        ensures { now.new ≡ walked now.old (drop to (take from (history self.now.journal.histories node.number))) }
+        ensures { now.new ≡ walked_back now.old (drop to (take from (history self.now.journal.histories node.number))) }
     {
         self.journal.walk_back(node, now, from, to);
     }
@@ -100,7 +100,7 @@ impl Chronicle {
     /// A reader of the history from the newest event back, which has read none yet.
     pub fn backward(&self) -> BackwardEvents<'_>
         requires { IsWhole self.now.journal.histories self.now.journal.made }
-        ensures { result ≡ untold self.now.journal (length (kept_of self.now.journal)) }
+        ensures { result ≡ backward_of self.now.journal (length (kept_of self.now.journal)) }
     {
         self.journal.backward()
     }

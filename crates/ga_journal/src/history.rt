@@ -5,7 +5,7 @@ ghost use Rattle.ga_journal.specs.inner.Stored.{own_part, act_in, looked_in, loo
 
 use crate::entry::{Act, Entry, Head, Part, Pass, Role, Taken};
 use crate::fault::JournalFault;
-use ga_event::{Deed, apply_own, restore};
+use ga_event::{OwnOutcome, apply_own, undo_node};
 use ga_grid::{Chip, NodeId};
 use ga_node::{Kind, Node, Saved};
 use std::alloc::Global;
@@ -47,8 +47,8 @@ fn act_of(passes: &Vec<Pass>, part: Part, place: u32) -> Act
     ensures { result ≡ act_in passes.now.items part place }
 {
     match part {
-        Part::Own(kind) => Act::Own(Deed { kind, look: false }),
-        Part::Look(kind) => Act::Own(Deed { kind, look: true }),
+        Part::Own(kind) => Act::Own(OwnOutcome { kind, look: false }),
+        Part::Look(kind) => Act::Own(OwnOutcome { kind, look: true }),
         Part::Passed(role) => {
             let Pass {
                 partner,
@@ -90,7 +90,7 @@ fn looked_before(passes: &Vec<Pass>, part: Part, place: u32) -> u32
 
 /// The part of a node in its own event.
 #[inline(always)]
-fn part_of(deed: Deed) -> Part
+fn part_of(deed: OwnOutcome) -> Part
     ensures { result ≡ own_part deed }
 {
     if deed.look {
@@ -115,7 +115,7 @@ fn looked_with(looked: u32, at: usize, part: Part) -> u32
 
 /// Where a node's own event at this position is a look, it is the newest one from now on.
 #[inline(always)]
-fn note_look(looked: &mut u32, at: usize, deed: Deed)
+fn note_look(looked: &mut u32, at: usize, deed: OwnOutcome)
     requires { at + 1 < 2 ^ 32 }
     ensures { looked.new ≡ looked_after looked.old at (own_part deed) }
 {
@@ -142,7 +142,7 @@ fn drop_pass(passes: &mut Vec<Pass>, part: Part)
 impl History {
     ghost use Rattle.std.specs.Prelude.{◌≡◌, ◌+◌, ◌<◌, ◌^◌, ◌++◌, ◌∷◌, [], length, IsTrue, OnOk, OnErr, IfErr, IfSome, IfNone, None, take, drop};
     ghost use Rattle.std.specs.Bool.{OnTrue, OnFalse};
-    ghost use Rattle.ga_journal.specs.Walked.{walked, CanWalk};
+    ghost use Rattle.ga_journal.specs.Walked.{walked_back, CanWalk};
     ghost use Rattle.ga_node.specs.Record.{record_of};
     ghost use Rattle.ga_node.specs.Table.{refusal};
     ghost use Rattle.ga_grid.specs.Chip.{node_at};
@@ -282,7 +282,7 @@ impl History {
 
     /// Adds an own event.
     #[inline(always)]
-    pub fn push_own(&mut self, stamp: u64, deed: Deed, saved: Saved, before: NodeId)
+    pub fn push_own(&mut self, stamp: u64, deed: OwnOutcome, saved: Saved, before: NodeId)
         requires room { IsTrue self.old.room.entry }
         requires fits { length self.old.items + 1 < 2 ^ 32 }
         ensures { self.new.items ≡ self.old.items ++ past stamp (Act.Own deed) saved ∷ [] }
@@ -322,7 +322,13 @@ impl History {
 
     /// Makes an own event of the node on the chip, whose overwritten values go straight into its entry.
     #[inline(always)]
-    pub fn make_own(&mut self, chip: &mut Chip, node: NodeId, stamp: u64, before: NodeId) -> Deed
+    pub fn make_own(
+        &mut self,
+        chip: &mut Chip,
+        node: NodeId,
+        stamp: u64,
+        before: NodeId,
+    ) -> OwnOutcome
         requires ready { refusal (record_of (node_at chip.old node.number)) ≡ None }
         requires room { IsTrue self.old.room.entry }
         requires fits { length self.old.items + 1 < 2 ^ 32 }
@@ -377,7 +383,7 @@ impl History {
     {
         let last = self.entries.as_slice().len() - 1;
         let entry = &self.entries[last];
-        restore(chip, node, &entry.saved);
+        undo_node(chip, node, &entry.saved);
         let part = entry.part;
         let place = entry.place;
         let _ = self.entries.pop();

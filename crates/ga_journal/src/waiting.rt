@@ -5,14 +5,14 @@ use std::marker::Model;
 
 /// A flag for each pending node, and a window that contains all of them, so that not every flag is read.
 #[derive(Drop)]
-pub(crate) struct Waiting {
+pub(crate) struct PendingNodes {
     flags: [bool; 144],
     // The least node that may wait, and one past the greatest.
     first: u8,
     past: u8,
 }
 
-impl Model for Waiting {
+impl Model for PendingNodes {
     ghost use Rattle.std.specs.Prelude.{Bool, List};
     ghost use Rattle.ga_journal.specs.inner.Histories.{IsWindow};
 
@@ -23,7 +23,7 @@ impl Model for Waiting {
     ghost invariant = { λ w. IsWindow w.flags w.first w.past };
 }
 
-impl Waiting {
+impl PendingNodes {
     ghost use Rattle.std.specs.Prelude.{◌≡◌, ◌<◌, ℕ, length, true, false, slice_index_or, slice_set, IfSome, IfNone};
 
     /// No node waits.
@@ -31,7 +31,7 @@ impl Waiting {
         ensures size { length result ≡ 144 }
         ensures none { (n : ℕ) → slice_index_or result n false ≡ false }
     {
-        Waiting {
+        PendingNodes {
             flags: [false; 144],
             first: 144,
             past: 0,
@@ -65,7 +65,7 @@ impl Waiting {
 
     /// Takes one of the nodes that wait out.
     #[inline(always)]
-    pub fn take(&mut self) -> Option<NodeId>
+    pub fn pop(&mut self) -> Option<NodeId>
         ensures some { IfSome result (λ node. slice_index_or self.old node.number false ≡ true) }
         ensures taken { IfSome result (λ node. self.new ≡ slice_set self.old node.number false) }
         ensures none { IfNone result ((n : ℕ) → slice_index_or self.old n false ≡ false) }

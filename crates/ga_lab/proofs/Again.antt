@@ -4,17 +4,17 @@ use Rattle.std.specs.Prelude.{Result, IsSome, nat_le, not}
 use Rattle.ga_node.specs.declared.kind.NotReady.{NotReady}
 use Rattle.ga_node.specs.Record.{NodeRecord}
 use Rattle.ga_event.specs.declared.event.Event.{Event}
-use Rattle.ga_event.specs.Apply.{replay, Told, apply, after, unless, run}
+use Rattle.ga_event.specs.Apply.{replay, EventOutcome, apply, after, when_allowed, run}
 use Rattle.ga_event.specs.Next.{next}
 use Rattle.ga_lab.specs.declared.fault.LabFault.TheVariants.{Full, Spent}
-use Rattle.ga_lab.specs.Machine.{State, first, chip_of, told_next, answer_to, with_event, unless_refused, causes_of, rewound, actor_of, stepped_all}
-use Rattle.ga_lab.specs.Calls.{MachineCall, step, undo, rewind, called, called_all, IsReached}
+use Rattle.ga_lab.specs.Machine.{State, initial_state, chip_of, made_next, answer_to, with_event, unless_refused, causes_of, rewound, actor_of, stepped_all}
+use Rattle.ga_lab.specs.Calls.{MachineCall, step, undo, rewind, after_call, after_calls, IsReached}
 use Rattle.ga_lab.proofs.Called.{Runs, runs_some, first_runs, call_runs}
-use Rattle.ga_lab.proofs.Causal.{less_of, kept_fits, events_length as events_size}
+use Rattle.ga_lab.proofs.Causal.{less_of, limit_is_respected, events_length as events_size}
 use Rattle.std.proofs.lemmas.List.{length_push}
 use Rattle.std.proofs.lemmas.Option.{same_Some}
 use Rattle.ga_event.specs.declared.event.Cause.{Cause}
-use Rattle.ga_causal.specs.Dependence.{NoneLooks, dependents, without, rest, place_of, rest_from}
+use Rattle.ga_causal.specs.Dependence.{HasNoLooks, dependents, unflagged, rest, position_of_step, rest_from}
 use Rattle.ga_event.specs.Told.{events_in}
 use Rattle.ga_causal.specs.Equivalence.{AreEquivalent}
 use Rattle.ga_causal.proofs.Runs.{first_of_run, replay_equivalent}
@@ -36,59 +36,59 @@ pub some_reached : (s : State) → IsReached s → IsSome (replay s.load s.kept)
 some_reached s h = runs_some s (runs_reached s h)
 
 pub kept_reached : (s : State) → IsReached s → length s.kept ≤ s.limit
-kept_reached s h = subst (λ z. length z.kept ≤ z.limit) h.is ((kept_fits s.load s.limit h.calls).0)
+kept_reached s h = subst (λ z. length z.kept ≤ z.limit) h.is ((limit_is_respected s.load s.limit h.calls).0)
 
 -- the count of made events stays below 2^64
 step_counts : (s : State) (o : Result Event NotReady) → s.made < 2 ^ 64 → (unless_refused s (answer_to s o) (with_event s o)).made < 2 ^ 64
 step_counts s (Err why) l = l
 step_counts s (Ok e) l = two (nat_le s.limit (length s.kept)) (nat_le (2 ^ 64 - 1) s.made) (λ f. less_of (2 ^ 64 - 1) s.made f)
   where
-    two : (full spent : Bool) → (spent ≡ false → s.made < 2 ^ 64 - 1) → (unless_refused s (cond full (Err Full) (cond spent (Err Spent) (Ok (told_next s e)))) (with_event s (Ok e))).made < 2 ^ 64
+    two : (full spent : Bool) → (spent ≡ false → s.made < 2 ^ 64 - 1) → (unless_refused s (cond full (Err Full) (cond spent (Err Spent) (Ok (made_next s e)))) (with_event s (Ok e))).made < 2 ^ 64
     two true spent h = l
     two false true h = l
     two false false h = let m : s.made < 2 ^ 64 - 1 = h refl in let g : s.made + 1 < 2 ^ 64 = omega (arith, m) in g
 
-call_counts : (s : State) (call : MachineCall) → s.made < 2 ^ 64 → (called s call).made < 2 ^ 64
+call_counts : (s : State) (call : MachineCall) → s.made < 2 ^ 64 → (after_call s call).made < 2 ^ 64
 call_counts s (step n) l = step_counts s (next (chip_of s) n) l
 call_counts s undo l = l
 call_counts s (rewind n k) l = l
 
-calls_count : (s : State) (calls : List MachineCall) → s.made < 2 ^ 64 → (called_all s calls).made < 2 ^ 64
+calls_count : (s : State) (calls : List MachineCall) → s.made < 2 ^ 64 → (after_calls s calls).made < 2 ^ 64
 calls_count s [] l = l
-calls_count s (call ∷ calls) l = calls_count (called s call) calls (call_counts s call l)
+calls_count s (call ∷ calls) l = calls_count (after_call s call) calls (call_counts s call l)
 
-pub made_below : (load : List NodeRecord) (limit : ℕ) (calls : List MachineCall) → (called_all (first load limit) calls).made < 2 ^ 64
-made_below load limit calls = calls_count (first load limit) calls (omega arith)
+pub made_below : (load : List NodeRecord) (limit : ℕ) (calls : List MachineCall) → (after_calls (initial_state load limit) calls).made < 2 ^ 64
+made_below load limit calls = calls_count (initial_state load limit) calls (omega arith)
 
 pub count_reached : (s : State) → IsReached s → length s.kept < 2 ^ 64
 count_reached s h = subst (λ z. length z.kept < 2 ^ 64) h.is (
-    let k : length (called_all (first s.load s.limit) h.calls).kept ≤ (called_all (first s.load s.limit) h.calls).made = (kept_fits s.load s.limit h.calls).1 in
-    let l : (called_all (first s.load s.limit) h.calls).made < 2 ^ 64 = made_below s.load s.limit h.calls in
+    let k : length (after_calls (initial_state s.load s.limit) h.calls).kept ≤ (after_calls (initial_state s.load s.limit) h.calls).made = (limit_is_respected s.load s.limit h.calls).1 in
+    let l : (after_calls (initial_state s.load s.limit) h.calls).made < 2 ^ 64 = made_below s.load s.limit h.calls in
     omega (arith, k, l)
     )
 
 -- the history fits the limit and the count
-pub fits : (load : List NodeRecord) (limit : ℕ) (calls : List MachineCall) → (length (called_all (first load limit) calls).kept ≤ (called_all (first load limit) calls).limit)
-    × (length (called_all (first load limit) calls).kept ≤ (called_all (first load limit) calls).made) × ((called_all (first load limit) calls).made < 2 ^ 64)
-fits load limit calls = let k = kept_fits load limit calls in (k.0, k.1, made_below load limit calls)
+pub fits : (load : List NodeRecord) (limit : ℕ) (calls : List MachineCall) → (length (after_calls (initial_state load limit) calls).kept ≤ (after_calls (initial_state load limit) calls).limit)
+    × (length (after_calls (initial_state load limit) calls).kept ≤ (after_calls (initial_state load limit) calls).made) × ((after_calls (initial_state load limit) calls).made < 2 ^ 64)
+fits load limit calls = let k = limit_is_respected load limit calls in (k.0, k.1, made_below load limit calls)
 
 -- what can follow the first part of a list
-rest_some : (load c : List NodeRecord) (xs ys : List Event) (ts : List (Cause × Told)) → run load xs ≡ Some (c, ts) → IsSome (replay load (xs ++ ys)) → IsSome (replay c ys)
-rest_some load c [] ys ts h some = subst (λ z. IsSome (replay z ys)) (ap (λ (z : List NodeRecord × List (Cause × Told)). z.0) (same_Some (load, []) (c, ts) h)) some
+rest_some : (load c : List NodeRecord) (xs ys : List Event) (ts : List (Cause × EventOutcome)) → run load xs ≡ Some (c, ts) → IsSome (replay load (xs ++ ys)) → IsSome (replay c ys)
+rest_some load c [] ys ts h some = subst (λ z. IsSome (replay z ys)) (ap (λ (z : List NodeRecord × List (Cause × EventOutcome)). z.0) (same_Some (load, []) (c, ts) h)) some
 rest_some load c (x ∷ xs) ys ts h some =
     let m = first_of_run load x xs c ts h in
     let a : Applied load x (xs ++ ys) = applied load x (xs ++ ys) some in
-    rest_some m.mid c xs ys m.others m.then (subst (λ (z : List NodeRecord × Told). IsSome (replay z.0 (xs ++ ys))) (after_is load m.mid x m.told m.first) a.others)
+    rest_some m.mid c xs ys m.others m.then (subst (λ (z : List NodeRecord × EventOutcome). IsSome (replay z.0 (xs ++ ys))) (after_is load m.mid x m.told m.first) a.others)
 
 -- steps of these nodes make these events again
-made_on : (s : State) (c : List NodeRecord) (xs : List Event) (ts : List (Cause × Told)) (ys : List Event) (m : ℕ) → run s.load xs ≡ Some (c, ts) → IsSome (replay c ys)
+made_on : (s : State) (c : List NodeRecord) (xs : List Event) (ts : List (Cause × EventOutcome)) (ys : List Event) (m : ℕ) → run s.load xs ≡ Some (c, ts) → IsSome (replay c ys)
     → length xs + length ys ≤ s.limit → m + length ys < 2 ^ 64 → stepped_all (keeping s xs m) (map actor_of ys) ≡ keeping s (xs ++ ys) (m + length ys)
 made_on s c xs ts [] m ran some room count =
     let none : m + 0 ≡ m = omega arith in
     ap (λ z. keeping s z m) (sym (append-nil xs)) ∙ ap (λ (z : ℕ). keeping s (xs ++ []) z) (sym none)
 made_on s c xs ts (y ∷ ys) m ran some room count =
     let a : Applied c y ys = applied c y ys some in
-    let made : apply c y ≡ Some ((after c y).0, (after c y).1) = ap (λ o. unless o (after c y)) a.can in
+    let made : apply c y ≡ Some ((after c y).0, (after c y).1) = ap (λ o. when_allowed o (after c y)) a.can in
     let more : length (xs ++ y ∷ []) ≡ length xs + 1 = length_push xs y in
     let r2 : length xs + (length ys + 1) ≤ s.limit = (let w : length (y ∷ ys) ≡ length ys + 1 = omega arith in let v : length xs + length (y ∷ ys) ≤ s.limit = room in omega (arith, v, w)) in
     let c2 : m + (length ys + 1) < 2 ^ 64 = (let w : length (y ∷ ys) ≡ length ys + 1 = omega arith in let v : m + length (y ∷ ys) < 2 ^ 64 = count in omega (arith, v, w)) in
@@ -118,17 +118,17 @@ parted_again s n k left gone r room count e is =
     ∙ made_on s q.last left q.told gone s.made ran (rest_some s.load q.last left gone q.told ran some) (omega (arith, room, size)) count)
     e
 
-pub remade : (s : State) (n k : ℕ) → IsReached s → NoneLooks (taken_from (causes_of s) (place_of (causes_of s) n k)) → s.made + length (taken_from (causes_of s) (place_of (causes_of s) n k)) < 2 ^ 64
-    → Again s (stepped_all (rewound s n k) (map actor_of (events_in (taken_from (causes_of s) (place_of (causes_of s) n k)))))
-remade s n k h none count = go (place_of (causes_of s) n k) refl none count
+pub rollback_is_redone_by_steps : (s : State) (n k : ℕ) → IsReached s → HasNoLooks (taken_from (causes_of s) (position_of_step (causes_of s) n k)) → s.made + length (taken_from (causes_of s) (position_of_step (causes_of s) n k)) < 2 ^ 64
+    → Again s (stepped_all (rewound s n k) (map actor_of (events_in (taken_from (causes_of s) (position_of_step (causes_of s) n k)))))
+rollback_is_redone_by_steps s n k h none count = go (position_of_step (causes_of s) n k) refl none count
   where
-    go : (o : Option ℕ) → place_of (causes_of s) n k ≡ o → NoneLooks (taken_from (causes_of s) o) → s.made + length (taken_from (causes_of s) o) < 2 ^ 64
+    go : (o : Option ℕ) → position_of_step (causes_of s) n k ≡ o → HasNoLooks (taken_from (causes_of s) o) → s.made + length (taken_from (causes_of s) o) < 2 ^ 64
         → Again s (stepped_all (rewound s n k) (map actor_of (events_in (taken_from (causes_of s) o))))
     go None is blind few =
         let stays : (rewound s n k).kept ≡ s.kept = ap (λ (o : Option ℕ). events_in (rest_from (causes_of s) o)) is ∙ replayed s (some_reached s h) in
         ends_again s (rewound s n k) s.kept s.made (ap (λ z. keeping s z s.made) stays) Rattle.ga_causal.specs.Equivalence.same
     go (Some i) is blind few =
-        let gone : List Cause = without (map not (dependents (causes_of s) i)) (causes_of s) in
+        let gone : List Cause = unflagged (map not (dependents (causes_of s) i)) (causes_of s) in
         let e : AreEquivalent s.load s.kept (events_in (rest (causes_of s) i) ++ events_in gone) =
         subst (AreEquivalent s.load s.kept) (events_join (rest (causes_of s) i) gone) (parted_alike s (runs_reached s h) i blind) in
         let size : length (events_in gone) ≡ length gone = events_size gone in

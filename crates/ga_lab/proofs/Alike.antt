@@ -12,13 +12,13 @@ use Rattle.ga_event.specs.declared.event.Event.{Event}
 use Rattle.ga_event.specs.declared.event.Event.TheVariants as event
 use Rattle.ga_event.specs.declared.event.Cause.{Cause}
 use Rattle.ga_event.specs.Touches.{touches as event_touches}
-use Rattle.ga_event.specs.Apply.{seen_from, run, replay}
+use Rattle.ga_event.specs.Apply.{neighbour_states, run, replay}
 use Rattle.ga_event.specs.Next.{next}
-use Rattle.ga_causal.specs.Dependence.{rest, place_of, rest_from, rewound_list}
+use Rattle.ga_causal.specs.Dependence.{rest, position_of_step, rest_from, rewound_list}
 use Rattle.ga_event.specs.Told.{events_in}
-use Rattle.ga_causal.specs.Equivalence.{AreEquivalent, same, swapped, later, joined, account}
+use Rattle.ga_causal.specs.Equivalence.{AreEquivalent, same, swapped, later, joined, local_history}
 use Rattle.ga_causal.proofs.Runs.{causes, replay_equivalent}
-use Rattle.ga_causal.proofs.Shuffles.{Shuffled}
+use Rattle.ga_causal.proofs.Equivalences.{IsSwapOf}
 use Rattle.ga_causal.proofs.Consistent.{kept_alike, same_accounts, shuffled_by, equivalent-append}
 use Rattle.ga_causal.proofs.Moved.{rolled_back, rewound_shuffled, length_shuffled, place_shuffled}
 use Rattle.ga_event.specs.declared.made.Made.{Made}
@@ -26,8 +26,8 @@ use Rattle.ga_event.specs.declared.made.Made.TheVariants as made
 use Rattle.ga_event.specs.Told.{steps_of, mades_of}
 use Rattle.ga_lab.specs.declared.fault.LabFault.{LabFault}
 use Rattle.ga_lab.specs.declared.fault.LabFault.TheVariants.{Full, Spent}
-use Rattle.ga_lab.specs.Machine.{State, first, chip_of, told_by, causes_of, told_next, answer_to, with_event, step_answer, unless_refused, stepped, rest_answer, rewind_answer, rewound, history_of}
-use Rattle.ga_lab.specs.Calls.{MachineCall, called_all, AreEquivalentStates}
+use Rattle.ga_lab.specs.Machine.{State, initial_state, chip_of, told_by, causes_of, made_next, answer_to, with_event, step_answer, unless_refused, stepped, rest_answer, rewind_answer, rewound, history_of}
+use Rattle.ga_lab.specs.Calls.{MachineCall, after_calls, AreEquivalentStates}
 use Rattle.ga_lab.proofs.Stepping.{same_state}
 use Rattle.ga_lab.proofs.Told.{made_of, history_accounted}
 use Rattle.ga_lab.proofs.Called.{Runs, runs_of, with_kept, told_is, causes_is, first_runs, calls_load}
@@ -64,10 +64,10 @@ alike_history s ys some h n =
     ap (λ z. mades_of z n) (told_is s r) ∙ history_accounted r.told n ∙ ap (flat_map made_of) (k.3 n) ∙ sym (history_accounted k.0 n) ∙ sym (ap (λ o. mades_of (told_by o) n) k.1)
 
 -- what a step answers
-told_alike : (s : State) (ys : List Event) → AreEquivalent s.load s.kept ys → (e : Event) → told_next s e ≡ told_next (with_kept s ys) e
+told_alike : (s : State) (ys : List Event) → AreEquivalent s.load s.kept ys → (e : Event) → made_next s e ≡ made_next (with_kept s ys) e
 told_alike s ys h (event.Own n) =
-    ap (λ (z : ℕ). made.Own n (z + 1) ((own (seen_from (chip_of s) n.number) (record_at (chip_of s) n.number)).0)) (equivalent_steps n.number s.load s.kept ys h)
-    ∙ ap (λ z. made.Own n (steps_of n.number ys + 1) ((own (seen_from z n.number) (record_at z n.number)).0)) (alike_chip s ys h)
+    ap (λ (z : ℕ). made.Own n (z + 1) ((own (neighbour_states (chip_of s) n.number) (record_at (chip_of s) n.number)).0)) (equivalent_steps n.number s.load s.kept ys h)
+    ∙ ap (λ z. made.Own n (steps_of n.number ys + 1) ((own (neighbour_states z n.number) (record_at z n.number)).0)) (alike_chip s ys h)
 told_alike s ys h (event.Pass w r side) =
     ap (λ (z : ℕ). made.Pass w (z + 1) r (steps_of r.number s.kept + 1) (t (record_at (chip_of s) w.number))) (equivalent_steps w.number s.load s.kept ys h)
     ∙ ap (λ (z : ℕ). made.Pass w (steps_of w.number ys + 1) r (z + 1) (t (record_at (chip_of s) w.number))) (equivalent_steps r.number s.load s.kept ys h)
@@ -76,7 +76,7 @@ told_alike s ys h (event.Pass w r side) =
 answer_alike : (s : State) (ys : List Event) → AreEquivalent s.load s.kept ys → (o : Result Event NotReady) → answer_to s o ≡ answer_to (with_kept s ys) o
 answer_alike s ys h (Err why) = refl
 answer_alike s ys h (Ok e) =
-    ap (λ (z : ℕ). cond (nat_le s.limit z) (Err Full) (cond (nat_le (2 ^ 64 - 1) s.made) (Err Spent) (Ok (told_next s e)))) (equivalent_length s.load s.kept ys h)
+    ap (λ (z : ℕ). cond (nat_le s.limit z) (Err Full) (cond (nat_le (2 ^ 64 - 1) s.made) (Err Spent) (Ok (made_next s e)))) (equivalent_length s.load s.kept ys h)
     ∙ ap (λ z. cond (nat_le s.limit (length ys)) (Err Full) (cond (nat_le (2 ^ 64 - 1) s.made) (Err Spent) (Ok z))) (told_alike s ys h e)
 
 step_alike : (s : State) (ys : List Event) (n : NodeId) → AreEquivalent s.load s.kept ys → step_answer s n ≡ step_answer (with_kept s ys) n
@@ -97,8 +97,8 @@ stepped_alike s ys n h =
     (left_alike s ys h (next (chip_of s) n) (step_answer s n)))
 
 -- what a rollback answers, and leaves
-rest_alike : (xs ys : List Cause) (n k : ℕ) → Shuffled xs ys → rest_answer xs (place_of xs n k) ≡ rest_answer ys (place_of ys n k)
-rest_alike xs ys n k h = go (place_of xs n k) (place_of ys n k) (place_shuffled n k xs ys h) (length_shuffled (rewound_list xs n k) (rewound_list ys n k) (rewound_shuffled xs ys n k h))
+rest_alike : (xs ys : List Cause) (n k : ℕ) → IsSwapOf xs ys → rest_answer xs (position_of_step xs n k) ≡ rest_answer ys (position_of_step ys n k)
+rest_alike xs ys n k h = go (position_of_step xs n k) (position_of_step ys n k) (place_shuffled n k xs ys h) (length_shuffled (rewound_list xs n k) (rewound_list ys n k) (rewound_shuffled xs ys n k h))
   where
     go : (o p : Option ℕ) → is_some o ≡ is_some p → length (rest_from xs o) ≡ length (rest_from ys p) → rest_answer xs o ≡ rest_answer ys p
     go None None q l = refl
@@ -119,9 +119,9 @@ both_run s ys some h =
 rewind_alike : (s : State) (ys : List Event) (n k : ℕ) → IsSome (replay s.load s.kept) → AreEquivalent s.load s.kept ys → rewind_answer s n k ≡ rewind_answer (with_kept s ys) n k
 rewind_alike s ys n k some h =
     let b = both_run s ys some h in
-    ap (λ z. rest_answer z (place_of z n k)) (causes_is s b.here)
+    ap (λ z. rest_answer z (position_of_step z n k)) (causes_is s b.here)
     ∙ rest_alike (causes b.here.told) (causes b.there.told) n k (shuffled_by s.load b.here.last b.there.last s.kept ys b.here.told b.there.told b.here.run_is b.there.run_is h)
-    ∙ sym (ap (λ z. rest_answer z (place_of z n k)) (causes_is (with_kept s ys) b.there))
+    ∙ sym (ap (λ z. rest_answer z (position_of_step z n k)) (causes_is (with_kept s ys) b.there))
 
 rewound_alike : (s : State) (ys : List Event) (n k : ℕ) → IsSome (replay s.load s.kept) → AreEquivalent s.load s.kept ys → AreEquivalentStates (rewound s n k) (rewound (with_kept s ys) n k)
 rewound_alike s ys n k some h =
@@ -146,15 +146,15 @@ same_chip s z a = subst (λ x. chip_of s ≡ chip_of x) (alike_is s z a) (alike_
 pub same_history : (s z : State) (n : ℕ) → IsSome (replay s.load s.kept) → AreEquivalentStates s z → history_of s n ≡ history_of z n
 same_history s z n some a = subst (λ x. history_of s n ≡ history_of x n) (alike_is s z a) (alike_history s z.kept some a.kept n)
 
-alike_account : (s : State) (ys : List Event) → IsSome (replay s.load s.kept) → AreEquivalent s.load s.kept ys → (n : ℕ) → account n (causes_of s) ≡ account n (causes_of (with_kept s ys))
+alike_account : (s : State) (ys : List Event) → IsSome (replay s.load s.kept) → AreEquivalent s.load s.kept ys → (n : ℕ) → local_history n (causes_of s) ≡ local_history n (causes_of (with_kept s ys))
 alike_account s ys some h n =
     let b = both_run s ys some h in
-    ap (account n) (causes_is s b.here)
+    ap (local_history n) (causes_is s b.here)
     ∙ (same_accounts s.load b.here.last b.there.last s.kept ys b.here.told b.there.told b.here.run_is b.there.run_is).0 h n
-    ∙ sym (ap (account n) (causes_is (with_kept s ys) b.there))
+    ∙ sym (ap (local_history n) (causes_is (with_kept s ys) b.there))
 
-pub same_account : (s z : State) (n : ℕ) → IsSome (replay s.load s.kept) → AreEquivalentStates s z → account n (causes_of s) ≡ account n (causes_of z)
-same_account s z n some a = subst (λ x. account n (causes_of s) ≡ account n (causes_of x)) (alike_is s z a) (alike_account s z.kept some a.kept n)
+pub same_account : (s z : State) (n : ℕ) → IsSome (replay s.load s.kept) → AreEquivalentStates s z → local_history n (causes_of s) ≡ local_history n (causes_of z)
+same_account s z n some a = subst (λ x. local_history n (causes_of s) ≡ local_history n (causes_of x)) (alike_is s z a) (alike_account s z.kept some a.kept n)
 
 pub same_step : (s z : State) (n : NodeId) → AreEquivalentStates s z → (step_answer s n ≡ step_answer z n) × AreEquivalentStates (stepped s n) (stepped z n)
 same_step s z n a = subst (λ x. (step_answer s n ≡ step_answer x n) × AreEquivalentStates (stepped s n) (stepped x n)) (alike_is s z a) (step_alike s z.kept n a.kept, stepped_alike s z.kept n a.kept)
@@ -169,11 +169,11 @@ same_rewind s z n k some a =
 abbrev pub KeepTheSame : List NodeRecord → State → State → Type 0
 KeepTheSame load s z = AreEquivalent load s.kept z.kept × (chip_of s ≡ chip_of z) × ((n : ℕ) → history_of s n ≡ history_of z n)
 
-pub kept_same : (s z : State) → s.load ≡ z.load → Runs s → Runs z → ((n : ℕ) → account n (causes_of s) ≡ account n (causes_of z)) → KeepTheSame s.load s z
+pub kept_same : (s z : State) → s.load ≡ z.load → Runs s → Runs z → ((n : ℕ) → local_history n (causes_of s) ≡ local_history n (causes_of z)) → KeepTheSame s.load s z
 kept_same s z load r q h =
     let there : run s.load z.kept ≡ Some (q.last, q.told) = ap (λ c. run c z.kept) load ∙ q.run_is in
     let e : AreEquivalent s.load s.kept z.kept =
-    (same_accounts s.load r.last q.last s.kept z.kept r.told q.told r.run_is there).1 (λ n. ap (account n) (sym (causes_is s r)) ∙ h n ∙ ap (account n) (causes_is z q)) in
+    (same_accounts s.load r.last q.last s.kept z.kept r.told q.told r.run_is there).1 (λ n. ap (local_history n) (sym (causes_is s r)) ∙ h n ∙ ap (local_history n) (causes_is z q)) in
     let k = kept_alike s.load r.last s.kept z.kept r.told r.run_is e in (
       e,
       alike_chip s z.kept e ∙ ap (λ c. unwrap_or (replay c z.kept) []) load,
@@ -182,10 +182,10 @@ kept_same s z load r q h =
     )
 
 pub consistent : (load : List NodeRecord) (limit bound : ℕ) (calls others : List MachineCall)
-    → ((n : ℕ) → account n (causes_of (called_all (first load limit) calls)) ≡ account n (causes_of (called_all (first load bound) others)))
-    → KeepTheSame load (called_all (first load limit) calls) (called_all (first load bound) others)
+    → ((n : ℕ) → local_history n (causes_of (after_calls (initial_state load limit) calls)) ≡ local_history n (causes_of (after_calls (initial_state load bound) others)))
+    → KeepTheSame load (after_calls (initial_state load limit) calls) (after_calls (initial_state load bound) others)
 consistent load limit bound calls others h =
-    let s = called_all (first load limit) calls in
-    let z = called_all (first load bound) others in
-    let at : s.load ≡ load = calls_load (first load limit) calls in
-    subst (λ c. KeepTheSame c s z) at (kept_same s z (at ∙ sym (calls_load (first load bound) others)) (first_runs load limit calls) (first_runs load bound others) h)
+    let s = after_calls (initial_state load limit) calls in
+    let z = after_calls (initial_state load bound) others in
+    let at : s.load ≡ load = calls_load (initial_state load limit) calls in
+    subst (λ c. KeepTheSame c s z) at (kept_same s z (at ∙ sym (calls_load (initial_state load bound) others)) (first_runs load limit calls) (first_runs load bound others) h)

@@ -10,7 +10,7 @@ use Rattle.ga_grid.specs.declared.node_id.NodeId.{NodeId}
 use Rattle.ga_event.specs.declared.event.Event.{Event}
 use Rattle.ga_event.specs.declared.event.Cause.{Cause}
 use Rattle.ga_event.specs.Touches.{touches as event_touches}
-use Rattle.ga_event.specs.Apply.{Told, apply, after, unless, cause_of, run, replay}
+use Rattle.ga_event.specs.Apply.{EventOutcome, apply, after, when_allowed, cause_of, run, replay}
 use Rattle.ga_event.specs.Next.{next}
 use Rattle.ga_event.proofs.Nexts.{next_can}
 use Rattle.ga_causal.specs.Dependence.{cause_touches, rest, rest_from, rewound_list}
@@ -19,24 +19,24 @@ use Rattle.ga_causal.specs.Steps.{touching}
 use Rattle.ga_causal.proofs.Runs.{causes, run_more, first_of_run}
 use Rattle.ga_causal.proofs.Consistent.{made_of}
 use Rattle.ga_causal.proofs.Places.{place_split, touching_in}
-use Rattle.ga_causal.proofs.Accounts.{first_part_told}
+use Rattle.ga_causal.proofs.LocalHistories.{first_part_told}
 use Rattle.ga_lab.proofs.Told.{history_begins}
 use Rattle.ga_event.specs.declared.made.Made.{Made}
 use Rattle.ga_rollback.proofs.Rewinding.{run_snoc}
 use Rattle.ga_lab.specs.declared.fault.LabFault.{LabFault}
-use Rattle.ga_lab.specs.Machine.{State, first, chip_of, told_by, told_of_kept, causes_of, answer_to, with_event, unless_refused, stepped, undone, rewound, history_of}
-use Rattle.ga_lab.specs.Calls.{MachineCall, step, undo, rewind, called, called_all}
+use Rattle.ga_lab.specs.Machine.{State, initial_state, chip_of, told_by, outcomes_of_kept, causes_of, answer_to, with_event, unless_refused, stepped, undone, rewound, history_of}
+use Rattle.ga_lab.specs.Calls.{MachineCall, step, undo, rewind, after_call, after_calls}
 
 -- a machine whose list runs
 pub record Runs (s : State) : Type 0 where
   pub last : List NodeRecord
-  pub told : List (Cause × Told)
+  pub told : List (Cause × EventOutcome)
   pub run_is : run s.load s.kept ≡ Some (last, told)
 
 pub runs_of : (s : State) → IsSome (replay s.load s.kept) → Runs s
 runs_of s h = go (run s.load s.kept) refl h
   where
-    go : (o : Option (List NodeRecord × List (Cause × Told))) → run s.load s.kept ≡ o → IsSome (option_map {U = List NodeRecord} (λ done. done.0) o) → Runs s
+    go : (o : Option (List NodeRecord × List (Cause × EventOutcome))) → run s.load s.kept ≡ o → IsSome (option_map {U = List NodeRecord} (λ done. done.0) o) → Runs s
     go None is k = absurd (cc)
     go (Some done) is k = record { last = done.0; told = done.1; run_is = is }
 
@@ -45,16 +45,16 @@ abbrev pub with_kept : State → List Event → State
 with_kept s xs = record s { kept = xs }
 
 pub runs_some : (s : State) → Runs s → IsSome (replay s.load s.kept)
-runs_some s r = ap (λ (o : Option (List NodeRecord × List (Cause × Told))). is_some (option_map {U = List NodeRecord} (λ x. x.0) o)) r.run_is
+runs_some s r = ap (λ (o : Option (List NodeRecord × List (Cause × EventOutcome))). is_some (option_map {U = List NodeRecord} (λ x. x.0) o)) r.run_is
 
-pub told_is : (s : State) (r : Runs s) → told_of_kept s ≡ r.told
+pub told_is : (s : State) (r : Runs s) → outcomes_of_kept s ≡ r.told
 told_is s r = ap told_by r.run_is
 
 pub causes_is : (s : State) (r : Runs s) → causes_of s ≡ causes r.told
 causes_is s r = ap causes (told_is s r)
 
 pub chip_is : (s : State) (r : Runs s) → chip_of s ≡ r.last
-chip_is s r = ap (λ (o : Option (List NodeRecord × List (Cause × Told))). unwrap_or (option_map (λ (x : List NodeRecord × List (Cause × Told)). x.0) o) []) r.run_is
+chip_is s r = ap (λ (o : Option (List NodeRecord × List (Cause × EventOutcome))). unwrap_or (option_map (λ (x : List NodeRecord × List (Cause × EventOutcome)). x.0) o) []) r.run_is
 
 -- Every call leaves a machine whose list runs.
 
@@ -66,11 +66,11 @@ step_runs s n r = go (next (chip_of s) n) refl (answer_to s (next (chip_of s) n)
     go (Err why) is (Err fault) = r
     go (Ok e) is (Err fault) = r
     go (Ok e) is (Ok told) =
-        let made : apply r.last e ≡ Some ((after r.last e).0, (after r.last e).1) = ap (λ o. unless o (after r.last e)) (next_can r.last n e (ap (λ z. next z n) (sym (chip_is s r)) ∙ is)) in
+        let made : apply r.last e ≡ Some ((after r.last e).0, (after r.last e).1) = ap (λ o. when_allowed o (after r.last e)) (next_can r.last n e (ap (λ z. next z n) (sym (chip_is s r)) ∙ is)) in
         record { last = (after r.last e).0; told = _; run_is = run_snoc s.load r.last (after r.last e).0 s.kept r.told e (after r.last e).1 r.run_is made }
 
 -- the first part of a list runs
-front_runs : (c last : List NodeRecord) (xs ys : List Event) (ts : List (Cause × Told)) → run c (xs ++ ys) ≡ Some (last, ts) → (d : List NodeRecord) × (us : List (Cause × Told)) × (run c xs ≡ Some (d, us))
+front_runs : (c last : List NodeRecord) (xs ys : List Event) (ts : List (Cause × EventOutcome)) → run c (xs ++ ys) ≡ Some (last, ts) → (d : List NodeRecord) × (us : List (Cause × EventOutcome)) × (run c xs ≡ Some (d, us))
 front_runs c last [] ys ts h = (c, [], refl)
 front_runs c last (x ∷ xs) ys ts h =
     let m = first_of_run c x (xs ++ ys) last ts h in
@@ -88,7 +88,7 @@ rewind_runs s n k r =
     let f = first_part_told s.load r.last s.kept r.told n k r.run_is in
     record { last = f.0; told = f.1; run_is = ap (λ z. run s.load (events_in (rewound_list z n k))) (causes_is s r) ∙ f.2 }
 
-pub call_runs : (s : State) (call : MachineCall) → Runs s → Runs (called s call)
+pub call_runs : (s : State) (call : MachineCall) → Runs s → Runs (after_call s call)
 call_runs s (step n) r = step_runs s n r
 call_runs s undo r = undo_runs s r
 call_runs s (rewind n k) r = rewind_runs s n k r
@@ -99,36 +99,36 @@ step_load s (Err why) (Err fault) = refl
 step_load s (Ok e) (Ok told) = refl
 step_load s (Ok e) (Err fault) = refl
 
-pub call_load : (s : State) (call : MachineCall) → (called s call).load ≡ s.load
+pub call_load : (s : State) (call : MachineCall) → (after_call s call).load ≡ s.load
 call_load s (step n) = step_load s (next (chip_of s) n) (answer_to s (next (chip_of s) n))
 call_load s undo = refl
 call_load s (rewind n k) = refl
 
-pub calls_run : (s : State) (calls : List MachineCall) → Runs s → Runs (called_all s calls)
+pub calls_run : (s : State) (calls : List MachineCall) → Runs s → Runs (after_calls s calls)
 calls_run s [] r = r
-calls_run s (call ∷ calls) r = calls_run (called s call) calls (call_runs s call r)
+calls_run s (call ∷ calls) r = calls_run (after_call s call) calls (call_runs s call r)
 
-pub calls_load : (s : State) (calls : List MachineCall) → (called_all s calls).load ≡ s.load
+pub calls_load : (s : State) (calls : List MachineCall) → (after_calls s calls).load ≡ s.load
 calls_load s [] = refl
-calls_load s (call ∷ calls) = calls_load (called s call) calls ∙ call_load s call
+calls_load s (call ∷ calls) = calls_load (after_call s call) calls ∙ call_load s call
 
-pub first_runs : (load : List NodeRecord) (limit : ℕ) (calls : List MachineCall) → Runs (called_all (first load limit) calls)
-first_runs load limit calls = calls_run (first load limit) calls (record { last = load; told = []; run_is = refl })
+pub first_runs : (load : List NodeRecord) (limit : ℕ) (calls : List MachineCall) → Runs (after_calls (initial_state load limit) calls)
+first_runs load limit calls = calls_run (initial_state load limit) calls (record { last = load; told = []; run_is = refl })
 
-pub reached : (load : List NodeRecord) (limit : ℕ) (calls : List MachineCall) → ((called_all (first load limit) calls).load ≡ load) × IsSome (replay (called_all (first load limit) calls).load (called_all (first load limit) calls).kept)
-reached load limit calls = (calls_load (first load limit) calls, runs_some _ (first_runs load limit calls))
+pub reached : (load : List NodeRecord) (limit : ℕ) (calls : List MachineCall) → ((after_calls (initial_state load limit) calls).load ≡ load) × IsSome (replay (after_calls (initial_state load limit) calls).load (after_calls (initial_state load limit) calls).kept)
+reached load limit calls = (calls_load (initial_state load limit) calls, runs_some _ (first_runs load limit calls))
 
 -- After a rollback the history of each node is a prefix of the one before.
 pub history_kept : (s : State) (n k m : ℕ) → IsSome (replay s.load s.kept) → (later : List Made) × (history_of s m ≡ history_of (rewound s n k) m ++ later)
 history_kept s n k m some =
     let r = runs_of s some in
     let f = first_part_told s.load r.last s.kept r.told n k r.run_is in
-    let left : told_of_kept (rewound s n k) ≡ f.1 = ap (λ z. told_by (run s.load (events_in (rewound_list z n k)))) (causes_is s r) ∙ ap told_by f.2 in
+    let left : outcomes_of_kept (rewound s n k) ≡ f.1 = ap (λ z. told_by (run s.load (events_in (rewound_list z n k)))) (causes_is s r) ∙ ap told_by f.2 in
     let b = history_begins r.told f.1 m (f.3 m) in
     (b.0, ap (λ z. mades_of z m) (told_is s r) ∙ b.1 ∙ ap (λ z. mades_of z m ++ b.0) (sym left))
 
 -- The newest event is a step of each of its nodes on which nothing depends: to undo it is to roll it back.
-pub events_run : (c last : List NodeRecord) (es : List Event) (ts : List (Cause × Told)) → run c es ≡ Some (last, ts) → events_in (causes ts) ≡ es
+pub events_run : (c last : List NodeRecord) (es : List Event) (ts : List (Cause × EventOutcome)) → run c es ≡ Some (last, ts) → events_in (causes ts) ≡ es
 events_run c last es ts h = (made_of c last es ts h).1
 
 -- the last of a list of causes, of a list of events

@@ -11,14 +11,14 @@ use Rattle.ga_event.specs.declared.event.Cause.{Cause}
 use Rattle.ga_event.specs.Apply.{replay}
 use Rattle.ga_event.specs.Next.{next}
 use Rattle.ga_event.proofs.Nexts.{next_can}
-use Rattle.ga_causal.specs.Dependence.{dependents, without, rest, place_of, rest_from}
+use Rattle.ga_causal.specs.Dependence.{dependents, unflagged, rest, position_of_step, rest_from}
 use Rattle.ga_event.specs.Told.{events_in}
 use Rattle.ga_causal.specs.Equivalence.{AreEquivalent}
 use Rattle.ga_event.specs.declared.made.Made.{Made}
 use Rattle.ga_lab.specs.declared.fault.LabFault.{LabFault}
 use Rattle.ga_lab.specs.declared.fault.LabFault.TheVariants.{Full, Spent}
-use Rattle.ga_lab.specs.Machine.{State, first, chip_of, causes_of, told_next, answer_to, with_event, unless_refused, stepped, undone, rewound, actor_of}
-use Rattle.ga_lab.specs.Calls.{MachineCall, step, undo, rewind, called, called_all}
+use Rattle.ga_lab.specs.Machine.{State, initial_state, chip_of, causes_of, made_next, answer_to, with_event, unless_refused, stepped, undone, rewound, actor_of}
+use Rattle.ga_lab.specs.Calls.{MachineCall, step, undo, rewind, after_call, after_calls}
 use Rattle.ga_lab.specs.Sequences.{AreCausal, back, chained, onward, either, TakesNoLook}
 use Rattle.ga_lab.proofs.Called.{Runs, runs_of, with_kept, call_runs, runs_some, call_load, first_runs}
 use Rattle.ga_lab.proofs.Forward.{made_is_next}
@@ -56,10 +56,10 @@ one_step s n f count = go (next (chip_of s) n) refl
         (ap (λ (z : Result Made LabFault). unless_refused (at s s.kept) z (with_event (at s s.kept) (Ok e))) (cond-true (nat_le s.limit (length s.kept)) (Err Full) _ full)))
         (λ room. makes e is
         (ap (λ (z : Result Made LabFault). (unless_refused s z (with_event s (Ok e))).kept)
-        (Rattle.ga_lab.proofs.Sequences.counted_answer s e count ∙ cond-false (nat_le s.limit (length s.kept)) (Err Full) (Ok (told_next s e)) room)))
+        (Rattle.ga_lab.proofs.Sequences.counted_answer s e count ∙ cond-false (nat_le s.limit (length s.kept)) (Err Full) (Ok (made_next s e)) room)))
         (cases_Bool (nat_le s.limit (length s.kept)))
 
-one_call : (s : State) (call : MachineCall) (calls : List MachineCall) → Fits s → s.made < 2 ^ 64 - 1 → length s.kept + length s.kept < 2 ^ 64 → TakesNoLook s (call ∷ calls) → AreCausal (load_of s) (steps_for s.kept ++ call ∷ []) (steps_for (called s call).kept)
+one_call : (s : State) (call : MachineCall) (calls : List MachineCall) → Fits s → s.made < 2 ^ 64 - 1 → length s.kept + length s.kept < 2 ^ 64 → TakesNoLook s (call ∷ calls) → AreCausal (load_of s) (steps_for s.kept ++ call ∷ []) (steps_for (after_call s call).kept)
 one_call s (step n) calls f count l none = one_step s n f count
 one_call s (rewind n k) calls f count l none = one_rewind s n k f l none.0
 one_call s undo calls f count l none = go s.kept refl
@@ -72,7 +72,7 @@ one_call s undo calls f count l none = go s.kept refl
         let l = Rattle.ga_lab.proofs.Normal.last_of x xs in
         subst (λ z. AreCausal (load_of s) (steps_for s.kept ++ undo ∷ []) (steps_for z)) (ap (λ (z : State). z.kept) (sym (undone_last s l.front l.event (is ∙ l.is)))) (one_undo s l.front l.event (is ∙ l.is) f)
 
-none_later : (s : State) (call : MachineCall) (calls : List MachineCall) → TakesNoLook s (call ∷ calls) → TakesNoLook (called s call) calls
+none_later : (s : State) (call : MachineCall) (calls : List MachineCall) → TakesNoLook s (call ∷ calls) → TakesNoLook (after_call s call) calls
 none_later s (step n) calls h = h
 none_later s undo calls h = h
 none_later s (rewind n k) calls h = h.1
@@ -87,12 +87,12 @@ record Held (s : State) : Type 0 where
 abbrev Within : State → Type 0
 Within s = (length s.kept ≤ s.limit) × (length s.kept ≤ s.made)
 
-shorter : {A : Type 0} (flags : List Bool) (xs : List A) → length (without flags xs) ≤ length xs
+shorter : {A : Type 0} (flags : List Bool) (xs : List A) → length (unflagged flags xs) ≤ length xs
 shorter [] xs = omega arith
 shorter (true ∷ flags) [] = omega arith
 shorter (false ∷ flags) [] = omega arith
-shorter (true ∷ flags) (x ∷ xs) = let a : length (without flags xs) ≤ length xs = shorter flags xs in let g : length (without flags xs) ≤ suc (length xs) = omega (arith, a) in g
-shorter (false ∷ flags) (x ∷ xs) = let a : length (without flags xs) ≤ length xs = shorter flags xs in let g : suc (length (without flags xs)) ≤ suc (length xs) = omega (arith, a) in g
+shorter (true ∷ flags) (x ∷ xs) = let a : length (unflagged flags xs) ≤ length xs = shorter flags xs in let g : length (unflagged flags xs) ≤ suc (length xs) = omega (arith, a) in g
+shorter (false ∷ flags) (x ∷ xs) = let a : length (unflagged flags xs) ≤ length xs = shorter flags xs in let g : suc (length (unflagged flags xs)) ≤ suc (length xs) = omega (arith, a) in g
 
 pub events_length : (cs : List Cause) → length (events_in cs) ≡ length cs
 events_length [] = refl
@@ -102,7 +102,7 @@ step_within : (s : State) (o : Result Event NotReady) → Within s → Within (u
 step_within s (Err why) w = w
 step_within s (Ok e) w = two (nat_le s.limit (length s.kept)) (nat_le (2 ^ 64 - 1) s.made) (λ f. less_of s.limit (length s.kept) f)
   where
-    two : (full spent : Bool) → (full ≡ false → length s.kept < s.limit) → Within (unless_refused s (cond full (Err Full) (cond spent (Err Spent) (Ok (told_next s e)))) (with_event s (Ok e)))
+    two : (full spent : Bool) → (full ≡ false → length s.kept < s.limit) → Within (unless_refused s (cond full (Err Full) (cond spent (Err Spent) (Ok (made_next s e)))) (with_event s (Ok e)))
     two true spent h = w
     two false true h = w
     two false false h =
@@ -112,7 +112,7 @@ step_within s (Ok e) w = two (nat_le s.limit (length s.kept)) (nat_le (2 ^ 64 - 
         (omega (arith, n, l), omega (arith, n, m))
 
 rewound_within : (s : State) (n k : ℕ) → IsSome (replay s.load s.kept) → length (rewound s n k).kept ≤ length s.kept
-rewound_within s n k some = go (place_of (causes_of s) n k)
+rewound_within s n k some = go (position_of_step (causes_of s) n k)
   where
     size : length s.kept ≡ length (causes_of s)
     size = ap length (sym (replayed s some)) ∙ events_length (causes_of s)
@@ -125,7 +125,7 @@ rewound_within s n k some = go (place_of (causes_of s) n k)
         let c : length (rest (causes_of s) i) ≤ length (causes_of s) = shorter (dependents (causes_of s) i) (causes_of s) in
         omega (arith, a, b, c)
 
-call_within : (s : State) (call : MachineCall) → IsSome (replay s.load s.kept) → Within s → Within (called s call)
+call_within : (s : State) (call : MachineCall) → IsSome (replay s.load s.kept) → Within s → Within (after_call s call)
 call_within s (step n) some w = step_within s (next (chip_of s) n) w
 call_within s undo some w =
     let a : length (take (length s.kept - 1) s.kept) ≤ length s.kept = take_less (length s.kept - 1) s.kept in
@@ -141,14 +141,14 @@ call_within s (rewind n k) some w =
     let c : length s.kept ≤ s.made = w.1 in
     (omega (arith, a, b), omega (arith, a, c))
 
-call_held : (s : State) (call : MachineCall) → Held s → Held (called s call)
+call_held : (s : State) (call : MachineCall) → Held s → Held (after_call s call)
 call_held s call h =
     let w = call_within s call h.some (h.room, h.made) in
-    record { some = runs_some (called s call) (call_runs s call (runs_of s h.some)); room = w.0; made = w.1 }
+    record { some = runs_some (after_call s call) (call_runs s call (runs_of s h.some)); room = w.0; made = w.1 }
 
-calls_held : (s : State) (calls : List MachineCall) → Held s → Held (called_all s calls)
+calls_held : (s : State) (calls : List MachineCall) → Held s → Held (after_calls s calls)
 calls_held s [] h = h
-calls_held s (call ∷ calls) h = calls_held (called s call) calls (call_held s call h)
+calls_held s (call ∷ calls) h = calls_held (after_call s call) calls (call_held s call h)
 
 fits_of : (s : State) → Held s → s.made < 2 ^ 64 → Fits s
 fits_of s h l = let a : length s.kept ≤ s.made = h.made in record { some = h.some; room = h.room; count = omega (arith, a, l) }
@@ -160,12 +160,12 @@ normal s (call ∷ calls) h l none =
     let l2 : (s.made + suc (length calls)) + (s.made + suc (length calls)) < 2 ^ 64 = l in
     let kept : length s.kept ≤ s.made = h.made in
     let f : Fits s = fits_of s h (omega (arith, l2)) in
-    let t : State = called s call in
+    let t : State = after_call s call in
     let ht : Held t = call_held s call h in
     let kept2 : length t.kept ≤ t.made = ht.made in
     let made : t.made ≤ s.made + 1 = call_made s call in
     let g : Fits t = fits_of t ht (omega (arith, l2, made)) in
-    let start : load_of t ≡ load_of s = ap₂ (λ (u : List NodeRecord) (v : ℕ). first u v) (call_load s call) (call_limit s call) in
+    let start : load_of t ≡ load_of s = ap₂ (λ (u : List NodeRecord) (v : ℕ). initial_state u v) (call_load s call) (call_limit s call) in
     let one = one_call s call calls f (omega (arith, l2)) (omega (arith, l2, kept)) none in
     let there : ended (load_of s) (steps_for t.kept) ≡ t.kept = ap (λ z. ended z (steps_for t.kept)) (sym start) ∙ ap (λ (z : State). z.kept) (reach t g) in
     let alike : ended (load_of s) (steps_for s.kept ++ call ∷ []) ≡ ended (load_of s) (steps_for t.kept) =
@@ -184,24 +184,24 @@ normal s (call ∷ calls) h l none =
     small2 : (s.made + suc (length calls)) + (s.made + suc (length calls)) < 2 ^ 64 → length s.kept ≤ s.made → length s.kept + 1 < 2 ^ 64
     small2 l2 k = omega (arith, l2, k)
 
-first_held : (load : List NodeRecord) (limit : ℕ) → Held (first load limit)
+first_held : (load : List NodeRecord) (limit : ℕ) → Held (initial_state load limit)
 first_held load limit = record { some = refl; room = omega arith; made = omega arith }
 
 -- what calls leave fits
-pub kept_fits : (load : List NodeRecord) (limit : ℕ) (calls : List MachineCall) → (length (called_all (first load limit) calls).kept ≤ (called_all (first load limit) calls).limit) × (length (called_all (first load limit) calls).kept ≤ (called_all (first load limit) calls).made)
-kept_fits load limit calls =
-    let h : Held (called_all (first load limit) calls) = calls_held (first load limit) calls (first_held load limit) in
+pub limit_is_respected : (load : List NodeRecord) (limit : ℕ) (calls : List MachineCall) → (length (after_calls (initial_state load limit) calls).kept ≤ (after_calls (initial_state load limit) calls).limit) × (length (after_calls (initial_state load limit) calls).kept ≤ (after_calls (initial_state load limit) calls).made)
+limit_is_respected load limit calls =
+    let h : Held (after_calls (initial_state load limit) calls) = calls_held (initial_state load limit) calls (first_held load limit) in
     (h.room, h.made)
 
 pub related : (load : List NodeRecord) (limit : ℕ) (calls others : List MachineCall) → length calls + length calls < 2 ^ 64 → length others + length others < 2 ^ 64
-    → TakesNoLook (first load limit) calls → TakesNoLook (first load limit) others
-    → AreEquivalent load (called_all (first load limit) calls).kept (called_all (first load limit) others).kept → AreCausal (first load limit) calls others
+    → TakesNoLook (initial_state load limit) calls → TakesNoLook (initial_state load limit) others
+    → AreEquivalent load (after_calls (initial_state load limit) calls).kept (after_calls (initial_state load limit) others).kept → AreCausal (initial_state load limit) calls others
 related load limit calls others l k none blind e =
-    let s : State = first load limit in
-    let h : Held (called_all s calls) = calls_held s calls (first_held load limit) in
-    let many : length (ended s calls) ≤ (called_all s calls).made = h.made in
-    let made : (called_all s calls).made ≤ 0 + length calls = Rattle.ga_lab.proofs.Sequences.calls_made s calls in
-    let at_load : (called_all s calls).load ≡ load = Rattle.ga_lab.proofs.Called.calls_load s calls in
+    let s : State = initial_state load limit in
+    let h : Held (after_calls s calls) = calls_held s calls (first_held load limit) in
+    let many : length (ended s calls) ≤ (after_calls s calls).made = h.made in
+    let made : (after_calls s calls).made ≤ 0 + length calls = Rattle.ga_lab.proofs.Sequences.calls_made s calls in
+    let at_load : (after_calls s calls).load ≡ load = Rattle.ga_lab.proofs.Called.calls_load s calls in
     let room : length (ended s calls) ≤ limit = subst (λ z. length (ended s calls) ≤ z) (Rattle.ga_lab.proofs.Sequences.calls_limit s calls) h.room in
     chained (normal s calls (first_held load limit) (omega (arith, l)) none)
     (chained (swaps_all s (ended s calls) (ended s others) e (subst (λ c. IsSome (replay c (ended s calls))) at_load h.some) room (omega (arith, many, made, l)))

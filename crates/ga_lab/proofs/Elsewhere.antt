@@ -8,9 +8,9 @@ use Rattle.ga_grid.specs.Chip.{record_at}
 use Rattle.ga_event.specs.declared.event.Event.{Event}
 use Rattle.ga_event.specs.declared.event.Cause.{Cause}
 use Rattle.ga_event.specs.Touches.{meets}
-use Rattle.ga_event.specs.Apply.{Told, cause_of, run, replay, Agree}
+use Rattle.ga_event.specs.Apply.{EventOutcome, cause_of, run, replay, Agree}
 use Rattle.ga_event.proofs.Locality.{Agree-sym}
-use Rattle.ga_causal.specs.Dependence.{cause_touches, dependents_after, without, rest, place_of, rest_from}
+use Rattle.ga_causal.specs.Dependence.{cause_touches, dependents_after, unflagged, rest, position_of_step, rest_from}
 use Rattle.ga_event.specs.Told.{events_in, steps_of}
 use Rattle.ga_causal.specs.Steps.{touching}
 use Rattle.ga_causal.proofs.Runs.{kept, run_more, FirstOf, first_of_run, keeps_of, Agree-marked, Same, same_of}
@@ -23,13 +23,13 @@ one : Bool → ℕ
 one b = cond b 1 0
 
 -- leaving events out adds no step
-fewer : (n : ℕ) (flags : List Bool) (es : List Cause) → touching n (without flags es) ≤ touching n es
+fewer : (n : ℕ) (flags : List Bool) (es : List Cause) → touching n (unflagged flags es) ≤ touching n es
 fewer n [] es = omega arith
 fewer n (true ∷ flags) [] = omega arith
 fewer n (false ∷ flags) [] = omega arith
 fewer n (true ∷ flags) (e ∷ es) = let a = fewer n flags es in let b = touching-cons n e es in omega arith
 fewer n (false ∷ flags) (e ∷ es) =
-    let a = fewer n flags es in let b = touching-cons n e es in let c = touching-cons n e (without flags es) in omega arith
+    let a = fewer n flags es in let b = touching-cons n e es in let c = touching-cons n e (unflagged flags es) in omega arith
 
 not_it : (b : Bool) (x y : ℕ) → x ≤ y → x ≡ cond b 1 0 + y → b ≡ false
 not_it true x y l h = absurd (omega arith)
@@ -42,16 +42,16 @@ same_count false x y f h = omega arith
 -- the remaining events run, and if no step of node m is left out, the node is the same at the end
 record Elsewhere (b last : List NodeRecord) (m : ℕ) (es : List Event) : Type 0 where
   pub now : List NodeRecord
-  pub told : List (Cause × Told)
+  pub told : List (Cause × EventOutcome)
   pub run_is : run b es ≡ Some (now, told)
   pub same : record_at last m ≡ record_at now m
 
-kept_elsewhere : (marks : ℕ → Bool) (es : List Event) (c b last : List NodeRecord) (ts : List (Cause × Told)) (m : ℕ) → Agree marks c b → marks m ≡ false
+kept_elsewhere : (marks : ℕ → Bool) (es : List Event) (c b last : List NodeRecord) (ts : List (Cause × EventOutcome)) (m : ℕ) → Agree marks c b → marks m ≡ false
     → run c es ≡ Some (last, ts) → touching m (kept marks (causes ts)) ≡ touching m (causes ts) → Elsewhere b last m (events_in (kept marks (causes ts)))
 kept_elsewhere marks [] c b last ts m a free h count =
     let p : (c, []) ≡ (last, ts) = same_Some _ _ h in
-    subst (λ z. Elsewhere b last m (events_in (kept marks (causes z)))) (ap (λ (z : List NodeRecord × List (Cause × Told)). z.1) p)
-    (record { now = b; told = []; run_is = refl; same = ap (λ (z : List NodeRecord × List (Cause × Told)). record_at z.0 m) (sym p) ∙ a.same m free })
+    subst (λ z. Elsewhere b last m (events_in (kept marks (causes z)))) (ap (λ (z : List NodeRecord × List (Cause × EventOutcome)). z.1) p)
+    (record { now = b; told = []; run_is = refl; same = ap (λ (z : List NodeRecord × List (Cause × EventOutcome)). record_at z.0 m) (sym p) ∙ a.same m free })
 kept_elsewhere marks (e ∷ es) c b last ts m a free h count =
     let f = first_of_run c e es last ts h in
     subst (λ z. Elsewhere b last m (events_in (kept marks (causes z)))) (sym f.all)
@@ -81,12 +81,12 @@ kept_elsewhere marks (e ∷ es) c b last ts m a free h count =
         let g = ih2 s (omega arith) in
         rw t (record { now = g.now; told = _; run_is = run_more b e (events_in (kept marks (causes f.others))) s.mid g.now f.told g.told s.done g.run_is; same = g.same })
 
-rest_elsewhere : (chip : List NodeRecord) (es : List Event) (i : ℕ) (last : List NodeRecord) (ts : List (Cause × Told)) (m : ℕ) → run chip es ≡ Some (last, ts)
+rest_elsewhere : (chip : List NodeRecord) (es : List Event) (i : ℕ) (last : List NodeRecord) (ts : List (Cause × EventOutcome)) (m : ℕ) → run chip es ≡ Some (last, ts)
     → touching m (rest (causes ts) i) ≡ touching m (causes ts) → Elsewhere chip last m (events_in (rest (causes ts) i))
 rest_elsewhere chip [] i last ts m h count =
     let p : (chip, []) ≡ (last, ts) = same_Some _ _ h in
-    subst (λ z. Elsewhere chip last m (events_in (rest (causes z) i))) (ap (λ (z : List NodeRecord × List (Cause × Told)). z.1) p)
-    (record { now = chip; told = []; run_is = refl; same = ap (λ (z : List NodeRecord × List (Cause × Told)). record_at z.0 m) (sym p) })
+    subst (λ z. Elsewhere chip last m (events_in (rest (causes z) i))) (ap (λ (z : List NodeRecord × List (Cause × EventOutcome)). z.1) p)
+    (record { now = chip; told = []; run_is = refl; same = ap (λ (z : List NodeRecord × List (Cause × EventOutcome)). record_at z.0 m) (sym p) })
 rest_elsewhere chip (e ∷ es) zero last ts m h count =
     let f = first_of_run chip e es last ts h in
     let k : touching m (kept (cause_touches (cause_of chip e)) (causes f.others)) ≡ touching m (cause_of chip e ∷ causes f.others) = subst (λ z. touching m (rest (causes z) zero) ≡ touching m (causes z)) f.all count in
@@ -106,11 +106,11 @@ rest_elsewhere chip (e ∷ es) (suc i) last ts m h count =
     (record { now = g.now; told = _; run_is = run_more chip e (events_in (rest (causes f.others) i)) f.mid g.now f.told g.told f.first g.run_is; same = g.same })
 
 -- in the machine
-pub stays_elsewhere : (s : State) (n k m : ℕ) → IsSome (replay s.load s.kept) → steps_of m (rewound s n k).kept ≡ steps_of m s.kept
+pub rollback_leaves_other_nodes : (s : State) (n k m : ℕ) → IsSome (replay s.load s.kept) → steps_of m (rewound s n k).kept ≡ steps_of m s.kept
     → record_at (chip_of (rewound s n k)) m ≡ record_at (chip_of s) m
-stays_elsewhere s n k m some count = go (place_of (causes_of s) n k) refl
+rollback_leaves_other_nodes s n k m some count = go (position_of_step (causes_of s) n k) refl
   where
-    go : (o : Option ℕ) → place_of (causes_of s) n k ≡ o → record_at (chip_of (rewound s n k)) m ≡ record_at (chip_of s) m
+    go : (o : Option ℕ) → position_of_step (causes_of s) n k ≡ o → record_at (chip_of (rewound s n k)) m ≡ record_at (chip_of s) m
     go None is = ap (λ (o : Option ℕ). record_at (unwrap_or (replay s.load (events_in (rest_from (causes_of s) o))) []) m) is
         ∙ ap (λ z. record_at (unwrap_or (replay s.load z) []) m) (replayed s some)
     go (Some i) is =
@@ -122,5 +122,5 @@ stays_elsewhere s n k m some count = go (place_of (causes_of s) n k) refl
         touching_in m (rest (causes r.told) i) ∙ ap (steps_of m) (sym here) ∙ count ∙ ap (steps_of m) there ∙ sym (touching_in m (causes r.told)) in
         let e = rest_elsewhere s.load s.kept i r.last r.told m r.run_is c in
         ap (λ z. record_at (unwrap_or (replay s.load z) []) m) here
-        ∙ ap (λ (o : Option (List NodeRecord × List (Cause × Told))). record_at (unwrap_or (option_map (λ (x : List NodeRecord × List (Cause × Told)). x.0) o) []) m) e.run_is
+        ∙ ap (λ (o : Option (List NodeRecord × List (Cause × EventOutcome))). record_at (unwrap_or (option_map (λ (x : List NodeRecord × List (Cause × EventOutcome)). x.0) o) []) m) e.run_is
         ∙ sym e.same ∙ ap (λ z. record_at z m) (sym (chip_is s r))

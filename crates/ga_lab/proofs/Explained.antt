@@ -8,23 +8,23 @@ use Rattle.ga_event.specs.Apply.{replay}
 use Rattle.ga_causal.specs.declared.chain.Link.{Link}
 use Rattle.ga_causal.specs.Chains.{IsChain, IsFound, chain_of}
 use Rattle.ga_causal.specs.Equivalence.{AreEquivalent}
-use Rattle.ga_causal.specs.Dependence.{place_of}
+use Rattle.ga_causal.specs.Dependence.{position_of_step}
 use Rattle.ga_causal.proofs.ChainOf.{chain_chain, chain_found}
 use Rattle.ga_causal.proofs.Consistent.{shuffled_by}
 use Rattle.ga_causal.proofs.Moved.{Again, chain_again}
-use Rattle.ga_causal.proofs.Accounts.{touching}
+use Rattle.ga_causal.proofs.LocalHistories.{touching}
 use Rattle.ga_causal.proofs.Runs.{causes}
 use Rattle.ga_lab.specs.declared.fault.LabFault.{LabFault}
 use Rattle.ga_lab.specs.declared.fault.LabFault.TheVariants.{NoStep}
-use Rattle.ga_lab.specs.Machine.{State, causes_of, stands, rewound, why_between, why_answer}
+use Rattle.ga_lab.specs.Machine.{State, causes_of, has_step, rewound, why_between, why_answer}
 use Rattle.ga_lab.specs.Calls.{AreEquivalentStates}
 use Rattle.ga_lab.proofs.Alike.{Both, both_run, alike_is, equivalent_steps, same_rewind}
 use Rattle.ga_lab.proofs.Called.{with_kept, causes_is, runs_some}
-use Rattle.ga_lab.proofs.Reasoned.{replayed, takes_what_it_explains}
+use Rattle.ga_lab.proofs.Reasoned.{replayed, rollback_iff_chain}
 use Rattle.ga_lab.proofs.Explaining.{no_cause, no_effect}
 
 -- a step exists in both or in neither
-stands_alike : (s z : State) (n k : ℕ) → AreEquivalentStates s z → stands s n k ≡ stands z n k
+stands_alike : (s z : State) (n k : ℕ) → AreEquivalentStates s z → has_step s n k ≡ has_step z n k
 stands_alike s z n k a = ap (λ (x : ℕ). nat_le 1 k && nat_le k x) (equivalent_steps n s.load s.kept z.kept a.kept)
 
 alike_runs : (s z : State) → IsSome (replay s.load s.kept) → AreEquivalentStates s z → IsSome (replay z.load z.kept)
@@ -35,42 +35,42 @@ alike_runs s z some a =
 abbrev why : Bool → Bool → Result (Option (List Link)) LabFault → Type 0
 why a b answer = ((a && b) ≡ false) → answer ≡ Err NoStep
 
-refuses : (s : State) (n k m j : ℕ) → IsSome (replay s.load s.kept) → why (stands s n k) (stands s m j) (why_answer s n k m j)
+refuses : (s : State) (n k m j : ℕ) → IsSome (replay s.load s.kept) → why (has_step s n k) (has_step s m j) (why_answer s n k m j)
 refuses s n k m j some h = ⊎_elim
-    (λ t. no_effect s n k m j (replayed s some) (subst (λ z. (z && stands s m j) ≡ false) t h))
+    (λ t. no_effect s n k m j (replayed s some) (subst (λ z. (z && has_step s m j) ≡ false) t h))
     (λ f. no_cause s n k m j (replayed s some) f)
-    (cases_Bool (stands s n k))
+    (cases_Bool (has_step s n k))
 
 no_link : (answer : Result (Option (List Link)) LabFault) → answer ≡ Err NoStep → answer ≡ Ok None → ⊥
 no_link answer h k = let q : Err NoStep ≡ Ok None = sym h ∙ k in absurd (cc)
 
 pub same_none : (s z : State) (n k m j : ℕ) → IsSome (replay s.load s.kept) → AreEquivalentStates s z → (why_answer s n k m j ≡ Ok None) ↔ (why_answer z n k m j ≡ Ok None)
 same_none s z n k m j some a = ⊎_elim
-    (λ t. let p = and_parts (stands s n k) (stands s m j) t in
-    let x = takes_what_it_explains s n k m j some p.0 p.1 in
-    let y = takes_what_it_explains z n k m j there (sym cause ∙ p.0) (sym effect ∙ p.1) in
+    (λ t. let p = and_parts (has_step s n k) (has_step s m j) t in
+    let x = rollback_iff_chain s n k m j some p.0 p.1 in
+    let y = rollback_iff_chain z n k m j there (sym cause ∙ p.0) (sym effect ∙ p.1) in
     (λ h. y.1 (sym left ∙ x.0 h), λ h. x.1 (left ∙ y.0 h)))
     (λ f. (
       λ h. absurd (no_link (why_answer s n k m j) (refuses s n k m j some f) h),
       λ h. absurd (no_link (why_answer z n k m j) (refuses z n k m j there (ap₂ (λ (u v : Bool). u && v) (sym cause) (sym effect) ∙ f)) h),
     ))
-    (cases_Bool (stands s n k && stands s m j))
+    (cases_Bool (has_step s n k && has_step s m j))
   where
     there : IsSome (replay z.load z.kept)
     there = alike_runs s z some a
 
-    cause : stands s n k ≡ stands z n k
+    cause : has_step s n k ≡ has_step z n k
     cause = stands_alike s z n k a
 
-    effect : stands s m j ≡ stands z m j
+    effect : has_step s m j ≡ has_step z m j
     effect = stands_alike s z m j a
 
-    left : stands (rewound s n k) m j ≡ stands (rewound z n k) m j
+    left : has_step (rewound s n k) m j ≡ has_step (rewound z n k) m j
     left = stands_alike (rewound s n k) (rewound z n k) m j ((same_rewind s z n k some a).1)
 
 -- a chain that is returned is a chain
-chain_told : (es : List Cause) (n k m j : ℕ) (links : List Link) → why_between es (place_of es n k) (place_of es m j) ≡ Ok (Some links) → IsChain es links
-chain_told es n k m j links h = go (place_of es n k) (place_of es m j) (λ i is. (touching es n k i is).0) h
+chain_told : (es : List Cause) (n k m j : ℕ) (links : List Link) → why_between es (position_of_step es n k) (position_of_step es m j) ≡ Ok (Some links) → IsChain es links
+chain_told es n k m j links h = go (position_of_step es n k) (position_of_step es m j) (λ i is. (touching es n k i is).0) h
   where
     go : (o p : Option ℕ) → ((i : ℕ) → o ≡ Some i → Rattle.std.specs.Prelude.◌<◌ i (Rattle.std.specs.Prelude.length es))
         → why_between es o p ≡ Ok (Some links) → IsChain es links

@@ -6,19 +6,19 @@ use Rattle.std.proofs.lemmas.List.{length-map, length-append}
 use Rattle.std.proofs.lemmas.List.Elements.{All-nil, All-cons}
 use Rattle.ga_event.specs.declared.event.Cause.{Cause}
 use Rattle.ga_node.specs.Record.{NodeState}
-use Rattle.ga_event.specs.Apply.{Told}
+use Rattle.ga_event.specs.Apply.{EventOutcome}
 use Rattle.ga_event.specs.Told.{made_in, steps_of}
 use Rattle.ga_causal.specs.declared.chain.Link.{Link}
-use Rattle.ga_causal.specs.Dependence.{place_of}
+use Rattle.ga_causal.specs.Dependence.{position_of_step}
 use Rattle.ga_causal.specs.Chains.{IsFound, IsLinked, IsChain, chain_of}
 use Rattle.ga_causal.proofs.ChainOf.{chain_chain, chain_found, chain_is, place_later}
 use Rattle.ga_causal.proofs.Places.{place_step, place_stands, place-zero, touching_in, on_by, place_split, place_more}
-use Rattle.ga_journal.specs.Histories.{Book}
+use Rattle.ga_journal.specs.Histories.{JournalState}
 use Rattle.ga_journal.specs.Events.{kept_of, events_of}
 use Rattle.ga_lab.specs.declared.fault.LabFault.TheVariants.{Memory, NoStep}
-use Rattle.ga_lab.specs.inner.Tied.{IsTied, state_of}
+use Rattle.ga_lab.specs.inner.LabInvariant.{MatchesLog, state_of}
 use Rattle.ga_lab.proofs.Replays.{told_tied, causes_tied, IsReplayed}
-use Rattle.ga_lab.specs.Machine.{State, told_of_kept, causes_of, why_between, stands, why_answer}
+use Rattle.ga_lab.specs.Machine.{State, outcomes_of_kept, causes_of, why_between, has_step, why_answer}
 use Rattle.std.proofs.lemmas.Bool.{cases_lt, leb-true, le-leb, lt-leb, lt-ltb, le-ltb, cases_Bool, both_ways, and_from, and_right, and_parts, and_cases}
 use Rattle.ga_causal.specs.Steps.{touching}
 use Rattle.ga_lab.specs.declared.fault.LabFault.{LabFault}
@@ -51,7 +51,7 @@ chain_within es [] h = absurd h
 chain_within es (first ∷ links) h = All-cons (λ (place : ℕ). place < length es) first.place (places links) h.0 (linked_within es first.place links h.2)
 
 -- the events at its places
-told_places : (told : List (Cause × Told)) (links : List Link) → map (made_in told) (places links) ≡ map (λ (link : Link). made_in told link.place) links
+told_places : (told : List (Cause × EventOutcome)) (links : List Link) → map (made_in told) (places links) ≡ map (λ (link : Link). made_in told link.place) links
 told_places told [] = refl
 told_places told (x ∷ xs) = ap (λ z. made_in told x.place ∷ z) (told_places told xs)
 
@@ -62,30 +62,30 @@ found_links es i q links l is = chain_chain es i q links l (subst (λ z. IsFound
 same_found : (es : List Cause) (i q : ℕ) (links : List Link) → Ok (Some links) ≡ why_between es (Some i) (Some q) → chain_of es i q ≡ Some links
 same_found es i q links h = cc
 
-answered_chain : (es : List Cause) (n k m j : ℕ) (links : List Link) → Ok (Some links) ≡ why_between es (place_of es n k) (place_of es m j) → IsChain es links
-answered_chain es n k m j links h = go (place_of es n k) (place_of es m j) refl h
+answered_chain : (es : List Cause) (n k m j : ℕ) (links : List Link) → Ok (Some links) ≡ why_between es (position_of_step es n k) (position_of_step es m j) → IsChain es links
+answered_chain es n k m j links h = go (position_of_step es n k) (position_of_step es m j) refl h
   where
-    go : (a b : Option ℕ) → place_of es n k ≡ a → Ok (Some links) ≡ why_between es a b → IsChain es links
+    go : (a b : Option ℕ) → position_of_step es n k ≡ a → Ok (Some links) ≡ why_between es a b → IsChain es links
     go None b at h = absurd (cc)
     go (Some i) None at h = absurd (cc)
     go (Some i) (Some q) at h = found_links es i q links (place_step es n k i at).within (same_found es i q links h)
 
 pub answered : (es : List Cause) (n k m j : ℕ) (links : List Link)
-    → (Ok (Some links) ≡ why_between es (place_of es n k) (place_of es m j)) ⊎ ((Ok (Some links) ≡ Err Memory) × IsOk (why_between es (place_of es n k) (place_of es m j)))
+    → (Ok (Some links) ≡ why_between es (position_of_step es n k) (position_of_step es m j)) ⊎ ((Ok (Some links) ≡ Err Memory) × IsOk (why_between es (position_of_step es n k) (position_of_step es m j)))
     → IsChain es links
 answered es n k m j links (inl h) = answered_chain es n k m j links h
 answered es n k m j links (inr h) = absurd (let bad = h.0 in cc)
 
 -- there are as many causes as events of the history
-pub kept_long : (chip : List NodeState) (book : Book) (s : State) → IsTied chip book → state_of chip book ≡ s → length (causes_of s) ≡ length (kept_of book)
+pub kept_long : (chip : List NodeState) (book : JournalState) (s : State) → MatchesLog chip book → state_of chip book ≡ s → length (causes_of s) ≡ length (kept_of book)
 kept_long chip book s tied is =
-    ap (λ (z : State). length (causes_of z)) (sym is) ∙ ap length (causes_tied chip book tied) ∙ length-map (kept_of book) (λ (x : Cause × Told). x.0)
+    ap (λ (z : State). length (causes_of z)) (sym is) ∙ ap length (causes_tied chip book tied) ∙ length-map (kept_of book) (λ (x : Cause × EventOutcome). x.0)
 
-pub told_links : (chip : List NodeState) (book : Book) (s : State) (links : List Link) → IsTied chip book → state_of chip book ≡ s
-    → map (made_in (kept_of book)) (places links) ≡ map (λ (link : Link). made_in (told_of_kept s) link.place) links
+pub told_links : (chip : List NodeState) (book : JournalState) (s : State) (links : List Link) → MatchesLog chip book → state_of chip book ≡ s
+    → map (made_in (kept_of book)) (places links) ≡ map (λ (link : Link). made_in (outcomes_of_kept s) link.place) links
 told_links chip book s links tied is =
-    ap (λ t. map (made_in t) (places links)) (sym (told_tied chip book tied)) ∙ ap (λ (z : State). map (made_in (told_of_kept z)) (places links)) is
-    ∙ told_places (told_of_kept s) links
+    ap (λ t. map (made_in t) (places links)) (sym (told_tied chip book tied)) ∙ ap (λ (z : State). map (made_in (outcomes_of_kept z)) (places links)) is
+    ∙ told_places (outcomes_of_kept s) links
 
 -- ---- why a step came about
 
@@ -96,9 +96,9 @@ stands_suc n k steps = ⊎_elim
     (λ l. le-ltb k steps l ∙ sym (and_right (nat_le 1 (suc k)) (nat_le (suc k) steps) (lt-leb (suc k) steps (omega arith))))
     (cases_lt k steps)
 
-pub stands_place : (s : State) (n k : ℕ) → IsReplayed s → is_some (place_of (causes_of s) n k) ≡ stands s n k
-stands_place s n zero same = ap is_some (place-zero (causes_of s) n)
-stands_place s n (suc k) same =
+pub step_has_position : (s : State) (n k : ℕ) → IsReplayed s → is_some (position_of_step (causes_of s) n k) ≡ has_step s n k
+step_has_position s n zero same = ap is_some (place-zero (causes_of s) n)
+step_has_position s n (suc k) same =
     place_stands (causes_of s) n k ∙ stands_suc n k (touching n (causes_of s))
     ∙ ap (λ z. nat_le 1 (suc k) && nat_le (suc k) z) (touching_in n (causes_of s) ∙ ap (steps_of n) same)
 
@@ -106,26 +106,26 @@ no_place : (o : Option ℕ) → is_some o ≡ false → o ≡ None
 no_place None h = refl
 no_place (Some i) h = absurd (cc)
 
-pub place_none : (s : State) (n k : ℕ) → IsReplayed s → stands s n k ≡ false → place_of (causes_of s) n k ≡ None
-place_none s n k same h = no_place (place_of (causes_of s) n k) (stands_place s n k same ∙ h)
+pub place_none : (s : State) (n k : ℕ) → IsReplayed s → has_step s n k ≡ false → position_of_step (causes_of s) n k ≡ None
+place_none s n k same h = no_place (position_of_step (causes_of s) n k) (step_has_position s n k same ∙ h)
 
 -- what the journal counts
-pub stands_read : (chip : List NodeState) (book : Book) (n k steps : ℕ) → 1 ≤ k → steps ≡ steps_of n (events_of book) → nat_le k steps ≡ stands (state_of chip book) n k
+pub stands_read : (chip : List NodeState) (book : JournalState) (n k steps : ℕ) → 1 ≤ k → steps ≡ steps_of n (events_of book) → nat_le k steps ≡ has_step (state_of chip book) n k
 unfolding state_of
 stands_read chip book n k steps some is =
     ap (nat_le k) is ∙ ap (λ z. z && nat_le k (steps_of n (events_of book))) (sym (le-leb 1 k some))
 
 -- if one of the steps doesn't exist
-pub no_cause : (s : State) (n k m j : ℕ) → IsReplayed s → stands s n k ≡ false → why_answer s n k m j ≡ Err NoStep
-no_cause s n k m j same h = ap (λ (o : Option ℕ). why_between (causes_of s) o (place_of (causes_of s) m j)) (place_none s n k same h)
+pub no_cause : (s : State) (n k m j : ℕ) → IsReplayed s → has_step s n k ≡ false → why_answer s n k m j ≡ Err NoStep
+no_cause s n k m j same h = ap (λ (o : Option ℕ). why_between (causes_of s) o (position_of_step (causes_of s) m j)) (place_none s n k same h)
 
 to_none : (causes : List Cause) (o : Option ℕ) → why_between causes o None ≡ Err NoStep
 to_none causes None = refl
 to_none causes (Some i) = refl
 
-pub no_effect : (s : State) (n k m j : ℕ) → IsReplayed s → stands s m j ≡ false → why_answer s n k m j ≡ Err NoStep
+pub no_effect : (s : State) (n k m j : ℕ) → IsReplayed s → has_step s m j ≡ false → why_answer s n k m j ≡ Err NoStep
 no_effect s n k m j same h =
-    ap (why_between (causes_of s) (place_of (causes_of s) n k)) (place_none s m j same h) ∙ to_none (causes_of s) (place_of (causes_of s) n k)
+    ap (why_between (causes_of s) (position_of_step (causes_of s) n k)) (place_none s m j same h) ∙ to_none (causes_of s) (position_of_step (causes_of s) n k)
 
 -- if both exist
 ok_between : (causes : List Cause) (a b : Option ℕ) → is_some a ≡ true → is_some b ≡ true → IsOk (why_between causes a b)
@@ -133,13 +133,13 @@ ok_between causes None b h k = absurd (cc)
 ok_between causes (Some i) None h k = absurd (cc)
 ok_between causes (Some i) (Some q) h k = refl
 
-pub reasoned : (s : State) (n k m j : ℕ) → IsReplayed s → stands s n k ≡ true → stands s m j ≡ true → IsOk (why_answer s n k m j)
+pub reasoned : (s : State) (n k m j : ℕ) → IsReplayed s → has_step s n k ≡ true → has_step s m j ≡ true → IsOk (why_answer s n k m j)
 reasoned s n k m j same h g =
-    ok_between (causes_of s) (place_of (causes_of s) n k) (place_of (causes_of s) m j) (stands_place s n k same ∙ h) (stands_place s m j same ∙ g)
+    ok_between (causes_of s) (position_of_step (causes_of s) n k) (position_of_step (causes_of s) m j) (step_has_position s n k same ∙ h) (step_has_position s m j same ∙ g)
 
 -- it is refused exactly where one doesn't
-pub unreasoned : (s : State) (n k m j : ℕ) → IsReplayed s → (stands s n k && stands s m j) ≡ false → why_answer s n k m j ≡ Err NoStep
-unreasoned s n k m j same f = ⊎_elim (no_cause s n k m j same) (no_effect s n k m j same) (and_cases (stands s n k) (stands s m j) f)
+pub unreasoned : (s : State) (n k m j : ℕ) → IsReplayed s → (has_step s n k && has_step s m j) ≡ false → why_answer s n k m j ≡ Err NoStep
+unreasoned s n k m j same f = ⊎_elim (no_cause s n k m j same) (no_effect s n k m j same) (and_cases (has_step s n k) (has_step s m j) f)
 
 abbrev pub Answers : State → ℕ → ℕ → ℕ → ℕ → Result (Option (List Link)) LabFault → Type 0
 Answers s n k m j result = (result ≡ why_answer s n k m j) ⊎ ((result ≡ Err Memory) × IsOk (why_answer s n k m j))
@@ -148,25 +148,25 @@ fails : (s : State) (n k m j : ℕ) (result : Result (Option (List Link)) LabFau
 fails s n k m j result (inl w) e o = let q : is_ok (why_answer s n k m j) ≡ false = ap is_ok (sym w ∙ e) in both_ways (is_ok (why_answer s n k m j)) q o
 fails s n k m j result (inr w) e o = let q : Err Memory ≡ Err NoStep = sym (w.0) ∙ e in absurd (cc)
 
-refuses : (s : State) (n k m j : ℕ) (result : Result (Option (List Link)) LabFault) → IsReplayed s → Answers s n k m j result → (stands s n k && stands s m j) ≡ false → result ≡ Err NoStep
+refuses : (s : State) (n k m j : ℕ) (result : Result (Option (List Link)) LabFault) → IsReplayed s → Answers s n k m j result → (has_step s n k && has_step s m j) ≡ false → result ≡ Err NoStep
 refuses s n k m j result same (inl w) f = w ∙ unreasoned s n k m j same f
 refuses s n k m j result same (inr w) f =
     absurd (both_ways (is_ok (why_answer s n k m j)) (let q : is_ok (why_answer s n k m j) ≡ false = ap is_ok (unreasoned s n k m j same f) in q) w.1)
 
-pub why_refused : (s : State) (n k m j : ℕ) (result : Result (Option (List Link)) LabFault) → IsReplayed s → Answers s n k m j result → (result ≡ Err NoStep) ↔ ((stands s n k && stands s m j) ≡ false)
+pub why_refused : (s : State) (n k m j : ℕ) (result : Result (Option (List Link)) LabFault) → IsReplayed s → Answers s n k m j result → (result ≡ Err NoStep) ↔ ((has_step s n k && has_step s m j) ≡ false)
 why_refused s n k m j result same h = (
   λ e. ⊎_elim
-      (λ t. let p = and_parts (stands s n k) (stands s m j) t in absurd (fails s n k m j result h e (reasoned s n k m j same p.0 p.1)))
+      (λ t. let p = and_parts (has_step s n k) (has_step s m j) t in absurd (fails s n k m j result h e (reasoned s n k m j same p.0 p.1)))
       (λ f. f)
-      (cases_Bool (stands s n k && stands s m j)),
+      (cases_Bool (has_step s n k && has_step s m j)),
   λ f. refuses s n k m j result same h f,
 )
 
 -- a step that exists is counted from 1 on, and its node has made at least this number of steps
-pub stands_counted : (s : State) (n k : ℕ) → stands s n k ≡ true → 0 < k
+pub stands_counted : (s : State) (n k : ℕ) → has_step s n k ≡ true → 0 < k
 stands_counted s n k h = leb-true 1 k (and_parts (nat_le 1 k) (nat_le k (steps_of n s.kept)) h).0
 
-pub stands_kept : (chip : List NodeState) (book : Book) (n k : ℕ) → stands (state_of chip book) n k ≡ true → k ≤ steps_of n (events_of book)
+pub stands_kept : (chip : List NodeState) (book : JournalState) (n k : ℕ) → has_step (state_of chip book) n k ≡ true → k ≤ steps_of n (events_of book)
 unfolding state_of
 stands_kept chip book n k h = leb-true k (steps_of n (events_of book)) (and_parts (nat_le 1 k) (nat_le k (steps_of n (events_of book))) h).1
 
@@ -186,31 +186,31 @@ some_more all n k m causes before steps s =
     omega (arith, a, b, d, e)
 
 -- the place of the first
-cause_place : (all : List Cause) (n k m : ℕ) (causes : List Cause) (before steps : ℕ) → IsSince all n k m causes before steps → place_of all n k ≡ Some before
+cause_place : (all : List Cause) (n k m : ℕ) (causes : List Cause) (before steps : ℕ) → IsSince all n k m causes before steps → position_of_step all n k ≡ Some before
 cause_place all n k m causes before steps s =
     let t = touching_in n s.earlier in
     let q = s.number in
-    subst (λ z. place_of z n k ≡ Some before) (ap (λ z. s.earlier ++ z) (sym s.begins) ∙ s.parts)
-    (subst (λ (z : ℕ). place_of (s.earlier ++ s.first ∷ s.later) n z ≡ Some before) (numbered (touching n s.earlier) k (ap (λ (z : ℕ). z + 1) t ∙ q))
+    subst (λ z. position_of_step z n k ≡ Some before) (ap (λ z. s.earlier ++ z) (sym s.begins) ∙ s.parts)
+    (subst (λ (z : ℕ). position_of_step (s.earlier ++ s.first ∷ s.later) n z ≡ Some before) (numbered (touching n s.earlier) k (ap (λ (z : ℕ). z + 1) t ∙ q))
     (place_split n (touching n s.earlier) s.earlier s.first s.later refl s.is_step ∙ ap Some s.count))
   where
     numbered : (a b : ℕ) → a + 1 ≡ b → suc a ≡ b
     numbered a b h = omega arith
 
 -- a step that is among the last events
-effect_later : (all : List Cause) (n k m j : ℕ) (causes : List Cause) (before steps : ℕ) → IsSince all n k m causes before steps → steps < j → place_of all m j ≡ on_by before (place_of causes m (j - steps))
+effect_later : (all : List Cause) (n k m j : ℕ) (causes : List Cause) (before steps : ℕ) → IsSince all n k m causes before steps → steps < j → position_of_step all m j ≡ on_by before (position_of_step causes m (j - steps))
 effect_later all n k m j causes before steps s l =
     let t : touching m s.earlier ≡ steps = touching_in m s.earlier ∙ s.others in
-    ap (λ z. place_of z m j) (sym s.parts) ∙ place_later m j s.earlier causes (subst (λ (z : ℕ). z < j) (sym t) l)
-    ∙ ap (λ (z : ℕ). on_by (length s.earlier) (place_of causes m (j - z))) t ∙ ap (λ (z : ℕ). on_by z (place_of causes m (j - steps))) s.count
+    ap (λ z. position_of_step z m j) (sym s.parts) ∙ place_later m j s.earlier causes (subst (λ (z : ℕ). z < j) (sym t) l)
+    ∙ ap (λ (z : ℕ). on_by (length s.earlier) (position_of_step causes m (j - z))) t ∙ ap (λ (z : ℕ). on_by z (position_of_step causes m (j - steps))) s.count
 
 -- one that comes before them
 record IsEarlier (all : List Cause) (m j before : ℕ) : Type 0 where
   place : ℕ
-  is : place_of all m j ≡ Some place
+  is : position_of_step all m j ≡ Some place
   early : place < before
 
-found_at : (all earlier : List Cause) (m j : ℕ) (o : Option ℕ) → is_some o ≡ true → place_of earlier m j ≡ o → place_of all m j ≡ o → IsEarlier all m j (length earlier)
+found_at : (all earlier : List Cause) (m j : ℕ) (o : Option ℕ) → is_some o ≡ true → position_of_step earlier m j ≡ o → position_of_step all m j ≡ o → IsEarlier all m j (length earlier)
 found_at all earlier m j None h p q = absurd (cc)
 found_at all earlier m j (Some i) h p q = record { place = i; is = q; early = (place_step earlier m j i p).within }
 
@@ -220,36 +220,36 @@ effect_earlier all n k m (suc j) causes before steps s some l =
     let t : touching m s.earlier ≡ steps = touching_in m s.earlier ∙ s.others in
     let below : j < touching m s.earlier = subst (λ (z : ℕ). j < z) (sym t) (omega (arith, l)) in
     subst (IsEarlier all m (suc j)) s.count
-    (found_at all s.earlier m (suc j) (place_of s.earlier m (suc j)) (place_stands s.earlier m j ∙ lt-ltb j (touching m s.earlier) below) refl
-    (ap (λ z. place_of z m (suc j)) (sym s.parts) ∙ place_more m j s.earlier causes below))
+    (found_at all s.earlier m (suc j) (position_of_step s.earlier m (suc j)) (place_stands s.earlier m j ∙ lt-ltb j (touching m s.earlier) below) refl
+    (ap (λ z. position_of_step z m (suc j)) (sym s.parts) ∙ place_more m j s.earlier causes below))
 
 -- it does not depend on the first
 pub before_none : (all : List Cause) (n k m j : ℕ) (causes : List Cause) (before steps : ℕ) → IsSince all n k m causes before steps → 0 < j → j ≤ steps
-    → Ok None ≡ why_between all (place_of all n k) (place_of all m j)
+    → Ok None ≡ why_between all (position_of_step all n k) (position_of_step all m j)
 before_none all n k m j causes before steps s some l =
     let e : IsEarlier all m j before = effect_earlier all n k m j causes before steps s some l in
     let early : e.place < before = e.early in
     let more : before < length all = some_more all n k m causes before steps s in
     let none : None ≡ chain_of all before e.place = chain_is all before e.place None more (λ d. let o : before ≤ e.place = DependsOn-order all before e.place d in absurd (omega (arith, o, early))) in
-    sym (ap (λ (o : Option ℕ). why_between all o (place_of all m j)) (cause_place all n k m causes before steps s) ∙ ap (λ (o : Option ℕ). why_between all (Some before) o) e.is ∙ ap Ok (sym none))
+    sym (ap (λ (o : Option ℕ). why_between all o (position_of_step all m j)) (cause_place all n k m causes before steps s) ∙ ap (λ (o : Option ℕ). why_between all (Some before) o) e.is ∙ ap Ok (sym none))
 
 -- the answer where the second step has a place among the last events, and where it has none
-pub there : (all : List Cause) (n k m j : ℕ) (causes : List Cause) (before steps effect : ℕ) (result : Result (Option (List Link)) LabFault) → IsSince all n k m causes before steps → steps < j → Some effect ≡ place_of causes m (j - steps)
+pub there : (all : List Cause) (n k m j : ℕ) (causes : List Cause) (before steps effect : ℕ) (result : Result (Option (List Link)) LabFault) → IsSince all n k m causes before steps → steps < j → Some effect ≡ position_of_step causes m (j - steps)
     → (result ≡ why_between all (Some before) (Some (before + effect))) ⊎ (result ≡ Err Memory)
-    → (result ≡ why_between all (place_of all n k) (place_of all m j)) ⊎ ((result ≡ Err Memory) × IsOk (why_between all (place_of all n k) (place_of all m j)))
+    → (result ≡ why_between all (position_of_step all n k) (position_of_step all m j)) ⊎ ((result ≡ Err Memory) × IsOk (why_between all (position_of_step all n k) (position_of_step all m j)))
 there all n k m j causes before steps effect result s l at h = ⊎_elim
     (λ w. inl (w ∙ sym is))
     (λ w. inr (w, subst IsOk (sym is) refl))
     h
   where
-    is : why_between all (place_of all n k) (place_of all m j) ≡ why_between all (Some before) (Some (before + effect))
-    is = ap (λ (o : Option ℕ). why_between all o (place_of all m j)) (cause_place all n k m causes before steps s)
+    is : why_between all (position_of_step all n k) (position_of_step all m j) ≡ why_between all (Some before) (Some (before + effect))
+    is = ap (λ (o : Option ℕ). why_between all o (position_of_step all m j)) (cause_place all n k m causes before steps s)
         ∙ ap (λ (o : Option ℕ). why_between all (Some before) o) (effect_later all n k m j causes before steps s l ∙ ap (on_by before) (sym at))
 
-pub nowhere : (all : List Cause) (n k m j : ℕ) (causes : List Cause) (before steps : ℕ) → IsSince all n k m causes before steps → steps < j → None ≡ place_of causes m (j - steps)
-    → Err NoStep ≡ why_between all (place_of all n k) (place_of all m j)
+pub nowhere : (all : List Cause) (n k m j : ℕ) (causes : List Cause) (before steps : ℕ) → IsSince all n k m causes before steps → steps < j → None ≡ position_of_step causes m (j - steps)
+    → Err NoStep ≡ why_between all (position_of_step all n k) (position_of_step all m j)
 nowhere all n k m j causes before steps s l at = sym (
-    ap (λ (o : Option ℕ). why_between all o (place_of all m j)) (cause_place all n k m causes before steps s)
+    ap (λ (o : Option ℕ). why_between all o (position_of_step all m j)) (cause_place all n k m causes before steps s)
     ∙ ap (λ (o : Option ℕ). why_between all (Some before) o) (effect_later all n k m j causes before steps s l ∙ ap (on_by before) (sym at)))
 
 -- the chain that is found in the last events

@@ -19,12 +19,12 @@ use Rattle.ga_grid.proofs.NodeIds.{node_id-number}
 use Rattle.ga_event.specs.declared.event.Event.{Event}
 use Rattle.ga_event.specs.declared.event.Event.TheVariants as event
 use Rattle.ga_event.specs.declared.event.Cause.{Cause}
-use Rattle.ga_event.specs.Apply.{Told, writes_to, reads_from, is_number, is_open, unmatched, refusal_of, apply, after, unless, run, replay, cause_of}
+use Rattle.ga_event.specs.Apply.{EventOutcome, writes_to, reads_from, is_number, is_open, unmatched, refusal_of, apply, after, when_allowed, run, replay, cause_of}
 use Rattle.ga_event.specs.Next.{next, next_by, pass_to, or_waiting}
 use Rattle.ga_event.specs.declared.made.Made.{Made}
 use Rattle.ga_rollback.proofs.Rewinding.{run_snoc}
 use Rattle.ga_lab.specs.declared.fault.LabFault.TheVariants.{Full, Spent}
-use Rattle.ga_lab.specs.Machine.{State, first, chip_of, told_next, answer_to, with_event, unless_refused, stepped, undone, actor_of, stepped_all}
+use Rattle.ga_lab.specs.Machine.{State, initial_state, chip_of, made_next, answer_to, with_event, unless_refused, stepped, undone, actor_of, stepped_all}
 use Rattle.ga_causal.proofs.Runs.{run_more}
 
 -- An enabled event is the next of its node, a pass that of its writer.
@@ -106,50 +106,50 @@ pub record Applied (chip : List NodeRecord) (e : Event) (es : List Event) : Type
 pub applied : (chip : List NodeRecord) (e : Event) (es : List Event) → IsSome (replay chip (e ∷ es)) → Applied chip e es
 applied chip e es h = go (refusal_of chip e) refl h
   where
-    go2 : (r : Option (List NodeRecord × List (Cause × Told))) (c : Cause) (t : Told)
-        → IsSome (option_map {U = List NodeRecord} (λ done. done.0) (option_map {U = List NodeRecord × List (Cause × Told)} (λ rest. (rest.0, (c, t) ∷ rest.1)) r)) → IsSome (option_map {U = List NodeRecord} (λ done. done.0) r)
+    go2 : (r : Option (List NodeRecord × List (Cause × EventOutcome))) (c : Cause) (t : EventOutcome)
+        → IsSome (option_map {U = List NodeRecord} (λ done. done.0) (option_map {U = List NodeRecord × List (Cause × EventOutcome)} (λ rest. (rest.0, (c, t) ∷ rest.1)) r)) → IsSome (option_map {U = List NodeRecord} (λ done. done.0) r)
     go2 None c t g = g
     go2 (Some r) c t g = refl
 
     go : (o : Option NotReady) → refusal_of chip e ≡ o
-        → IsSome (option_map {U = List NodeRecord} (λ done. done.0) (option_and_then {U = List NodeRecord × List (Cause × Told)} (λ first. option_map {U = List NodeRecord × List (Cause × Told)} (λ rest. (rest.0, (Rattle.ga_event.specs.Apply.cause_of chip e, first.1) ∷ rest.1)) (run first.0 es)) (unless o (after chip e))))
+        → IsSome (option_map {U = List NodeRecord} (λ done. done.0) (option_and_then {U = List NodeRecord × List (Cause × EventOutcome)} (λ first. option_map {U = List NodeRecord × List (Cause × EventOutcome)} (λ rest. (rest.0, (Rattle.ga_event.specs.Apply.cause_of chip e, first.1) ∷ rest.1)) (run first.0 es)) (when_allowed o (after chip e))))
         → Applied chip e es
     go None is g = record { can = is; others = go2 (run (after chip e).0 es) (Rattle.ga_event.specs.Apply.cause_of chip e) (after chip e).1 g }
     go (Some why) is g = absurd (cc)
 
-steps_on : (load c : List NodeRecord) (limit : ℕ) (xs : List Event) (ts : List (Cause × Told)) (e : Event) → run load xs ≡ Some (c, ts) → refusal_of c e ≡ None
+steps_on : (load c : List NodeRecord) (limit : ℕ) (xs : List Event) (ts : List (Cause × EventOutcome)) (e : Event) → run load xs ≡ Some (c, ts) → refusal_of c e ≡ None
     → length xs < limit → length xs < 2 ^ 64 - 1 → stepped (at load limit xs) (actor_of e) ≡ at load limit (xs ++ e ∷ [])
 steps_on load c limit xs ts e ran can room count =
     let s : State = at load limit xs in
-    let chip : chip_of s ≡ c = ap (λ (o : Option (List NodeRecord × List (Cause × Told))). unwrap_or (option_map (λ (x : List NodeRecord × List (Cause × Told)). x.0) o) []) ran in
+    let chip : chip_of s ≡ c = ap (λ (o : Option (List NodeRecord × List (Cause × EventOutcome))). unwrap_or (option_map (λ (x : List NodeRecord × List (Cause × EventOutcome)). x.0) o) []) ran in
     let is : next (chip_of s) (actor_of e) ≡ Ok e = ap (λ z. next z (actor_of e)) chip ∙ made_is_next c e can in
-    let answer : answer_to s (Ok e) ≡ Ok (told_next s e) =
+    let answer : answer_to s (Ok e) ≡ Ok (made_next s e) =
     cond-false (nat_le limit (length xs)) (Err Full) _ (lt-leb limit (length xs) room)
     ∙ cond-false (nat_le (2 ^ 64 - 1) (length xs)) (Err Spent) _ (lt-leb (2 ^ 64 - 1) (length xs) count) in
     ap (λ z. unless_refused s (answer_to s z) (with_event s z)) is
     ∙ ap (λ (z : Result Made Rattle.ga_lab.specs.declared.fault.LabFault.LabFault). unless_refused s z (with_event s (Ok e))) answer
     ∙ ap (λ z. let a : State = record { load = load; limit = limit; kept = xs ++ e ∷ []; made = z } in a) (sym (length_push xs e))
 
-reach : (load c : List NodeRecord) (limit : ℕ) (xs : List Event) (ts : List (Cause × Told)) (ys : List Event) → run load xs ≡ Some (c, ts) → IsSome (replay c ys)
+reach : (load c : List NodeRecord) (limit : ℕ) (xs : List Event) (ts : List (Cause × EventOutcome)) (ys : List Event) → run load xs ≡ Some (c, ts) → IsSome (replay c ys)
     → length xs + length ys ≤ limit → length xs + length ys < 2 ^ 64 → stepped_all (at load limit xs) (map actor_of ys) ≡ at load limit (xs ++ ys)
 reach load c limit xs ts [] ran some room count = ap (at load limit) (sym (append-nil xs))
 reach load c limit xs ts (y ∷ ys) ran some room count =
     let a : Applied c y ys = applied c y ys some in
-    let made : apply c y ≡ Some ((after c y).0, (after c y).1) = ap (λ o. unless o (after c y)) a.can in
+    let made : apply c y ≡ Some ((after c y).0, (after c y).1) = ap (λ o. when_allowed o (after c y)) a.can in
     let more : length (xs ++ y ∷ []) ≡ length xs + 1 = length_push xs y in
     ap (λ z. stepped_all z (map actor_of ys)) (steps_on load c limit xs ts y ran a.can (omega arith) (omega arith))
     ∙ reach load (after c y).0 limit (xs ++ y ∷ []) _ ys (run_snoc load c (after c y).0 xs ts y (after c y).1 ran made) a.others (omega arith) (omega arith)
     ∙ ap (at load limit) (append_assoc xs (y ∷ []) ys)
 
-pub reached_forward : (s : State) → IsSome (replay s.load s.kept) → length s.kept ≤ s.limit → length s.kept < 2 ^ 64
-    → stepped_all (first s.load s.limit) (map actor_of s.kept) ≡ record s { made = length s.kept }
-reached_forward s some room count = reach s.load s.load s.limit [] [] s.kept refl some (omega arith) (omega arith)
+pub reachable_by_steps : (s : State) → IsSome (replay s.load s.kept) → length s.kept ≤ s.limit → length s.kept < 2 ^ 64
+    → stepped_all (initial_state s.load s.limit) (map actor_of s.kept) ≡ record s { made = length s.kept }
+reachable_by_steps s some room count = reach s.load s.load s.limit [] [] s.kept refl some (omega arith) (omega arith)
 
 -- A step of the newest event's node makes it again, where it was undone.
 
 pub record Before (load : List NodeRecord) (xs : List Event) (e : Event) : Type 0 where
   pub last : List NodeRecord
-  pub told : List (Cause × Told)
+  pub told : List (Cause × EventOutcome)
   pub ran : run load xs ≡ Some (last, told)
   pub can : refusal_of last e ≡ None
 
@@ -161,7 +161,7 @@ before load (x ∷ xs) e h =
     record {
       last = b.last;
       told = (cause_of load x, (after load x).1) ∷ b.told;
-      ran = run_more load x xs (after load x).0 b.last (after load x).1 b.told (ap (λ o. unless o (after load x)) a.can) b.ran;
+      ran = run_more load x xs (after load x).0 b.last (after load x).1 b.told (ap (λ o. when_allowed o (after load x)) a.can) b.ran;
       can = b.can;
     }
 
@@ -169,21 +169,21 @@ before load (x ∷ xs) e h =
 abbrev pub keeping : State → List Event → ℕ → State
 keeping s xs made = record s { kept = xs; made = made }
 
-pub steps_at : (s : State) (c : List NodeRecord) (xs : List Event) (ts : List (Cause × Told)) (e : Event) → run s.load xs ≡ Some (c, ts) → refusal_of c e ≡ None
+pub steps_at : (s : State) (c : List NodeRecord) (xs : List Event) (ts : List (Cause × EventOutcome)) (e : Event) → run s.load xs ≡ Some (c, ts) → refusal_of c e ≡ None
     → length xs < s.limit → s.made < 2 ^ 64 - 1 → stepped (keeping s xs s.made) (actor_of e) ≡ keeping s (xs ++ e ∷ []) (s.made + 1)
 steps_at s c xs ts e ran can room count =
     let t : State = record s { kept = xs; made = s.made } in
-    let chip : chip_of t ≡ c = ap (λ (o : Option (List NodeRecord × List (Cause × Told))). unwrap_or (option_map (λ (x : List NodeRecord × List (Cause × Told)). x.0) o) []) ran in
+    let chip : chip_of t ≡ c = ap (λ (o : Option (List NodeRecord × List (Cause × EventOutcome))). unwrap_or (option_map (λ (x : List NodeRecord × List (Cause × EventOutcome)). x.0) o) []) ran in
     let is : next (chip_of t) (actor_of e) ≡ Ok e = ap (λ z. next z (actor_of e)) chip ∙ made_is_next c e can in
-    let answer : answer_to t (Ok e) ≡ Ok (told_next t e) =
+    let answer : answer_to t (Ok e) ≡ Ok (made_next t e) =
     cond-false (nat_le s.limit (length xs)) (Err Full) _ (lt-leb s.limit (length xs) room)
     ∙ cond-false (nat_le (2 ^ 64 - 1) s.made) (Err Spent) _ (lt-leb (2 ^ 64 - 1) s.made count) in
     ap (λ z. unless_refused t (answer_to t z) (with_event t z)) is
     ∙ ap (λ (z : Result Made Rattle.ga_lab.specs.declared.fault.LabFault.LabFault). unless_refused t z (with_event t (Ok e))) answer
 
-pub redone : (s : State) (xs : List Event) (e : Event) → IsSome (replay s.load s.kept) → s.kept ≡ xs ++ e ∷ [] → length s.kept ≤ s.limit → s.made < 2 ^ 64 - 1
+pub undo_is_redone_by_step : (s : State) (xs : List Event) (e : Event) → IsSome (replay s.load s.kept) → s.kept ≡ xs ++ e ∷ [] → length s.kept ≤ s.limit → s.made < 2 ^ 64 - 1
     → stepped (undone s) (actor_of e) ≡ record s { made = s.made + 1 }
-redone s xs e some is room count =
+undo_is_redone_by_step s xs e some is room count =
     let b : Before s.load xs e = before s.load xs e (subst (λ z. IsSome (replay s.load z)) is some) in
     let long : length (xs ++ e ∷ []) ≡ length xs + 1 = length_push xs e in
     let size : length s.kept ≡ length xs + 1 = ap length is ∙ long in

@@ -13,17 +13,17 @@ use Rattle.ga_grid.specs.Chip.{nowhere, record_at}
 use Rattle.ga_event.specs.declared.event.Event.{Event}
 use Rattle.ga_event.specs.declared.event.Cause.{Cause}
 use Rattle.ga_event.specs.Touches.{touches}
-use Rattle.ga_event.specs.Apply.{Told, after, apply, cause_of, run, seen_from, is_look}
-use Rattle.ga_causal.specs.Words.{word_of, account_read, look_word, words_read}
+use Rattle.ga_event.specs.Apply.{EventOutcome, after, apply, cause_of, run, neighbour_states, is_look}
+use Rattle.ga_causal.specs.Words.{word_of, local_history_with_reads, look_word, words_read}
 use Rattle.ga_causal.proofs.Runs.{first_of_run, keeps_of, causes}
 use Rattle.ga_causal.proofs.Words.{Becomes, becomes_one, becomes_of, after_is, same_size}
 use Rattle.ga_event.specs.declared.made.Made.{Made}
 use Rattle.ga_event.specs.Told.{made_after, mades_after, mades_of}
-use Rattle.ga_lab.specs.Machine.{State, first, chip_of, history_of, causes_of}
-use Rattle.ga_lab.specs.Calls.{MachineCall, called_all}
+use Rattle.ga_lab.specs.Machine.{State, initial_state, chip_of, history_of, causes_of}
+use Rattle.ga_lab.specs.Calls.{MachineCall, after_calls}
 use Rattle.ga_lab.proofs.Called.{Runs, told_is, chip_is, first_runs, calls_load, causes_is}
-use Rattle.ga_causal.specs.Dependence.{NoneLooks}
-use Rattle.ga_causal.proofs.Shuffles.{touched_of}
+use Rattle.ga_causal.specs.Dependence.{HasNoLooks}
+use Rattle.ga_causal.proofs.Equivalences.{touched_of}
 use Rattle.ga_event.specs.declared.event.Event.TheVariants as event
 use Rattle.ga_event.specs.declared.made.Made.TheVariants as made
 
@@ -78,7 +78,7 @@ made_traced : (n : ℕ) (c mid : List NodeRecord) (e : Event) (before : List Eve
 made_traced n c mid (event.Own node) before y ms ws b later = (record_at mid n, word_of c (event.Own node), ws, b, refl, later)
 made_traced n c mid (event.Pass w r side) before y ms ws b later = (record_at mid n, word_of c (event.Pass w r side), ws, b, (refl, refl), later)
 
-traced_more : (n : ℕ) (c mid : List NodeRecord) (e : Event) (told : Told) (before : List Event) (y : NodeRecord) (ms : List Made) (rest : List (Event × Option ℕ)) → n < length c
+traced_more : (n : ℕ) (c mid : List NodeRecord) (e : Event) (told : EventOutcome) (before : List Event) (y : NodeRecord) (ms : List Made) (rest : List (Event × Option ℕ)) → n < length c
     → apply c e ≡ Some (mid, told) → Traced n (record_at mid n) ms (flat_map (λ x. look_word x.0 x.1) rest) y → (b : Bool) → touches e n ≡ b
     → Traced n (record_at c n) (cond b (option_to_list (made_after before e told)) [] ++ ms) (flat_map (λ x. look_word x.0 x.1) (cond b ((e, word_of c e) ∷ rest) rest)) y
 traced_more n c mid e told before y ms rest l h later true is =
@@ -87,18 +87,18 @@ traced_more n c mid e told before y ms rest l h later true is =
 traced_more n c mid e told before y ms rest l h later false is =
     subst (λ z. Traced n z ms (flat_map (λ x. look_word x.0 x.1) rest) y) (sym ((keeps_of c e mid told h).same n is)) later
 
-pub traced : (n : ℕ) (c last : List NodeRecord) (es : List Event) (ts : List (Cause × Told)) (before : List Event) → n < length c → run c es ≡ Some (last, ts)
+pub traced : (n : ℕ) (c last : List NodeRecord) (es : List Event) (ts : List (Cause × EventOutcome)) (before : List Event) → n < length c → run c es ≡ Some (last, ts)
     → Traced n (record_at c n) (mades_after before ts n) (words_read n c es) (record_at last n)
 traced n c last [] ts before l h =
-    subst (λ (z : List NodeRecord × List (Cause × Told)). Traced n (record_at c n) (mades_after before z.1 n) [] (record_at z.0 n)) (same_Some (c, []) (last, ts) h) (refl, refl)
+    subst (λ (z : List NodeRecord × List (Cause × EventOutcome)). Traced n (record_at c n) (mades_after before z.1 n) [] (record_at z.0 n)) (same_Some (c, []) (last, ts) h) (refl, refl)
 traced n c last (e ∷ es) ts before l h =
     let m = first_of_run c e es last ts h in
     let size : length c ≡ length m.mid = (keeps_of c e m.mid m.told m.first).size in
     let later = traced n m.mid last es m.others (before ++ e ∷ []) (omega (arith, l, size)) m.then in
-    subst (λ (z : List (Cause × Told)). Traced n (record_at c n) (mades_after before z n) (words_read n c (e ∷ es)) (record_at last n)) (sym m.all)
-    (subst (λ d. Traced n (record_at c n) (mades_after before ((cause_of c e, m.told) ∷ m.others) n) (flat_map (λ x. look_word x.0 x.1) (cond (touches e n) ((e, word_of c e) ∷ account_read n d es) (account_read n d es))) (record_at last n))
+    subst (λ (z : List (Cause × EventOutcome)). Traced n (record_at c n) (mades_after before z n) (words_read n c (e ∷ es)) (record_at last n)) (sym m.all)
+    (subst (λ d. Traced n (record_at c n) (mades_after before ((cause_of c e, m.told) ∷ m.others) n) (flat_map (λ x. look_word x.0 x.1) (cond (touches e n) ((e, word_of c e) ∷ local_history_with_reads n d es) (local_history_with_reads n d es))) (record_at last n))
     (sym (ap (λ z. z.0) (after_is c m.mid e m.told m.first)))
-    (traced_more n c m.mid e m.told before (record_at last n) (mades_after (before ++ e ∷ []) m.others n) (account_read n m.mid es) l m.first later (touches e n) refl))
+    (traced_more n c m.mid e m.told before (record_at last n) (mades_after (before ++ e ∷ []) m.others n) (local_history_with_reads n m.mid es) l m.first later (touches e n) refl))
 
 -- machines with one load, in which a node has the same history and its looks read the same words
 node_alike : (s z : State) (n : ℕ) → Runs s → Runs z → s.load ≡ z.load → history_of s n ≡ history_of z n → words_read n s.load s.kept ≡ words_read n z.load z.kept
@@ -120,28 +120,28 @@ node_alike s z n r q load told words =
     ap (λ c. record_at c n) (chip_is s r) ∙ last ∙ sym (ap (λ c. record_at c n) (chip_is z q))
 
 pub same_node : (load : List NodeRecord) (limit bound : ℕ) (calls others : List MachineCall) (n : ℕ)
-    → history_of (called_all (first load limit) calls) n ≡ history_of (called_all (first load bound) others) n
-    → words_read n load (called_all (first load limit) calls).kept ≡ words_read n load (called_all (first load bound) others).kept
-    → record_at (chip_of (called_all (first load limit) calls)) n ≡ record_at (chip_of (called_all (first load bound) others)) n
+    → history_of (after_calls (initial_state load limit) calls) n ≡ history_of (after_calls (initial_state load bound) others) n
+    → words_read n load (after_calls (initial_state load limit) calls).kept ≡ words_read n load (after_calls (initial_state load bound) others).kept
+    → record_at (chip_of (after_calls (initial_state load limit) calls)) n ≡ record_at (chip_of (after_calls (initial_state load bound) others)) n
 same_node load limit bound calls others n told words =
-    let s = called_all (first load limit) calls in
-    let z = called_all (first load bound) others in
-    let at : s.load ≡ load = calls_load (first load limit) calls in
-    let to : z.load ≡ load = calls_load (first load bound) others in
+    let s = after_calls (initial_state load limit) calls in
+    let z = after_calls (initial_state load bound) others in
+    let at : s.load ≡ load = calls_load (initial_state load limit) calls in
+    let to : z.load ≡ load = calls_load (initial_state load bound) others in
     node_alike s z n (first_runs load limit calls) (first_runs load bound others) (at ∙ sym to) told
     (ap (λ c. words_read n c s.kept) at ∙ words ∙ sym (ap (λ c. words_read n c z.kept) to))
 
 pub same_chip : (load : List NodeRecord) (limit bound : ℕ) (calls others : List MachineCall)
-    → ((n : ℕ) → history_of (called_all (first load limit) calls) n ≡ history_of (called_all (first load bound) others) n)
-    → ((n : ℕ) → words_read n load (called_all (first load limit) calls).kept ≡ words_read n load (called_all (first load bound) others).kept)
-    → chip_of (called_all (first load limit) calls) ≡ chip_of (called_all (first load bound) others)
+    → ((n : ℕ) → history_of (after_calls (initial_state load limit) calls) n ≡ history_of (after_calls (initial_state load bound) others) n)
+    → ((n : ℕ) → words_read n load (after_calls (initial_state load limit) calls).kept ≡ words_read n load (after_calls (initial_state load bound) others).kept)
+    → chip_of (after_calls (initial_state load limit) calls) ≡ chip_of (after_calls (initial_state load bound) others)
 same_chip load limit bound calls others told words =
-    let s = called_all (first load limit) calls in
-    let z = called_all (first load bound) others in
+    let s = after_calls (initial_state load limit) calls in
+    let z = after_calls (initial_state load bound) others in
     let r : Runs s = first_runs load limit calls in
     let q : Runs z = first_runs load bound others in
-    let here : length load ≡ length (chip_of s) = ap length (sym (calls_load (first load limit) calls)) ∙ same_size s.load r.last s.kept r.told r.run_is ∙ ap length (sym (chip_is s r)) in
-    let there : length load ≡ length (chip_of z) = ap length (sym (calls_load (first load bound) others)) ∙ same_size z.load q.last z.kept q.told q.run_is ∙ ap length (sym (chip_is z q)) in
+    let here : length load ≡ length (chip_of s) = ap length (sym (calls_load (initial_state load limit) calls)) ∙ same_size s.load r.last s.kept r.told r.run_is ∙ ap length (sym (chip_is s r)) in
+    let there : length load ≡ length (chip_of z) = ap length (sym (calls_load (initial_state load bound) others)) ∙ same_size z.load q.last z.kept q.told q.run_is ∙ ap length (sym (chip_is z q)) in
     ext_get_or (record_of nowhere) (chip_of s) (chip_of z) (sym here ∙ there) (λ n l. same_node load limit bound calls others n (told n) (words n))
 
 -- ---- if no event of a machine looks, none does in another with the same histories
@@ -182,13 +182,13 @@ blind_past : (c : List NodeRecord) (n : ℕ) → length c ≤ n → looks (recor
 blind_past c n l = ap (λ z. looks z) (get_or_past c n (record_of nowhere) l) ∙ blind_nowhere
 
 no_word : (c : List NodeRecord) (e : Event) → is_look c e ≡ false → look_word e (word_of c e) ≡ []
-no_word c (event.Own node) h = ap option_to_list (cond-false (looks (record_at c node.number)) (Some (io_word (seen_from c node.number))) None h)
+no_word c (event.Own node) h = ap option_to_list (cond-false (looks (record_at c node.number)) (Some (io_word (neighbour_states c node.number))) None h)
 no_word c (event.Pass w r side) h = refl
 
 no_look : (c : List NodeRecord) (e : Event) → look_word e (word_of c e) ≡ [] → is_look c e ≡ false
 no_look c (event.Own node) h = go (looks (record_at c node.number)) h
   where
-    go : (b : Bool) → option_to_list (cond b (Some (io_word (seen_from c node.number))) None) ≡ [] → b ≡ false
+    go : (b : Bool) → option_to_list (cond b (Some (io_word (neighbour_states c node.number))) None) ≡ [] → b ≡ false
     go true k = absurd (cc)
     go false k = refl
 no_look c (event.Pass w r side) h = refl
@@ -201,13 +201,13 @@ one_less true x xs h k = ap (λ z. z ++ read xs) (h refl) ∙ k
 one_less false x xs h k = k
 
 -- no words where nobody looks
-words_blind : (n : ℕ) (c last : List NodeRecord) (es : List Event) (ts : List (Cause × Told)) → run c es ≡ Some (last, ts) → NoneLooks (causes ts) → words_read n c es ≡ []
+words_blind : (n : ℕ) (c last : List NodeRecord) (es : List Event) (ts : List (Cause × EventOutcome)) → run c es ≡ Some (last, ts) → HasNoLooks (causes ts) → words_read n c es ≡ []
 words_blind n c last [] ts h none = refl
 words_blind n c last (e ∷ es) ts h none =
     let m = first_of_run c e es last ts h in
-    let look : NoneLooks (cause_of c e ∷ causes m.others) = subst (λ (z : List (Cause × Told)). NoneLooks (causes z)) m.all none in
-    one_less (touches e n) (e, word_of c e) (account_read n (after c e).0 es) (λ t. no_word c e look.0)
-    (ap (λ (q : List NodeRecord × Told). words_read n q.0 es) (after_is c m.mid e m.told m.first) ∙ words_blind n m.mid last es m.others m.then look.1)
+    let look : HasNoLooks (cause_of c e ∷ causes m.others) = subst (λ (z : List (Cause × EventOutcome)). HasNoLooks (causes z)) m.all none in
+    one_less (touches e n) (e, word_of c e) (local_history_with_reads n (after c e).0 es) (λ t. no_word c e look.0)
+    (ap (λ (q : List NodeRecord × EventOutcome). words_read n q.0 es) (after_is c m.mid e m.told m.first) ∙ words_blind n m.mid last es m.others m.then look.1)
 
 past_word : (c : List NodeRecord) (e : Event) (n : ℕ) → length c ≤ n → touches e n ≡ true → look_word e (word_of c e) ≡ []
 past_word c (event.Own node) n l t =
@@ -215,13 +215,13 @@ past_word c (event.Own node) n l t =
     no_word c (event.Own node) (blind_past c node.number (omega (arith, l, at)))
 past_word c (event.Pass w r side) n l t = refl
 
-words_past : (n : ℕ) (c last : List NodeRecord) (es : List Event) (ts : List (Cause × Told)) → length c ≤ n → run c es ≡ Some (last, ts) → words_read n c es ≡ []
+words_past : (n : ℕ) (c last : List NodeRecord) (es : List Event) (ts : List (Cause × EventOutcome)) → length c ≤ n → run c es ≡ Some (last, ts) → words_read n c es ≡ []
 words_past n c last [] ts l h = refl
 words_past n c last (e ∷ es) ts l h =
     let m = first_of_run c e es last ts h in
     let size : length c ≡ length m.mid = (keeps_of c e m.mid m.told m.first).size in
-    one_less (touches e n) (e, word_of c e) (account_read n (after c e).0 es) (λ t. past_word c e n l t)
-    (ap (λ (q : List NodeRecord × Told). words_read n q.0 es) (after_is c m.mid e m.told m.first) ∙ words_past n m.mid last es m.others (omega (arith, l, size)) m.then)
+    one_less (touches e n) (e, word_of c e) (local_history_with_reads n (after c e).0 es) (λ t. past_word c e n l t)
+    (ap (λ (q : List NodeRecord × EventOutcome). words_read n q.0 es) (after_is c m.mid e m.told m.first) ∙ words_past n m.mid last es m.others (omega (arith, l, size)) m.then)
 
 first_none : (b : Bool) (x : Event × Option ℕ) (xs : List (Event × Option ℕ)) → b ≡ true → read (cond b (x ∷ xs) xs) ≡ [] → look_word x.0 x.1 ≡ []
 first_none true x xs t h = go (look_word x.0 x.1) h
@@ -240,18 +240,18 @@ rest_none true x xs h = go (look_word x.0 x.1) h
 rest_none false x xs h = h
 
 -- nobody looks where there are no words
-blind_words : (c last : List NodeRecord) (es : List Event) (ts : List (Cause × Told)) → run c es ≡ Some (last, ts) → ((n : ℕ) → words_read n c es ≡ []) → NoneLooks (causes ts)
-blind_words c last [] ts h none = subst (λ (z : List NodeRecord × List (Cause × Told)). NoneLooks (causes z.1)) (same_Some (c, []) (last, ts) h) tt
+blind_words : (c last : List NodeRecord) (es : List Event) (ts : List (Cause × EventOutcome)) → run c es ≡ Some (last, ts) → ((n : ℕ) → words_read n c es ≡ []) → HasNoLooks (causes ts)
+blind_words c last [] ts h none = subst (λ (z : List NodeRecord × List (Cause × EventOutcome)). HasNoLooks (causes z.1)) (same_Some (c, []) (last, ts) h) tt
 blind_words c last (e ∷ es) ts h none =
     let m = first_of_run c e es last ts h in
     let t = touched_of e in
-    subst (λ (z : List (Cause × Told)). NoneLooks (causes z)) (sym m.all) (
-      no_look c e (first_none (touches e t.node) (e, word_of c e) (account_read t.node (after c e).0 es) t.is (none t.node)),
-      blind_words m.mid last es m.others m.then (λ n. sym (ap (λ (q : List NodeRecord × Told). words_read n q.0 es) (after_is c m.mid e m.told m.first)) ∙ rest_none (touches e n) (e, word_of c e) (account_read n (after c e).0 es) (none n)),
+    subst (λ (z : List (Cause × EventOutcome)). HasNoLooks (causes z)) (sym m.all) (
+      no_look c e (first_none (touches e t.node) (e, word_of c e) (local_history_with_reads t.node (after c e).0 es) t.is (none t.node)),
+      blind_words m.mid last es m.others m.then (λ n. sym (ap (λ (q : List NodeRecord × EventOutcome). words_read n q.0 es) (after_is c m.mid e m.told m.first)) ∙ rest_none (touches e n) (e, word_of c e) (local_history_with_reads n (after c e).0 es) (none n)),
     )
 
-pub none_looks : (s z : State) → Runs s → Runs z → s.load ≡ z.load → NoneLooks (causes_of s) → ((n : ℕ) → history_of s n ≡ history_of z n) → NoneLooks (causes_of z)
-none_looks s z r q load none told = subst NoneLooks (sym (causes_is z q)) (blind_words z.load q.last z.kept q.told q.run_is (λ n. each n))
+pub none_looks : (s z : State) → Runs s → Runs z → s.load ≡ z.load → HasNoLooks (causes_of s) → ((n : ℕ) → history_of s n ≡ history_of z n) → HasNoLooks (causes_of z)
+none_looks s z r q load none told = subst HasNoLooks (sym (causes_is z q)) (blind_words z.load q.last z.kept q.told q.run_is (λ n. each n))
   where
     each : (n : ℕ) → words_read n z.load z.kept ≡ []
     each n = elim (cases_lt n (length z.load)) [
@@ -260,7 +260,7 @@ none_looks s z r q load none told = subst NoneLooks (sym (causes_is z q)) (blind
           traced_silent n (record_at z.load n) (mades_of q.told n) (words_read n z.load z.kept) (record_at r.last n) (record_at q.last n)
           (subst (λ c. Traced n (record_at c n) (mades_of q.told n) [] (record_at r.last n)) load
           (subst (λ x. Traced n (record_at s.load n) x [] (record_at r.last n)) same
-          (subst (λ x. Traced n (record_at s.load n) (mades_of r.told n) x (record_at r.last n)) (words_blind n s.load r.last s.kept r.told r.run_is (subst NoneLooks (causes_is s r) none))
+          (subst (λ x. Traced n (record_at s.load n) (mades_of r.told n) x (record_at r.last n)) (words_blind n s.load r.last s.kept r.told r.run_is (subst HasNoLooks (causes_is s r) none))
           (traced n s.load r.last s.kept r.told [] (omega (arith, l, size)) r.run_is))))
           (traced n z.load q.last z.kept q.told [] l q.run_is))
       | inr l ↦ words_past n z.load q.last z.kept q.told l q.run_is

@@ -5,18 +5,18 @@ use Rattle.std.proofs.lemmas.List.{length_push}
 use Rattle.ga_node.specs.Record.{NodeRecord}
 use Rattle.ga_event.specs.declared.event.Event.{Event}
 use Rattle.ga_event.specs.declared.event.Cause.{Cause}
-use Rattle.ga_event.specs.Apply.{Told, refusal_of, apply, after, unless, cause_of, replay}
-use Rattle.ga_causal.specs.Dependence.{dependents, without, rest, NoneLooks, place_of, rest_from}
+use Rattle.ga_event.specs.Apply.{EventOutcome, refusal_of, apply, after, when_allowed, cause_of, replay}
+use Rattle.ga_causal.specs.Dependence.{dependents, unflagged, rest, HasNoLooks, position_of_step, rest_from}
 use Rattle.ga_event.specs.Told.{events_in}
-use Rattle.ga_causal.specs.Equivalence.{AreApart, AreEquivalent, same, swapped, later, joined}
+use Rattle.ga_causal.specs.Equivalence.{AreIndependent, AreEquivalent, same, swapped, later, joined}
 use Rattle.ga_causal.proofs.Runs.{replay_equivalent}
-use Rattle.ga_causal.proofs.Taken.{taken_last}
-use Rattle.ga_lab.specs.Machine.{State, first, chip_of, causes_of, with_event, step_answer, stepped, rewound, actor_of, stepped_all}
-use Rattle.ga_lab.specs.Calls.{MachineCall, step, undo, rewind, called, called_all, AreEquivalentStates}
+use Rattle.ga_causal.proofs.Taken.{removed_events_swap_to_end}
+use Rattle.ga_lab.specs.Machine.{State, initial_state, chip_of, causes_of, with_event, step_answer, stepped, rewound, actor_of, stepped_all}
+use Rattle.ga_lab.specs.Calls.{MachineCall, step, undo, rewind, after_call, after_calls, AreEquivalentStates}
 use Rattle.ga_lab.specs.Sequences.{AllNamed, undos, AreCausal, itself, chained, before, more, onward, refused, cancelled, turned, rolled, taken_from}
 use Rattle.ga_lab.proofs.Alike.{equivalent_length, same_rewind}
 use Rattle.ga_lab.proofs.Called.{Runs, runs_of, with_kept, causes_is, chip_is}
-use Rattle.ga_lab.proofs.Forward.{made_is_next, Applied, applied, reached_forward}
+use Rattle.ga_lab.proofs.Forward.{made_is_next, Applied, applied, reachable_by_steps}
 use Rattle.ga_lab.proofs.Reasoned.{replayed}
 use Rattle.ga_lab.proofs.Sequences.{counting, called_append, ended, answered, step_made_is, runs_more, undone_last, equivalent_back}
 
@@ -29,14 +29,14 @@ abbrev pub at : State → List Event → State
 at s xs = record { load = s.load; limit = s.limit; kept = xs; made = length xs }
 
 abbrev pub load_of : State → State
-load_of s = first s.load s.limit
+load_of s = initial_state s.load s.limit
 
-called_steps : (s : State) (xs : List Event) → called_all s (steps_for xs) ≡ stepped_all s (map actor_of xs)
+called_steps : (s : State) (xs : List Event) → after_calls s (steps_for xs) ≡ stepped_all s (map actor_of xs)
 called_steps s [] = refl
 called_steps s (e ∷ xs) = called_steps (stepped s (actor_of e)) xs
 
-steps_reach : (s : State) (xs : List Event) → IsSome (replay s.load xs) → length xs ≤ s.limit → length xs < 2 ^ 64 → called_all (load_of s) (steps_for xs) ≡ at s xs
-steps_reach s xs some room count = called_steps (load_of s) xs ∙ reached_forward (at s xs) some room count
+steps_reach : (s : State) (xs : List Event) → IsSome (replay s.load xs) → length xs ≤ s.limit → length xs < 2 ^ 64 → after_calls (load_of s) (steps_for xs) ≡ at s xs
+steps_reach s xs some room count = called_steps (load_of s) xs ∙ reachable_by_steps (at s xs) some room count
 
 steps_named : (xs : List Event) → AllNamed (steps_for xs)
 steps_named [] = tt
@@ -47,9 +47,9 @@ steps_length [] = refl
 steps_length (e ∷ xs) = ap suc (steps_length xs)
 
 -- the same calls before both
-prefixed : (s : State) (ws xs ys : List MachineCall) → AreCausal (called_all s ws) xs ys → AreCausal s (ws ++ xs) (ws ++ ys)
+prefixed : (s : State) (ws xs ys : List MachineCall) → AreCausal (after_calls s ws) xs ys → AreCausal s (ws ++ xs) (ws ++ ys)
 prefixed s [] xs ys h = h
-prefixed s (call ∷ ws) xs ys h = before (prefixed (called s call) ws xs ys h)
+prefixed s (call ∷ ws) xs ys h = before (prefixed (after_call s call) ws xs ys h)
 
 -- Steps for equivalent lists are causally equivalent.
 swaps : (s : State) (r : Runs s) (c : List NodeRecord) (xs ys : List Event) → r.last ≡ c → AreEquivalent c xs ys → IsSome (replay c xs) → length s.kept + length xs ≤ s.limit → s.made + length xs < 2 ^ 64 → AreCausal s (steps_for xs) (steps_for ys)
@@ -64,13 +64,13 @@ swaps s r c xs ys q (swapped {e} {f} {xs = zs} h) some l k =
     let many : length (steps_for zs) ≡ length zs = steps_length zs in
     let room : s.made + suc (suc (length (steps_for zs))) < 2 ^ 64 = omega (arith, count, many) in
     more (step (actor_of e) ∷ step (actor_of f) ∷ []) (step (actor_of f) ∷ step (actor_of e) ∷ []) (steps_for zs) (steps_named zs) room room
-    (turned {e = e} {f = f} (omega (arith, size)) (omega (arith, count)) (ap (λ z. refusal_of z e) chip ∙ ce) (ap (λ z. refusal_of z f) chip ∙ cf) (subst (λ z. AreApart (cause_of z e) (cause_of z f)) (sym chip) h))
+    (turned {e = e} {f = f} (omega (arith, size)) (omega (arith, count)) (ap (λ z. refusal_of z e) chip ∙ ce) (ap (λ z. refusal_of z f) chip ∙ cf) (subst (λ z. AreIndependent (cause_of z e) (cause_of z f)) (sym chip) h))
 swaps s r c xs ys q (later {now} {e} {told} {xs = us} {ys = vs} h w) some l k =
     let size : length s.kept + suc (length us) ≤ s.limit = l in
     let count : s.made + suc (length us) < 2 ^ 64 = k in
     let a : Applied c e us = applied c e us some in
     let can : refusal_of r.last e ≡ None = ap (λ z. refusal_of z e) q ∙ a.can in
-    let there : (after c e).0 ≡ now = ap (λ (z : List NodeRecord × Told). z.0) (Rattle.std.proofs.lemmas.Option.same_Some (after c e) (now, told) (sym (ap (λ o. unless o (after c e)) a.can) ∙ h)) in
+    let there : (after c e).0 ≡ now = ap (λ (z : List NodeRecord × EventOutcome). z.0) (Rattle.std.proofs.lemmas.Option.same_Some (after c e) (now, told) (sym (ap (λ o. when_allowed o (after c e)) a.can) ∙ h)) in
     let long : length (s.kept ++ e ∷ []) ≡ length s.kept + 1 = length_push s.kept e in
     let made : stepped s (actor_of e) ≡ with_event s (Ok e) = step_made_is s r.last e (chip_is s r) can (omega (arith, size)) (omega (arith, count)) in
     before (subst (λ z. AreCausal z (steps_for us) (steps_for vs)) (sym made)
@@ -114,8 +114,8 @@ front_some load [] ys h = refl
 front_some load (x ∷ xs) ys h =
     let a : Applied load x (xs ++ ys) = applied load x (xs ++ ys) h in
     let b : IsSome (replay (after load x).0 xs) = front_some (after load x).0 xs ys a.others in
-    let c : apply load x ≡ Some (after load x) = ap (λ o. unless o (after load x)) a.can in
-    ap is_some (Rattle.ga_causal.proofs.Runs.replay-cons load x xs) ∙ ap (λ (o : Option (List NodeRecord × Told)). is_some (Rattle.std.specs.Prelude.option_and_then (λ (first : List NodeRecord × Told). replay first.0 xs) o)) c ∙ b
+    let c : apply load x ≡ Some (after load x) = ap (λ o. when_allowed o (after load x)) a.can in
+    ap is_some (Rattle.ga_causal.proofs.Runs.replay-cons load x xs) ∙ ap (λ (o : Option (List NodeRecord × EventOutcome)). is_some (Rattle.std.specs.Prelude.option_and_then (λ (first : List NodeRecord × EventOutcome). replay first.0 xs) o)) c ∙ b
 
 Fits-front : (s : State) (xs : List Event) (e : Event) → s.kept ≡ xs ++ e ∷ [] → Fits s → Fits (with_kept s xs)
 Fits-front s xs e is f =
@@ -124,7 +124,7 @@ Fits-front s xs e is f =
     let n : length s.kept ≡ length xs + 1 = ap length is ∙ length_push xs e in
     record { some = front_some s.load xs (e ∷ []) (subst (λ z. IsSome (replay s.load z)) is f.some); room = omega (arith, a, n); count = omega (arith, b, n) }
 
-pub reach : (s : State) → Fits s → called_all (load_of s) (steps_for s.kept) ≡ at s s.kept
+pub reach : (s : State) → Fits s → after_calls (load_of s) (steps_for s.kept) ≡ at s s.kept
 reach s f = steps_reach s s.kept f.some f.room f.count
 
 -- from the machine with the list on, a call is these
@@ -132,7 +132,7 @@ pub behind : (s : State) (xs ys : List MachineCall) → Fits s → AreCausal (at
 behind s xs ys f h = prefixed (load_of s) (steps_for s.kept) xs ys (subst (λ z. AreCausal z xs ys) (sym (reach s f)) h)
 
 -- a call that is refused
-pub one_refused : (s : State) (call : MachineCall) → Fits s → called (at s s.kept) call ≡ at s s.kept → AreCausal (load_of s) (steps_for s.kept ++ call ∷ []) (steps_for s.kept)
+pub one_refused : (s : State) (call : MachineCall) → Fits s → after_call (at s s.kept) call ≡ at s s.kept → AreCausal (load_of s) (steps_for s.kept ++ call ∷ []) (steps_for s.kept)
 one_refused s call f q = subst (λ z. AreCausal (load_of s) (steps_for s.kept ++ call ∷ []) z) (append-nil (steps_for s.kept)) (behind s (call ∷ []) [] f (refused q))
 
 pub one_undo : (s : State) (xs : List Event) (e : Event) → s.kept ≡ xs ++ e ∷ [] → Fits s → AreCausal (load_of s) (steps_for s.kept ++ undo ∷ []) (steps_for xs)
@@ -152,7 +152,7 @@ one_undo s xs e is f =
 pub ends_at : (s : State) (ws : List MachineCall) → Fits s → ended (load_of s) (steps_for s.kept ++ ws) ≡ ended (at s s.kept) ws
 ends_at s ws f = ap (λ (z : State). z.kept) (called_append (load_of s) (steps_for s.kept) ws) ∙ ap (λ (z : State). ended z ws) (reach s f)
 
-undo_all : (s : State) (xs ys : List Event) (m : ℕ) → length ys ≡ m → s.kept ≡ xs ++ ys → called_all s (undos m) ≡ with_kept s xs
+undo_all : (s : State) (xs ys : List Event) (m : ℕ) → length ys ≡ m → s.kept ≡ xs ++ ys → after_calls s (undos m) ≡ with_kept s xs
 undo_all s xs [] zero n is = ap (with_kept s) (is ∙ append-nil xs)
 undo_all s xs [] (suc m) n is = absurd (omega (arith, n))
 undo_all s xs (y ∷ ys) zero n is = absurd (omega (arith, n))
@@ -161,7 +161,7 @@ undo_all s xs (y ∷ ys) (suc m) n is =
     let q : s.kept ≡ (xs ++ l.front) ++ l.event ∷ [] = is ∙ ap (λ z. xs ++ z) l.is ∙ sym (append_assoc xs l.front (l.event ∷ [])) in
     let k : suc (length ys) ≡ length l.front + 1 = ap length l.is ∙ length_push l.front l.event in
     let n2 : suc (length ys) ≡ suc m = n in
-    ap (λ z. called_all z (undos m)) (undone_last s (xs ++ l.front) l.event q)
+    ap (λ z. after_calls z (undos m)) (undone_last s (xs ++ l.front) l.event q)
     ∙ undo_all (with_kept s (xs ++ l.front)) xs l.front m (omega (arith, k, n2)) refl
 
 undos_length : (m : ℕ) → length (undos m) ≡ m
@@ -195,19 +195,19 @@ one_undos s xs (y ∷ ys) (suc m) n is f l =
 
 -- the list with what is taken at its end
 abbrev pub parted : State → ℕ → List Cause
-parted s i = rest (causes_of s) i ++ without (map not (dependents (causes_of s) i)) (causes_of s)
+parted s i = rest (causes_of s) i ++ unflagged (map not (dependents (causes_of s) i)) (causes_of s)
 
-pub parted_alike : (s : State) (r : Runs s) (i : ℕ) → NoneLooks (without (map not (dependents (causes_of s) i)) (causes_of s)) → AreEquivalent s.load s.kept (events_in (parted s i))
+pub parted_alike : (s : State) (r : Runs s) (i : ℕ) → HasNoLooks (unflagged (map not (dependents (causes_of s) i)) (causes_of s)) → AreEquivalent s.load s.kept (events_in (parted s i))
 parted_alike s r i none =
-    subst (λ (z : List Cause). AreEquivalent s.load s.kept (events_in (rest z i ++ without (map not (dependents z i)) z))) (sym (causes_is s r))
-    (taken_last s.load r.last s.kept r.told i r.run_is (subst (λ z. NoneLooks (without (map not (dependents z i)) z)) (causes_is s r) none))
+    subst (λ (z : List Cause). AreEquivalent s.load s.kept (events_in (rest z i ++ unflagged (map not (dependents z i)) z))) (sym (causes_is s r))
+    (removed_events_swap_to_end s.load r.last s.kept r.told i r.run_is (subst (λ z. HasNoLooks (unflagged (map not (dependents z i)) z)) (causes_is s r) none))
 
 pub events_join : (xs ys : List Cause) → events_in (xs ++ ys) ≡ events_in xs ++ events_in ys
 events_join [] ys = refl
 events_join (x ∷ xs) ys = ap (λ z. x.event ∷ z) (events_join xs ys)
 
 -- from the list with what is taken at its end, the rollback is undos
-parted_undos : (s z : State) (n k : ℕ) (left gone : List Event) → IsSome (replay s.load s.kept) → AreEquivalentStates s z → z.kept ≡ left ++ gone → (rewound s n k).kept ≡ left → AreEquivalentStates (rewound z n k) (called_all z (undos (length gone)))
+parted_undos : (s z : State) (n k : ℕ) (left gone : List Event) → IsSome (replay s.load s.kept) → AreEquivalentStates s z → z.kept ≡ left ++ gone → (rewound s n k).kept ≡ left → AreEquivalentStates (rewound z n k) (after_calls z (undos (length gone)))
 parted_undos s z n k left gone some a is q =
     let b : AreEquivalentStates (rewound s n k) (rewound z n k) = (same_rewind s z n k some a).1 in
     subst (λ x. AreEquivalentStates (rewound z n k) x) (sym (undo_all z left gone (length gone) refl is))
@@ -242,16 +242,16 @@ one_parted s n k left gone f l e q =
     big2 : length (steps_for (left ++ gone) ++ rewind n k ∷ []) ≡ length (left ++ gone) + 1 → length s.kept ≡ length (left ++ gone) → 0 + length (steps_for (left ++ gone) ++ rewind n k ∷ []) < 2 ^ 64
     big2 b c = let d : length s.kept + length s.kept < 2 ^ 64 = l in omega (arith, b, c, d)
 
-pub one_rewind : (s : State) (n k : ℕ) → Fits s → length s.kept + length s.kept < 2 ^ 64 → NoneLooks (taken_from (causes_of s) (place_of (causes_of s) n k)) → AreCausal (load_of s) (steps_for s.kept ++ rewind n k ∷ []) (steps_for (rewound s n k).kept)
-one_rewind s n k f l none = go (place_of (causes_of s) n k) refl none
+pub one_rewind : (s : State) (n k : ℕ) → Fits s → length s.kept + length s.kept < 2 ^ 64 → HasNoLooks (taken_from (causes_of s) (position_of_step (causes_of s) n k)) → AreCausal (load_of s) (steps_for s.kept ++ rewind n k ∷ []) (steps_for (rewound s n k).kept)
+one_rewind s n k f l none = go (position_of_step (causes_of s) n k) refl none
   where
-    go : (o : Option ℕ) → place_of (causes_of s) n k ≡ o → NoneLooks (taken_from (causes_of s) o) → AreCausal (load_of s) (steps_for s.kept ++ rewind n k ∷ []) (steps_for (rewound s n k).kept)
+    go : (o : Option ℕ) → position_of_step (causes_of s) n k ≡ o → HasNoLooks (taken_from (causes_of s) o) → AreCausal (load_of s) (steps_for s.kept ++ rewind n k ∷ []) (steps_for (rewound s n k).kept)
     go None is blind =
         let stays : (rewound s n k).kept ≡ s.kept = ap (λ (o : Option ℕ). events_in (rest_from (causes_of s) o)) is ∙ replayed s f.some in
         subst (λ z. AreCausal (load_of s) (steps_for s.kept ++ rewind n k ∷ []) (steps_for z)) (sym stays) (one_refused s (rewind n k) f (ap (with_kept (at s s.kept)) stays))
     go (Some i) is blind =
         let left : (rewound s n k).kept ≡ events_in (rest (causes_of s) i) = ap (λ (o : Option ℕ). events_in (rest_from (causes_of s) o)) is in
-        let e : AreEquivalent s.load s.kept (events_in (rest (causes_of s) i) ++ events_in (without (map not (dependents (causes_of s) i)) (causes_of s))) =
-        subst (AreEquivalent s.load s.kept) (events_join (rest (causes_of s) i) (without (map not (dependents (causes_of s) i)) (causes_of s))) (parted_alike s (runs_of s f.some) i blind) in
+        let e : AreEquivalent s.load s.kept (events_in (rest (causes_of s) i) ++ events_in (unflagged (map not (dependents (causes_of s) i)) (causes_of s))) =
+        subst (AreEquivalent s.load s.kept) (events_join (rest (causes_of s) i) (unflagged (map not (dependents (causes_of s) i)) (causes_of s))) (parted_alike s (runs_of s f.some) i blind) in
         subst (λ z. AreCausal (load_of s) (steps_for s.kept ++ rewind n k ∷ []) (steps_for z)) (sym left)
-        (one_parted s n k (events_in (rest (causes_of s) i)) (events_in (without (map not (dependents (causes_of s) i)) (causes_of s))) f l e left)
+        (one_parted s n k (events_in (rest (causes_of s) i)) (events_in (unflagged (map not (dependents (causes_of s) i)) (causes_of s))) f l e left)

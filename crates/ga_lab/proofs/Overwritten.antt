@@ -4,10 +4,10 @@ use Rattle.std.proofs.lemmas.List.{take-append-drop, length-set, get_or-set_same
 use Rattle.ga_node.specs.Record.{NodeState, NodeRecord, HasSizes, record_of}
 use Rattle.ga_event.specs.Undo.{CanRestore}
 use Rattle.ga_event.specs.Told.{steps_of}
-use Rattle.ga_journal.specs.Histories.{Past, Book, history}
-use Rattle.ga_journal.specs.Walked.{walked, CanWalk, held_before, among, before_entry, overwritten}
+use Rattle.ga_journal.specs.Histories.{EntryRecord, JournalState, history}
+use Rattle.ga_journal.specs.Walked.{walked_back, CanWalk, held_before, among, before_entry, overwritten}
 use Rattle.ga_journal.proofs.Logs.{steps_log}
-use Rattle.ga_lab.specs.inner.Tied.{IsTied, state_of}
+use Rattle.ga_lab.specs.inner.LabInvariant.{MatchesLog, state_of}
 use Rattle.ga_lab.proofs.Stepping.{whole_of}
 use Rattle.ga_lab.proofs.Replays.{kept_steps, peeked, steps_front, can_peek}
 use Rattle.ga_rollback.proofs.Link.{walked-append}
@@ -24,27 +24,27 @@ use Rattle.ga_lab.specs.Holding.{Holds}
 
 -- ---- A node walked back in parts
 
-can-append : (now : NodeState) (older newer : List Past) → CanWalk now (older ++ newer) → CanWalk (walked now newer) older
+can-append : (now : NodeState) (older newer : List EntryRecord) → CanWalk now (older ++ newer) → CanWalk (walked_back now newer) older
 can-append now [] newer can = tt
 can-append now (x ∷ xs) newer can = (subst (λ (z : NodeState). CanRestore z x.saved) (walked-append now xs newer) can.0, can-append now xs newer can.1)
 
-between : (to from : ℕ) (h : List Past) → to ≤ from → drop to h ≡ drop to (take from h) ++ drop from h
+between : (to from : ℕ) (h : List EntryRecord) → to ≤ from → drop to h ≡ drop to (take from h) ++ drop from h
 between zero from h l = sym (take-append-drop from h)
 between (suc to) zero h l = absurd (omega (arith, l))
 between (suc to) (suc from) [] l = refl
 between (suc to) (suc from) (x ∷ xs) l = between to from xs (omega (arith, l))
 
 -- what was walked back to one step can be walked back to an earlier one, and is then as if it had been walked back there at once
-pub can_between : (now behind : NodeState) (to from : ℕ) (h : List Past) → to ≤ from → behind ≡ walked now (drop from h) → CanWalk now (drop to h) → CanWalk behind (drop to (take from h))
+pub can_between : (now behind : NodeState) (to from : ℕ) (h : List EntryRecord) → to ≤ from → behind ≡ walked_back now (drop from h) → CanWalk now (drop to h) → CanWalk behind (drop to (take from h))
 can_between now behind to from h l is can =
     subst (λ (z : NodeState). CanWalk z (drop to (take from h))) (sym is) (can-append now (drop to (take from h)) (drop from h) (subst (CanWalk now) (between to from h l) can))
 
-pub walked_between : (now behind last : NodeState) (to from : ℕ) (h : List Past) → to ≤ from → behind ≡ walked now (drop from h) → last ≡ walked behind (drop to (take from h)) → last ≡ walked now (drop to h)
+pub walked_between : (now behind last : NodeState) (to from : ℕ) (h : List EntryRecord) → to ≤ from → behind ≡ walked_back now (drop from h) → last ≡ walked_back behind (drop to (take from h)) → last ≡ walked_back now (drop to h)
 walked_between now behind last to from h l is e =
-    e ∙ ap (λ (z : NodeState). walked z (drop to (take from h))) is ∙ sym (walked-append now (drop to (take from h)) (drop from h)) ∙ ap (walked now) (sym (between to from h l))
+    e ∙ ap (λ (z : NodeState). walked_back z (drop to (take from h))) is ∙ sym (walked-append now (drop to (take from h)) (drop from h)) ∙ ap (walked_back now) (sym (between to from h l))
 
 -- a node's history has as many entries as the history of all events has steps of the node
-pub kept_long : (chip : List NodeState) (book : Book) (n : ℕ) → IsTied chip book → length (history book.histories n) ≡ steps_of n (state_of chip book).kept
+pub kept_long : (chip : List NodeState) (book : JournalState) (n : ℕ) → MatchesLog chip book → length (history book.histories n) ≡ steps_of n (state_of chip book).kept
 kept_long chip book n tied = steps_log book n (whole_of chip book tied) ∙ kept_steps chip book n
 
 pub if_some : (o : Option ℕ) (Q : ℕ → Type 0) → ((old : ℕ) → o ≡ Some old → Q old) → IfSome o Q
@@ -130,9 +130,9 @@ unfolding restored
 size_restored node [] = refl
 size_restored node (x ∷ rest) = size_with x.0 x.1 (restored node rest) ∙ size_restored node rest
 
-size_walked : (node : NodeState) (es : List Past) → length (walked node es).ram ≡ length node.ram
+size_walked : (node : NodeState) (es : List EntryRecord) → length (walked_back node es).ram ≡ length node.ram
 size_walked node [] = refl
-size_walked node (e ∷ es) = size_restored (walked node es) e.saved ∙ size_walked node es
+size_walked node (e ∷ es) = size_restored (walked_back node es) e.saved ∙ size_walked node es
 
 restored_old : (what : Place) (node : NodeState) (saved : List (Place × ℕ)) (value : ℕ) → AreFit saved → length node.ram ≡ 64 → among what saved ≡ Some value
     → Holds (record_of (restored node saved)) what value
@@ -148,61 +148,61 @@ restored_left what node [] value held h = held
 restored_left what node (x ∷ rest) value held h =
     holds_left what x.0 x.1 value (restored node rest) (among what rest) (restored_left what node rest value held) h
 
-walked_old : (now : NodeState) (h : List Past) (k value : ℕ) (what : Place) → length now.ram ≡ 64 → CanWalk now (drop k h) → overwritten h k what ≡ Some value
-    → Holds (record_of (walked now (drop k h))) what value
+walked_old : (now : NodeState) (h : List EntryRecord) (k value : ℕ) (what : Place) → length now.ram ≡ 64 → CanWalk now (drop k h) → overwritten h k what ≡ Some value
+    → Holds (record_of (walked_back now (drop k h))) what value
 walked_old now h k value what size can is = ⊎_elim
     (λ found.
-    let fit : CanRestore (walked now (drop (k + 1) h)) found.0.saved = can_one now h k found.0 found.2 can in
+    let fit : CanRestore (walked_back now (drop (k + 1) h)) found.0.saved = can_one now h k found.0 found.2 can in
     subst (λ (z : NodeState). Holds (record_of z) what value) (sym (walked_one now h k found.0 found.2))
-    (restored_old what (walked now (drop (k + 1) h)) found.0.saved value fit.fit (size_walked now (drop (k + 1) h) ∙ size) (sym (ap (before_entry what) found.2) ∙ is)))
+    (restored_old what (walked_back now (drop (k + 1) h)) found.0.saved value fit.fit (size_walked now (drop (k + 1) h) ∙ size) (sym (ap (before_entry what) found.2) ∙ is)))
     (λ past. absurd (none-some value (sym (ap (before_entry what) past.1) ∙ is)))
     (slice_get_cases h k).1
 
-walked_fits : (now : NodeState) (h : List Past) (k value : ℕ) (what : Place) → CanWalk now (drop k h) → overwritten h k what ≡ Some value → IsInRange what value
+walked_fits : (now : NodeState) (h : List EntryRecord) (k value : ℕ) (what : Place) → CanWalk now (drop k h) → overwritten h k what ≡ Some value → IsInRange what value
 walked_fits now h k value what can is = ⊎_elim
     (λ found.
-    let fit : CanRestore (walked now (drop (k + 1) h)) found.0.saved = can_one now h k found.0 found.2 can in
+    let fit : CanRestore (walked_back now (drop (k + 1) h)) found.0.saved = can_one now h k found.0 found.2 can in
     fit_among what found.0.saved value fit.fit (sym (ap (before_entry what) found.2) ∙ is))
     (λ past. absurd (none-some value (sym (ap (before_entry what) past.1) ∙ is)))
     (slice_get_cases h k).1
 
-walked_left : (now : NodeState) (h : List Past) (k value : ℕ) (what : Place) → k < length h → overwritten h k what ≡ None
-    → Holds (record_of (walked now (drop (k + 1) h))) what value → Holds (record_of (walked now (drop k h))) what value
+walked_left : (now : NodeState) (h : List EntryRecord) (k value : ℕ) (what : Place) → k < length h → overwritten h k what ≡ None
+    → Holds (record_of (walked_back now (drop (k + 1) h))) what value → Holds (record_of (walked_back now (drop k h))) what value
 walked_left now h k value what l is held = ⊎_elim
     (λ found.
     subst (λ (z : NodeState). Holds (record_of z) what value) (sym (walked_one now h k found.0 found.2))
-    (restored_left what (walked now (drop (k + 1) h)) found.0.saved value held (sym (ap (before_entry what) found.2) ∙ is)))
+    (restored_left what (walked_back now (drop (k + 1) h)) found.0.saved value held (sym (ap (before_entry what) found.2) ∙ is)))
     (λ past. absurd (omega (arith, l, past.0)))
     (slice_get_cases h k).1
 
 -- ---- of a node of a lab
 
 -- the record of a node after `at` of its steps
-there : (chip : List NodeState) (book : Book) (n at place : ℕ) → IsTied chip book → steps_of n (take place (state_of chip book).kept) ≡ at
-    → record_of (walked (node_at chip n) (drop at (history book.histories n))) ≡ record_at (chip_of (earlier (state_of chip book) place)) n
-there chip book n at place tied so_many = peeked chip book n place at (walked (node_at chip n) (drop at (history book.histories n))) tied so_many refl
+there : (chip : List NodeState) (book : JournalState) (n at place : ℕ) → MatchesLog chip book → steps_of n (take place (state_of chip book).kept) ≡ at
+    → record_of (walked_back (node_at chip n) (drop at (history book.histories n))) ≡ record_at (chip_of (earlier (state_of chip book) place)) n
+there chip book n at place tied so_many = peeked chip book n place at (walked_back (node_at chip n) (drop at (history book.histories n))) tied so_many refl
 
 ram_size : (node : NodeState) → HasSizes (record_of node) → length node.ram ≡ 64
 unfolding record_of
 ram_size node sizes = sizes.ram
 
-pub old_is : (chip : List NodeState) (book : Book) (n at value place : ℕ) (what : Place) → IsTied chip book → HasSizes (record_of (node_at chip n))
+pub old_is : (chip : List NodeState) (book : JournalState) (n at value place : ℕ) (what : Place) → MatchesLog chip book → HasSizes (record_of (node_at chip n))
     → overwritten (history book.histories n) at what ≡ Some value → steps_of n (take place (state_of chip book).kept) ≡ at
     → Holds (record_at (chip_of (earlier (state_of chip book) place)) n) what value
 old_is chip book n at value place what tied sizes is so_many =
     subst (λ (z : NodeRecord). Holds z what value) (there chip book n at place tied so_many)
     (walked_old (node_at chip n) (history book.histories n) at value what (ram_size (node_at chip n) sizes) (can_peek chip book n at tied) is)
 
-pub old_in_range : (chip : List NodeState) (book : Book) (n at value : ℕ) (what : Place) → IsTied chip book → overwritten (history book.histories n) at what ≡ Some value → IsInRange what value
+pub old_in_range : (chip : List NodeState) (book : JournalState) (n at value : ℕ) (what : Place) → MatchesLog chip book → overwritten (history book.histories n) at what ≡ Some value → IsInRange what value
 old_in_range chip book n at value what tied is = walked_fits (node_at chip n) (history book.histories n) at value what (can_peek chip book n at tied) is
 
-pub old_within : (chip : List NodeState) (book : Book) (n at value : ℕ) (what : Place) → IsTied chip book → overwritten (history book.histories n) at what ≡ Some value
+pub old_within : (chip : List NodeState) (book : JournalState) (n at value : ℕ) (what : Place) → MatchesLog chip book → overwritten (history book.histories n) at what ≡ Some value
     → at < steps_of n (state_of chip book).kept
 old_within chip book n at value what tied is =
     let long = kept_long chip book n tied in
     let within = overwritten_within (history book.histories n) at value what is in omega (arith, long, within)
 
-pub stays_there : (chip : List NodeState) (book : Book) (n at before behind value : ℕ) (what : Place) → IsTied chip book
+pub stays_there : (chip : List NodeState) (book : JournalState) (n at before behind value : ℕ) (what : Place) → MatchesLog chip book
     → overwritten (history book.histories n) at what ≡ None
     → steps_of n (take before (state_of chip book).kept) ≡ at → steps_of n (take behind (state_of chip book).kept) ≡ at + 1
     → Holds (record_at (chip_of (earlier (state_of chip book) behind)) n) what value → Holds (record_at (chip_of (earlier (state_of chip book) before)) n) what value

@@ -3,26 +3,26 @@ use Rattle.std.proofs.Common.{◌≡◌, ℕ, suc, Bool, true, false, List, [], 
 use Rattle.std.specs.Prelude.{Option, Result, map, is_some, IsSome, IsNone, slice_index_or}
 use Rattle.std.proofs.lemmas.Bool.{cases_Bool, cond-true, cond-false, both_ways}
 use Rattle.ga_event.specs.declared.event.Cause.{Cause}
-use Rattle.ga_event.specs.Apply.{Told, run, replay}
+use Rattle.ga_event.specs.Apply.{EventOutcome, run, replay}
 use Rattle.ga_causal.specs.declared.chain.Link.{Link}
-use Rattle.ga_causal.specs.Dependence.{DependsOn, dependents, without, rest, place_of, rest_from, rewound_list}
+use Rattle.ga_causal.specs.Dependence.{DependsOn, dependents, unflagged, rest, position_of_step, rest_from, rewound_list}
 use Rattle.ga_event.specs.Told.{events_in}
 use Rattle.ga_causal.specs.Chains.{chain_of, links_to}
 use Rattle.ga_causal.proofs.Rollbacks.{rewound_twice}
 use Rattle.ga_event.specs.declared.event.Event.{Event}
 use Rattle.ga_causal.proofs.Runs.{run_rest}
 use Rattle.ga_causal.proofs.Exact.{DependsOn_from_flag, flag_from_DependsOn}
-use Rattle.ga_causal.proofs.Accounts.{touching, refused_exactly}
+use Rattle.ga_causal.proofs.LocalHistories.{touching, refused_exactly}
 use Rattle.ga_lab.specs.declared.fault.LabFault.{LabFault}
-use Rattle.ga_lab.specs.Machine.{State, told_by, causes_of, stands, rewound, why_between, why_answer}
+use Rattle.ga_lab.specs.Machine.{State, told_by, causes_of, has_step, rewound, why_between, why_answer}
 use Rattle.ga_lab.proofs.Replays.{IsReplayed}
-use Rattle.ga_lab.proofs.Explaining.{stands_place}
+use Rattle.ga_lab.proofs.Explaining.{step_has_position}
 use Rattle.ga_lab.proofs.Called.{events_run, Runs, runs_of}
 
-abbrev pub causes : List (Cause × Told) → List Cause
-causes ts = map (λ (x : Cause × Told). x.0) ts
+abbrev pub causes : List (Cause × EventOutcome) → List Cause
+causes ts = map (λ (x : Cause × EventOutcome). x.0) ts
 
-causes_without : (flags : List Bool) (ts : List (Cause × Told)) → causes (without flags ts) ≡ without flags (causes ts)
+causes_without : (flags : List Bool) (ts : List (Cause × EventOutcome)) → causes (unflagged flags ts) ≡ unflagged flags (causes ts)
 causes_without [] ts = refl
 causes_without (true ∷ flags) [] = refl
 causes_without (false ∷ flags) [] = refl
@@ -36,7 +36,7 @@ replayed s some =
     ap (λ o. events_in (causes (told_by o))) r.run_is ∙ events_run s.load r.last s.kept r.told r.run_is
 
 -- the causes that a rollback leaves
-pub rewound_causes : (s : State) (n k i : ℕ) → IsSome (replay s.load s.kept) → place_of (causes_of s) n k ≡ Some i → causes_of (rewound s n k) ≡ rest (causes_of s) i
+pub rewound_causes : (s : State) (n k i : ℕ) → IsSome (replay s.load s.kept) → position_of_step (causes_of s) n k ≡ Some i → causes_of (rewound s n k) ≡ rest (causes_of s) i
 rewound_causes s n k i some is =
     let r : Runs s = runs_of s some in
     let told : causes_of s ≡ causes r.told = ap (λ o. causes (told_by o)) r.run_is in
@@ -47,7 +47,7 @@ rewound_causes s n k i some is =
     ∙ causes_without (dependents (causes r.told) i) r.told
     ∙ ap (λ z. rest z i) (sym told)
 
-rewound_replayed : (s : State) (n k i : ℕ) → IsSome (replay s.load s.kept) → place_of (causes_of s) n k ≡ Some i → IsReplayed (rewound s n k)
+rewound_replayed : (s : State) (n k i : ℕ) → IsSome (replay s.load s.kept) → position_of_step (causes_of s) n k ≡ Some i → IsReplayed (rewound s n k)
 rewound_replayed s n k i some is =
     ap events_in (rewound_causes s n k i some is) ∙ ap (λ (o : Option ℕ). events_in (rest_from (causes_of s) o)) (sym is)
 
@@ -78,34 +78,34 @@ chain_some es i q h = cond-true (slice_index_or (dependents es i) q false) (Some
 apart : (es : List Cause) (i q : ℕ) (w : Result (Option (List Link)) LabFault) → w ≡ Ok (chain_of es i q) → slice_index_or (dependents es i) q false ≡ true → w ≡ Ok None → ⊥
 apart es i q w is t h = let p : Ok (Some (links_to (suc q) es i q)) ≡ Ok None = ap Ok (sym (chain_some es i q t)) ∙ sym is ∙ h in absurd (cc)
 
-explained : (es : List Cause) (n k m j i q : ℕ) (w : Result (Option (List Link)) LabFault) (b : Bool) → place_of es n k ≡ Some i → place_of es m j ≡ Some q
-    → w ≡ Ok (chain_of es i q) → b ≡ is_some (place_of (rest es i) m j) → (w ≡ Ok None) ↔ (b ≡ true)
+explained : (es : List Cause) (n k m j i q : ℕ) (w : Result (Option (List Link)) LabFault) (b : Bool) → position_of_step es n k ≡ Some i → position_of_step es m j ≡ Some q
+    → w ≡ Ok (chain_of es i q) → b ≡ is_some (position_of_step (rest es i) m j) → (w ≡ Ok None) ↔ (b ≡ true)
 explained es n k m j i q w b at to is there = ⊎_elim
-    (λ t. let gone : b ≡ false = there ∙ none_of (place_of (rest es i) m j) ((refused_exactly es n k m j i q at to).1 (DependsOn_from_flag es i q (touching es m j q to).0 t)) in
+    (λ t. let gone : b ≡ false = there ∙ none_of (position_of_step (rest es i) m j) ((refused_exactly es n k m j i q at to).1 (DependsOn_from_flag es i q (touching es m j q to).0 t)) in
     (λ h. absurd (apart es i q w is t h), λ h. absurd (both_ways b gone h)))
-    (λ f. let stays : is_some (place_of (rest es i) m j) ≡ true = ⊎_elim
+    (λ f. let stays : is_some (position_of_step (rest es i) m j) ≡ true = ⊎_elim
     (λ y. y)
-    (λ z. let d : DependsOn es i q = (refused_exactly es n k m j i q at to).0 (of_none (place_of (rest es i) m j) z) in
+    (λ z. let d : DependsOn es i q = (refused_exactly es n k m j i q at to).0 (of_none (position_of_step (rest es i) m j) z) in
     absurd (both_ways (slice_index_or (dependents es i) q false) f (flag_from_DependsOn es i q (touching es n k i at).0 d)))
-    (cases_Bool (is_some (place_of (rest es i) m j))) in
+    (cases_Bool (is_some (position_of_step (rest es i) m j))) in
     (λ h. there ∙ stays, λ h. is ∙ ap Ok (chain_none es i q f)))
     (cases_Bool (slice_index_or (dependents es i) q false))
 
-pub takes_what_it_explains : (s : State) (n k m j : ℕ) → IsSome (replay s.load s.kept) → stands s n k ≡ true → stands s m j ≡ true
-    → (why_answer s n k m j ≡ Ok None) ↔ (stands (rewound s n k) m j ≡ true)
-takes_what_it_explains s n k m j some h g =
+pub rollback_iff_chain : (s : State) (n k m j : ℕ) → IsSome (replay s.load s.kept) → has_step s n k ≡ true → has_step s m j ≡ true
+    → (why_answer s n k m j ≡ Ok None) ↔ (has_step (rewound s n k) m j ≡ true)
+rollback_iff_chain s n k m j some h g =
     let same : IsReplayed s = replayed s some in
-    let a : Found (place_of (causes_of s) n k) = found (place_of (causes_of s) n k) (stands_place s n k same ∙ h) in
-    let b : Found (place_of (causes_of s) m j) = found (place_of (causes_of s) m j) (stands_place s m j same ∙ g) in
-    explained (causes_of s) n k m j a.at b.at (why_answer s n k m j) (stands (rewound s n k) m j) a.is b.is
-    (ap (λ (o : Option ℕ). why_between (causes_of s) o (place_of (causes_of s) m j)) a.is ∙ ap (λ (o : Option ℕ). why_between (causes_of s) (Some a.at) o) b.is)
-    (sym (stands_place (rewound s n k) m j (rewound_replayed s n k a.at some a.is)) ∙ ap (λ z. is_some (place_of z m j)) (rewound_causes s n k a.at some a.is))
+    let a : Found (position_of_step (causes_of s) n k) = found (position_of_step (causes_of s) n k) (step_has_position s n k same ∙ h) in
+    let b : Found (position_of_step (causes_of s) m j) = found (position_of_step (causes_of s) m j) (step_has_position s m j same ∙ g) in
+    explained (causes_of s) n k m j a.at b.at (why_answer s n k m j) (has_step (rewound s n k) m j) a.is b.is
+    (ap (λ (o : Option ℕ). why_between (causes_of s) o (position_of_step (causes_of s) m j)) a.is ∙ ap (λ (o : Option ℕ). why_between (causes_of s) (Some a.at) o) b.is)
+    (sym (step_has_position (rewound s n k) m j (rewound_replayed s n k a.at some a.is)) ∙ ap (λ z. is_some (position_of_step z m j)) (rewound_causes s n k a.at some a.is))
 
 -- the causes after a rollback, whether the step exists or not
 pub rewound_list_causes : (s : State) (n k : ℕ) → IsSome (replay s.load s.kept) → causes_of (rewound s n k) ≡ rewound_list (causes_of s) n k
-rewound_list_causes s n k some = go (place_of (causes_of s) n k) refl
+rewound_list_causes s n k some = go (position_of_step (causes_of s) n k) refl
   where
-    go : (o : Option ℕ) → place_of (causes_of s) n k ≡ o → causes_of (rewound s n k) ≡ rewound_list (causes_of s) n k
+    go : (o : Option ℕ) → position_of_step (causes_of s) n k ≡ o → causes_of (rewound s n k) ≡ rewound_list (causes_of s) n k
     go (Some i) is = rewound_causes s n k i some is ∙ ap (rest_from (causes_of s)) (sym is)
     go None is =
         ap (λ (o : Option ℕ). causes (told_by (run s.load (events_in (rest_from (causes_of s) o))))) is

@@ -8,18 +8,18 @@ use Rattle.ga_node.specs.Record.{NodeRecord}
 use Rattle.ga_grid.specs.declared.node_id.NodeId.{NodeId}
 use Rattle.ga_event.specs.declared.event.Event.{Event}
 use Rattle.ga_event.specs.declared.event.Cause.{Cause}
-use Rattle.ga_event.specs.Apply.{Told, refusal_of, apply, after, unless, cause_of, run}
+use Rattle.ga_event.specs.Apply.{EventOutcome, refusal_of, apply, after, when_allowed, cause_of, run}
 use Rattle.ga_event.specs.Next.{next}
 use Rattle.ga_causal.specs.Dependence.{cause_touches}
-use Rattle.ga_causal.specs.Equivalence.{AreApart, AreEquivalent, same, swapped, later, joined}
+use Rattle.ga_causal.specs.Equivalence.{AreIndependent, AreEquivalent, same, swapped, later, joined}
 use Rattle.ga_causal.proofs.Runs.{first_of_run, keeps_of, same_of}
-use Rattle.ga_causal.proofs.Shuffles.{AreApart-sym, apart_free}
+use Rattle.ga_causal.proofs.Equivalences.{AreApart-sym, independent_on_all}
 use Rattle.ga_event.specs.declared.made.Made.{Made}
 use Rattle.ga_rollback.proofs.Rewinding.{run_snoc}
 use Rattle.ga_lab.specs.declared.fault.LabFault.{LabFault}
 use Rattle.ga_lab.specs.declared.fault.LabFault.TheVariants.{Full, Spent}
-use Rattle.ga_lab.specs.Machine.{State, chip_of, told_next, answer_to, with_event, step_answer, unless_refused, stepped, undone, actor_of}
-use Rattle.ga_lab.specs.Calls.{MachineCall, step, undo, rewind, called, called_all, AreEquivalentStates}
+use Rattle.ga_lab.specs.Machine.{State, chip_of, made_next, answer_to, with_event, step_answer, unless_refused, stepped, undone, actor_of}
+use Rattle.ga_lab.specs.Calls.{MachineCall, step, undo, rewind, after_call, after_calls, AreEquivalentStates}
 use Rattle.ga_lab.specs.Sequences.{AllNamed, CanCountAll, AreCausal, itself, back, chained, before, more, onward, refused, either, cancelled, turned, rolled}
 use Rattle.ga_lab.proofs.Alike.{same_step, same_rewind}
 use Rattle.ga_lab.proofs.Called.{Runs, with_kept, chip_is, call_runs, calls_run, runs_some, call_load, calls_load}
@@ -35,8 +35,8 @@ pub equivalent_back : (c : List NodeRecord) (xs ys : List Event) → AreEquivale
 equivalent_back c xs ys h = equivalent-sym c xs ys h
 
 -- the same events before
-equivalent_behind : (c d : List NodeRecord) (xs ys zs : List Event) (ts : List (Cause × Told)) → run c xs ≡ Some (d, ts) → AreEquivalent d ys zs → AreEquivalent c (xs ++ ys) (xs ++ zs)
-equivalent_behind c d [] ys zs ts h k = subst (λ b. AreEquivalent b ys zs) (let p : (let q : Option (List NodeRecord × List (Cause × Told)) = Some (d, ts) in q) ≡ Some (c, []) = sym h in ap (λ (o : Option (List NodeRecord × List (Cause × Told))). unwrap_or (option_map (λ (x : List NodeRecord × List (Cause × Told)). x.0) o) []) p) k
+equivalent_behind : (c d : List NodeRecord) (xs ys zs : List Event) (ts : List (Cause × EventOutcome)) → run c xs ≡ Some (d, ts) → AreEquivalent d ys zs → AreEquivalent c (xs ++ ys) (xs ++ zs)
+equivalent_behind c d [] ys zs ts h k = subst (λ b. AreEquivalent b ys zs) (let p : (let q : Option (List NodeRecord × List (Cause × EventOutcome)) = Some (d, ts) in q) ≡ Some (c, []) = sym h in ap (λ (o : Option (List NodeRecord × List (Cause × EventOutcome))). unwrap_or (option_map (λ (x : List NodeRecord × List (Cause × EventOutcome)). x.0) o) []) p) k
 equivalent_behind c d (x ∷ xs) ys zs ts h k =
     let f = first_of_run c x xs d ts h in
     later f.first (equivalent_behind f.mid d xs ys zs f.others f.then k)
@@ -51,8 +51,8 @@ record Counted (s z : State) (most : ℕ) : Type 0 where
   pub least : made ≤ most
   pub is : z ≡ counting s made
 
-pub counted_answer : (s : State) (e : Event) → s.made < 2 ^ 64 - 1 → answer_to s (Ok e) ≡ cond (nat_le s.limit (length s.kept)) (Err Full) (Ok (told_next s e))
-counted_answer s e l = ap (λ (z : Result Made LabFault). cond (nat_le s.limit (length s.kept)) (Err Full) z) (cond-false (nat_le (2 ^ 64 - 1) s.made) (Err Spent) (Ok (told_next s e)) (lt-leb (2 ^ 64 - 1) s.made l))
+pub counted_answer : (s : State) (e : Event) → s.made < 2 ^ 64 - 1 → answer_to s (Ok e) ≡ cond (nat_le s.limit (length s.kept)) (Err Full) (Ok (made_next s e))
+counted_answer s e l = ap (λ (z : Result Made LabFault). cond (nat_le s.limit (length s.kept)) (Err Full) z) (cond-false (nat_le (2 ^ 64 - 1) s.made) (Err Spent) (Ok (made_next s e)) (lt-leb (2 ^ 64 - 1) s.made l))
 
 step_counted : (s : State) (m : ℕ) (n : NodeId) → s.made < 2 ^ 64 - 1 → m < 2 ^ 64 - 1 → Counted (stepped s n) (stepped (counting s m) n) (m + 1)
 step_counted s m n l k = go (next (chip_of s) n)
@@ -65,10 +65,10 @@ step_counted s m n l k = go (next (chip_of s) n)
     go (Err why) = record { made = m; least = omega arith; is = refl }
     go (Ok e) =
         subst (λ (z : Result Made LabFault). Counted (unless_refused s z (with_event s (Ok e))) (unless_refused (counting s m) (answer_to (counting s m) (Ok e)) (with_event (counting s m) (Ok e))) (m + 1)) (sym (counted_answer s e l))
-        (subst (λ (z : Result Made LabFault). Counted (unless_refused s (cond (nat_le s.limit (length s.kept)) (Err Full) (Ok (told_next s e))) (with_event s (Ok e))) (unless_refused (counting s m) z (with_event (counting s m) (Ok e))) (m + 1)) (sym (counted_answer (counting s m) e k))
-        (two e (nat_le s.limit (length s.kept)) (told_next s e) (told_next (counting s m) e)))
+        (subst (λ (z : Result Made LabFault). Counted (unless_refused s (cond (nat_le s.limit (length s.kept)) (Err Full) (Ok (made_next s e))) (with_event s (Ok e))) (unless_refused (counting s m) z (with_event (counting s m) (Ok e))) (m + 1)) (sym (counted_answer (counting s m) e k))
+        (two e (nat_le s.limit (length s.kept)) (made_next s e) (made_next (counting s m) e)))
 
-call_counted : (s : State) (m : ℕ) (call : MachineCall) → s.made < 2 ^ 64 - 1 → m < 2 ^ 64 - 1 → Counted (called s call) (called (counting s m) call) (m + 1)
+call_counted : (s : State) (m : ℕ) (call : MachineCall) → s.made < 2 ^ 64 - 1 → m < 2 ^ 64 - 1 → Counted (after_call s call) (after_call (counting s m) call) (m + 1)
 call_counted s m (step n) l k = step_counted s m n l k
 call_counted s m undo l k = record { made = m; least = omega arith; is = refl }
 call_counted s m (rewind n j) l k = record { made = m; least = omega arith; is = refl }
@@ -79,27 +79,27 @@ step_made s (Err why) (Err fault) = omega arith
 step_made s (Ok e) (Ok told) = omega arith
 step_made s (Ok e) (Err fault) = omega arith
 
-pub call_made : (s : State) (call : MachineCall) → (called s call).made ≤ s.made + 1
+pub call_made : (s : State) (call : MachineCall) → (after_call s call).made ≤ s.made + 1
 call_made s (step n) = step_made s (next (chip_of s) n) (answer_to s (next (chip_of s) n))
 call_made s undo = omega arith
 call_made s (rewind n k) = omega arith
 
-pub calls_made : (s : State) (calls : List MachineCall) → (called_all s calls).made ≤ s.made + length calls
+pub calls_made : (s : State) (calls : List MachineCall) → (after_calls s calls).made ≤ s.made + length calls
 calls_made s [] = omega arith
 calls_made s (call ∷ calls) =
-    let a : (called_all (called s call) calls).made ≤ (called s call).made + length calls = calls_made (called s call) calls in
-    let b : (called s call).made ≤ s.made + 1 = call_made s call in
-    let g : (called_all (called s call) calls).made ≤ s.made + suc (length calls) = omega (arith, a, b) in g
+    let a : (after_calls (after_call s call) calls).made ≤ (after_call s call).made + length calls = calls_made (after_call s call) calls in
+    let b : (after_call s call).made ≤ s.made + 1 = call_made s call in
+    let g : (after_calls (after_call s call) calls).made ≤ s.made + suc (length calls) = omega (arith, a, b) in g
 
-pub calls_counted : (s : State) (m : ℕ) (calls : List MachineCall) → s.made + length calls < 2 ^ 64 → m + length calls < 2 ^ 64 → (called_all (counting s m) calls).kept ≡ (called_all s calls).kept
+pub calls_counted : (s : State) (m : ℕ) (calls : List MachineCall) → s.made + length calls < 2 ^ 64 → m + length calls < 2 ^ 64 → (after_calls (counting s m) calls).kept ≡ (after_calls s calls).kept
 calls_counted s m [] l k = refl
 calls_counted s m (call ∷ calls) l k =
     let l2 : s.made + suc (length calls) < 2 ^ 64 = l in
     let k2 : m + suc (length calls) < 2 ^ 64 = k in
     let r = call_counted s m call (omega (arith, l2)) (omega (arith, k2)) in
     let least : r.made ≤ m + 1 = r.least in
-    let more : (called s call).made ≤ s.made + 1 = call_made s call in
-    ap (λ (z : State). (called_all z calls).kept) r.is ∙ calls_counted (called s call) r.made calls (omega (arith, l2, more)) (omega (arith, k2, least))
+    let more : (after_call s call).made ≤ s.made + 1 = call_made s call in
+    ap (λ (z : State). (after_calls z calls).kept) r.is ∙ calls_counted (after_call s call) r.made calls (omega (arith, l2, more)) (omega (arith, k2, least))
 
 step_limit : (s : State) (o : Result Event NotReady) (a : Result Made LabFault) → (unless_refused s a (with_event s o)).limit ≡ s.limit
 step_limit s (Err why) (Ok told) = refl
@@ -107,40 +107,40 @@ step_limit s (Err why) (Err fault) = refl
 step_limit s (Ok e) (Ok told) = refl
 step_limit s (Ok e) (Err fault) = refl
 
-pub call_limit : (s : State) (call : MachineCall) → (called s call).limit ≡ s.limit
+pub call_limit : (s : State) (call : MachineCall) → (after_call s call).limit ≡ s.limit
 call_limit s (step n) = step_limit s (next (chip_of s) n) (answer_to s (next (chip_of s) n))
 call_limit s undo = refl
 call_limit s (rewind n k) = refl
 
-pub calls_limit : (s : State) (calls : List MachineCall) → (called_all s calls).limit ≡ s.limit
+pub calls_limit : (s : State) (calls : List MachineCall) → (after_calls s calls).limit ≡ s.limit
 calls_limit s [] = refl
-calls_limit s (call ∷ calls) = calls_limit (called s call) calls ∙ call_limit s call
+calls_limit s (call ∷ calls) = calls_limit (after_call s call) calls ∙ call_limit s call
 
-pub called_append : (s : State) (xs ys : List MachineCall) → called_all s (xs ++ ys) ≡ called_all (called_all s xs) ys
+pub called_append : (s : State) (xs ys : List MachineCall) → after_calls s (xs ++ ys) ≡ after_calls (after_calls s xs) ys
 called_append s [] ys = refl
-called_append s (call ∷ xs) ys = called_append (called s call) xs ys
+called_append s (call ∷ xs) ys = called_append (after_call s call) xs ys
 
 -- calls none of which is an undo, after two machines that are alike
-alike_calls : (s z : State) (calls : List MachineCall) → AllNamed calls → Runs s → AreEquivalentStates s z → AreEquivalentStates (called_all s calls) (called_all z calls)
+alike_calls : (s z : State) (calls : List MachineCall) → AllNamed calls → Runs s → AreEquivalentStates s z → AreEquivalentStates (after_calls s calls) (after_calls z calls)
 alike_calls s z [] named r a = a
 alike_calls s z (step n ∷ calls) named r a = alike_calls (stepped s n) (stepped z n) calls named (call_runs s (step n) r) ((same_step s z n a).1)
 alike_calls s z (undo ∷ calls) named r a = absurd named
-alike_calls s z (rewind n k ∷ calls) named r a = alike_calls (called s (rewind n k)) (called z (rewind n k)) calls named (call_runs s (rewind n k) r) ((same_rewind s z n k (runs_some s r) a).1)
+alike_calls s z (rewind n k ∷ calls) named r a = alike_calls (after_call s (rewind n k)) (after_call z (rewind n k)) calls named (call_runs s (rewind n k) r) ((same_rewind s z n k (runs_some s r) a).1)
 
 abbrev pub ended : State → List MachineCall → List Event
-ended s calls = (called_all s calls).kept
+ended s calls = (after_calls s calls).kept
 
-length_joined : (s : State) (xs zs : List MachineCall) → CanCountAll s (xs ++ zs) → (called_all s xs).made + length zs < 2 ^ 64
+length_joined : (s : State) (xs zs : List MachineCall) → CanCountAll s (xs ++ zs) → (after_calls s xs).made + length zs < 2 ^ 64
 length_joined s xs zs l =
-    let a : (called_all s xs).made ≤ s.made + length xs = calls_made s xs in
+    let a : (after_calls s xs).made ≤ s.made + length xs = calls_made s xs in
     let b : length (xs ++ zs) ≡ length xs + length zs = Rattle.std.proofs.Common.length-append xs zs in
     omega (arith, l, a, b)
 
 -- two ends with as much made, and then the same calls
 ends_more : (s : State) (xs ys zs : List MachineCall) → AllNamed zs → CanCountAll s (xs ++ zs) → CanCountAll s (ys ++ zs) → Runs s → AreEquivalent s.load (ended s xs) (ended s ys) → AreEquivalent s.load (ended s (xs ++ zs)) (ended s (ys ++ zs))
 ends_more s xs ys zs named l k r h =
-    let a : State = called_all s xs in
-    let b : State = called_all s ys in
+    let a : State = after_calls s xs in
+    let b : State = after_calls s ys in
     let la : a.load ≡ s.load = calls_load s xs in
     let alike : AreEquivalentStates a (counting b a.made) = record {
       load = la ∙ sym (calls_load s ys);
@@ -148,29 +148,29 @@ ends_more s xs ys zs named l k r h =
       made = refl;
       kept = subst (λ c. AreEquivalent c a.kept b.kept) (sym la) h;
     } in
-    let e : AreEquivalent (called_all a zs).load (called_all a zs).kept (called_all (counting b a.made) zs).kept = (alike_calls a (counting b a.made) zs named (calls_run s xs r) alike).kept in
+    let e : AreEquivalent (after_calls a zs).load (after_calls a zs).kept (after_calls (counting b a.made) zs).kept = (alike_calls a (counting b a.made) zs named (calls_run s xs r) alike).kept in
     subst (λ z. AreEquivalent s.load (ended s (xs ++ zs)) z) (calls_counted b a.made zs (length_joined s ys zs k) (length_joined s xs zs l) ∙ ap (λ (z : State). z.kept) (sym (called_append s ys zs)))
-    (subst (λ z. AreEquivalent s.load z (called_all (counting b a.made) zs).kept) (ap (λ (z : State). z.kept) (sym (called_append s xs zs)))
-    (subst (λ c. AreEquivalent c (called_all a zs).kept (called_all (counting b a.made) zs).kept) (calls_load a zs ∙ la) e))
+    (subst (λ z. AreEquivalent s.load z (after_calls (counting b a.made) zs).kept) (ap (λ (z : State). z.kept) (sym (called_append s xs zs)))
+    (subst (λ c. AreEquivalent c (after_calls a zs).kept (after_calls (counting b a.made) zs).kept) (calls_load a zs ∙ la) e))
 
 -- two ends with the same list, and then any calls
 ends_onward : (s : State) (xs ys zs : List MachineCall) → ended s xs ≡ ended s ys → CanCountAll s (xs ++ zs) → CanCountAll s (ys ++ zs) → ended s (xs ++ zs) ≡ ended s (ys ++ zs)
 ends_onward s xs ys zs h l k =
-    let a : State = called_all s xs in
-    let b : State = called_all s ys in
+    let a : State = after_calls s xs in
+    let b : State = after_calls s ys in
     let same_machine : counting a b.made ≡ b = Rattle.ga_lab.proofs.Stepping.same_state a.load b.load a.limit b.limit a.kept b.kept b.made b.made (calls_load s xs ∙ sym (calls_load s ys)) (calls_limit s xs ∙ sym (calls_limit s ys)) h refl in
     ap (λ (z : State). z.kept) (called_append s xs zs)
     ∙ sym (calls_counted a b.made zs (length_joined s xs zs l) (length_joined s ys zs k))
-    ∙ ap (λ (z : State). (called_all z zs).kept) same_machine
+    ∙ ap (λ (z : State). (after_calls z zs).kept) same_machine
     ∙ ap (λ (z : State). z.kept) (sym (called_append s ys zs))
 
 -- A step that makes an event.
 
-pub answered : (s : State) (c : List NodeRecord) (e : Event) → chip_of s ≡ c → refusal_of c e ≡ None → length s.kept < s.limit → s.made < 2 ^ 64 - 1 → step_answer s (actor_of e) ≡ Ok (told_next s e)
+pub answered : (s : State) (c : List NodeRecord) (e : Event) → chip_of s ≡ c → refusal_of c e ≡ None → length s.kept < s.limit → s.made < 2 ^ 64 - 1 → step_answer s (actor_of e) ≡ Ok (made_next s e)
 answered s c e chip can room count =
     ap (answer_to s) (ap (λ z. next z (actor_of e)) chip ∙ made_is_next c e can)
     ∙ counted_answer s e count
-    ∙ cond-false (nat_le s.limit (length s.kept)) (Err Full) (Ok (told_next s e)) (lt-leb s.limit (length s.kept) room)
+    ∙ cond-false (nat_le s.limit (length s.kept)) (Err Full) (Ok (made_next s e)) (lt-leb s.limit (length s.kept) room)
 
 pub step_made_is : (s : State) (c : List NodeRecord) (e : Event) → chip_of s ≡ c → refusal_of c e ≡ None → length s.kept < s.limit → s.made < 2 ^ 64 - 1 → stepped s (actor_of e) ≡ with_event s (Ok e)
 step_made_is s c e chip can room count =
@@ -181,25 +181,25 @@ unfoldable pub runs_more : (s : State) (r : Runs s) (e : Event) → refusal_of r
 runs_more s r e can = record {
   last = (after r.last e).0;
   told = _;
-  run_is = run_snoc s.load r.last (after r.last e).0 s.kept r.told e (after r.last e).1 r.run_is (ap (λ o. unless o (after r.last e)) can);
+  run_is = run_snoc s.load r.last (after r.last e).0 s.kept r.told e (after r.last e).1 r.run_is (ap (λ o. when_allowed o (after r.last e)) can);
 }
 
-can_of : (c : List NodeRecord) (e : Event) (d : List NodeRecord) (t : Told) → apply c e ≡ Some (d, t) → refusal_of c e ≡ None
+can_of : (c : List NodeRecord) (e : Event) (d : List NodeRecord) (t : EventOutcome) → apply c e ≡ Some (d, t) → refusal_of c e ≡ None
 can_of c e d t h = go (refusal_of c e) h
   where
-    go : (o : Option NotReady) → unless o (after c e) ≡ Some (d, t) → o ≡ None
+    go : (o : Option NotReady) → when_allowed o (after c e) ≡ Some (d, t) → o ≡ None
     go None k = refl
     go (Some why) k = absurd (cc)
 
 -- the second of two independent events is enabled after the first
-can_after : (c : List NodeRecord) (e f : Event) → refusal_of c e ≡ None → refusal_of c f ≡ None → AreApart (cause_of c e) (cause_of c f) → refusal_of (after c e).0 f ≡ None
+can_after : (c : List NodeRecord) (e f : Event) → refusal_of c e ≡ None → refusal_of c f ≡ None → AreIndependent (cause_of c e) (cause_of c f) → refusal_of (after c e).0 f ≡ None
 can_after c e f ce cf h =
-    let made : apply c e ≡ Some ((after c e).0, (after c e).1) = ap (λ o. unless o (after c e)) ce in
-    let other : apply c f ≡ Some ((after c f).0, (after c f).1) = ap (λ o. unless o (after c f)) cf in
-    let z = same_of (cause_touches (cause_of c e)) f c (after c f).0 (after c e).0 (after c f).1 (keeps_of c e (after c e).0 (after c e).1 made) (apart_free (cause_of c e) (cause_of c f) h) other in
+    let made : apply c e ≡ Some ((after c e).0, (after c e).1) = ap (λ o. when_allowed o (after c e)) ce in
+    let other : apply c f ≡ Some ((after c f).0, (after c f).1) = ap (λ o. when_allowed o (after c f)) cf in
+    let z = same_of (cause_touches (cause_of c e)) f c (after c f).0 (after c e).0 (after c f).1 (keeps_of c e (after c e).0 (after c e).1 made) (independent_on_all (cause_of c e) (cause_of c f) h) other in
     can_of (after c e).0 f z.mid (after c f).1 z.done
 
-two_steps : (s : State) (r : Runs s) (e f : Event) → length s.kept + 1 < s.limit → s.made + 1 < 2 ^ 64 - 1 → refusal_of r.last e ≡ None → refusal_of r.last f ≡ None → AreApart (cause_of r.last e) (cause_of r.last f)
+two_steps : (s : State) (r : Runs s) (e f : Event) → length s.kept + 1 < s.limit → s.made + 1 < 2 ^ 64 - 1 → refusal_of r.last e ≡ None → refusal_of r.last f ≡ None → AreIndependent (cause_of r.last e) (cause_of r.last f)
     → ended s (step (actor_of e) ∷ step (actor_of f) ∷ []) ≡ s.kept ++ e ∷ f ∷ []
 unfolding runs_more
 two_steps s r e f l k ce cf h =
@@ -210,7 +210,7 @@ two_steps s r e f l k ce cf h =
     let two : stepped t (actor_of f) ≡ with_event t (Ok f) = step_made_is t (after r.last e).0 f (chip_is t more) (can_after r.last e f ce cf h) (omega (arith, l, size)) k in
     ap (λ (z : State). (stepped z (actor_of f)).kept) one ∙ ap (λ (z : State). z.kept) two ∙ Rattle.std.proofs.Common.append_assoc s.kept (e ∷ []) (f ∷ [])
 
-ends_turned : (s : State) (r : Runs s) (e f : Event) → length s.kept + 1 < s.limit → s.made + 1 < 2 ^ 64 - 1 → refusal_of r.last e ≡ None → refusal_of r.last f ≡ None → AreApart (cause_of r.last e) (cause_of r.last f)
+ends_turned : (s : State) (r : Runs s) (e f : Event) → length s.kept + 1 < s.limit → s.made + 1 < 2 ^ 64 - 1 → refusal_of r.last e ≡ None → refusal_of r.last f ≡ None → AreIndependent (cause_of r.last e) (cause_of r.last f)
     → AreEquivalent s.load (ended s (step (actor_of e) ∷ step (actor_of f) ∷ [])) (ended s (step (actor_of f) ∷ step (actor_of e) ∷ []))
 ends_turned s r e f l k ce cf h =
     subst (λ z. AreEquivalent s.load z (ended s (step (actor_of f) ∷ step (actor_of e) ∷ []))) (sym (two_steps s r e f l k ce cf h))
@@ -240,7 +240,7 @@ sound s xs ys itself r = same
 sound s xs ys (back h) r = equivalent-sym s.load (ended s ys) (ended s xs) (sound s ys xs h r)
 sound s xs ys (chained {ys = zs} h k) r = joined (sound s xs zs h r) (sound s zs ys k r)
 sound s xs ys (before {call} {xs = us} {ys = vs} h) r =
-    subst (λ c. AreEquivalent c (ended (called s call) us) (ended (called s call) vs)) (call_load s call) (sound (called s call) us vs h (call_runs s call r))
+    subst (λ c. AreEquivalent c (ended (after_call s call) us) (ended (after_call s call) vs)) (call_load s call) (sound (after_call s call) us vs h (call_runs s call r))
 sound s xs ys (more us vs zs named l k h) r = ends_more s us vs zs named l k r (sound s us vs h r)
 sound s xs ys (onward us vs zs q l k h) r = subst (λ z. AreEquivalent s.load (ended s (us ++ zs)) z) (ends_onward s us vs zs q l k) same
 sound s xs ys (refused {call} q) r = subst (λ (z : State). AreEquivalent s.load z.kept s.kept) (sym q) same
@@ -248,5 +248,5 @@ sound s xs ys (either {n} {m} q) r = subst (λ (z : State). AreEquivalent s.load
 sound s xs ys (cancelled {n} ok) r = subst (λ z. AreEquivalent s.load z s.kept) (sym (ends_cancelled s n ok)) same
 sound s xs ys (turned {e} {f} l k ce cf h) r =
     let q : chip_of s ≡ r.last = chip_is s r in
-    ends_turned s r e f l k (ap (λ z. refusal_of z e) (sym q) ∙ ce) (ap (λ z. refusal_of z f) (sym q) ∙ cf) (subst (λ z. AreApart (cause_of z e) (cause_of z f)) q h)
+    ends_turned s r e f l k (ap (λ z. refusal_of z e) (sym q) ∙ ce) (ap (λ z. refusal_of z f) (sym q) ∙ cf) (subst (λ z. AreIndependent (cause_of z e) (cause_of z f)) q h)
 sound s xs ys (rolled {n} {k} most a) r = a.kept

@@ -1,4 +1,4 @@
--- A node's history is determined by its local history (`account`).
+-- A node's history is determined by its local history (`local_history`).
 use Rattle.std.proofs.Common.{◌≡◌, ℕ, ◌+◌, Bool, true, false, cond, List, [], ◌∷◌, ◌++◌, map, Some, None, refl, sym, ◌∙◌, ap, arith, get_or}
 use Rattle.std.specs.Prelude.{Option, option_to_list}
 use Rattle.std.specs.List.{filter, flat_map}
@@ -8,27 +8,27 @@ use Rattle.ga_event.specs.declared.event.Event.{Event}
 use Rattle.ga_event.specs.declared.event.Event.TheVariants as event
 use Rattle.ga_event.specs.declared.event.Cause.{Cause}
 use Rattle.ga_event.specs.Touches.{nodes_of, looked_at, seen_by, touches as event_touches}
-use Rattle.ga_event.specs.Apply.{Told, Did, Carried}
+use Rattle.ga_event.specs.Apply.{EventOutcome, Did, Carried}
 use Rattle.ga_causal.specs.Dependence.{cause_touches}
-use Rattle.ga_causal.specs.Equivalence.{account_told}
+use Rattle.ga_causal.specs.Equivalence.{local_history_told}
 use Rattle.ga_causal.specs.Steps.{counted}
-use Rattle.ga_causal.proofs.Shuffles.{numbers}
+use Rattle.ga_causal.proofs.Equivalences.{numbers}
 use Rattle.ga_causal.proofs.Consistent.{told_after}
 use Rattle.ga_event.specs.declared.made.Made.{Made}
 use Rattle.ga_event.specs.declared.made.Made.TheVariants as made
 use Rattle.ga_event.specs.Told.{steps_of, made_after, mades_after, mades_of}
 
 -- an event as made, by its step numbers and its outcome
-abbrev made_by : Event → List ℕ → Told → Option Made
+abbrev made_by : Event → List ℕ → EventOutcome → Option Made
 made_by (event.Own node) ns (Did kind) = Some (made.Own node (get_or ns 0 0) kind)
 made_by (event.Pass w r side) ns (Carried word) = Some (made.Pass w (get_or ns 0 0) r (get_or ns 1 0) word)
 made_by (event.Own node) ns (Carried word) = None
 made_by (event.Pass w r side) ns (Did kind) = None
 
-abbrev pub made_of : (Cause × List ℕ) × Told → List Made
+abbrev pub made_of : (Cause × List ℕ) × EventOutcome → List Made
 made_of x = option_to_list (made_by x.0.0.event x.0.1 x.1)
 
-made_here : (before : List Event) (s : ℕ → ℕ) → ((m : ℕ) → s m ≡ steps_of m before) → (e : Event) (others : List ℕ) (told : Told) → made_after before e told ≡ made_by e (map (λ m. s m + 1) (nodes_of e ++ others)) told
+made_here : (before : List Event) (s : ℕ → ℕ) → ((m : ℕ) → s m ≡ steps_of m before) → (e : Event) (others : List ℕ) (told : EventOutcome) → made_after before e told ≡ made_by e (map (λ m. s m + 1) (nodes_of e ++ others)) told
 made_here before s h (event.Own node) others (Did kind) = ap (λ (z : ℕ). Some (made.Own node (z + 1) kind)) (sym (h node.number))
 made_here before s h (event.Pass w r side) others (Carried word) =
     ap (λ (z : ℕ). Some (made.Pass w (z + 1) r (steps_of r.number before + 1) word)) (sym (h w.number))
@@ -36,7 +36,7 @@ made_here before s h (event.Pass w r side) others (Carried word) =
 made_here before s h (event.Own node) others (Carried word) = refl
 made_here before s h (event.Pass w r side) others (Did kind) = refl
 
-made_numbered : (before : List Event) (s : ℕ → ℕ) → ((m : ℕ) → s m ≡ steps_of m before) → (c : Cause) (told : Told) → made_after before c.event told ≡ made_by c.event (numbers s c) told
+made_numbered : (before : List Event) (s : ℕ → ℕ) → ((m : ℕ) → s m ≡ steps_of m before) → (c : Cause) (told : EventOutcome) → made_after before c.event told ≡ made_by c.event (numbers s c) told
 unfolding seen_by
 made_numbered before s h c told = made_here before s h c.event (looked_at c.event c.look) told
 
@@ -47,11 +47,11 @@ one_more before s h c m = go (cause_touches c m) (sum_by-append (λ (e : Event).
     go true q = let p = h m in omega arith
     go false q = let p = h m in omega arith
 
-joined : (b : Bool) (x : (Cause × List ℕ) × Told) (xs : List ((Cause × List ℕ) × Told)) (front back : List Made) → front ≡ made_of x → back ≡ flat_map made_of xs → cond b front [] ++ back ≡ flat_map made_of (cond b (x ∷ xs) xs)
+joined : (b : Bool) (x : (Cause × List ℕ) × EventOutcome) (xs : List ((Cause × List ℕ) × EventOutcome)) (front back : List Made) → front ≡ made_of x → back ≡ flat_map made_of xs → cond b front [] ++ back ≡ flat_map made_of (cond b (x ∷ xs) xs)
 joined true x xs front back p q = ap (λ z. z ++ back) p ∙ ap (λ z. made_of x ++ z) q
 joined false x xs front back p q = q
 
-mades_accounted : (n : ℕ) (before : List Event) (s : ℕ → ℕ) (xs : List (Cause × Told)) → ((m : ℕ) → s m ≡ steps_of m before) → mades_after before xs n ≡ flat_map made_of (filter (λ x. cause_touches x.0.0 n) (told_after s xs))
+mades_accounted : (n : ℕ) (before : List Event) (s : ℕ → ℕ) (xs : List (Cause × EventOutcome)) → ((m : ℕ) → s m ≡ steps_of m before) → mades_after before xs n ≡ flat_map made_of (filter (λ x. cause_touches x.0.0 n) (told_after s xs))
 mades_accounted n before s [] h = refl
 mades_accounted n before s (x ∷ xs) h =
     joined (cause_touches x.0 n) ((x.0, numbers s x.0), x.1) (filter (λ y. cause_touches y.0.0 n) (told_after (counted s x.0) xs)) (option_to_list (made_after before x.0.event x.1)) (mades_after (before ++ x.0.event ∷ []) xs n)
@@ -59,11 +59,11 @@ mades_accounted n before s (x ∷ xs) h =
     (mades_accounted n (before ++ x.0.event ∷ []) (counted s x.0) xs (one_more before s h x.0))
 
 -- a node's history is made of its local history with outcomes
-pub history_accounted : (told : List (Cause × Told)) (n : ℕ) → mades_of told n ≡ flat_map made_of (account_told n told)
+pub history_accounted : (told : List (Cause × EventOutcome)) (n : ℕ) → mades_of told n ≡ flat_map made_of (local_history_told n told)
 history_accounted told n = mades_accounted n [] (λ m. 0) told (λ m. refl)
 
-pub history_begins : (told left : List (Cause × Told)) (n : ℕ) → (later : List ((Cause × List ℕ) × Told)) × (account_told n told ≡ account_told n left ++ later) → (later : List Made) × (mades_of told n ≡ mades_of left n ++ later)
+pub history_begins : (told left : List (Cause × EventOutcome)) (n : ℕ) → (later : List ((Cause × List ℕ) × EventOutcome)) × (local_history_told n told ≡ local_history_told n left ++ later) → (later : List Made) × (mades_of told n ≡ mades_of left n ++ later)
 history_begins told left n (later, q) = (
   flat_map made_of later,
-  history_accounted told n ∙ ap (flat_map made_of) q ∙ flat_map-append made_of (account_told n left) later ∙ ap (λ z. z ++ flat_map made_of later) (sym (history_accounted left n)),
+  history_accounted told n ∙ ap (flat_map made_of) q ∙ flat_map-append made_of (local_history_told n left) later ∙ ap (λ z. z ++ flat_map made_of later) (sym (history_accounted left n)),
 )

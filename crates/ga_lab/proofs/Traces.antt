@@ -17,18 +17,18 @@ use Rattle.ga_event.specs.declared.event.Event.{Event}
 use Rattle.ga_event.specs.declared.event.Event.TheVariants as event
 use Rattle.ga_event.specs.declared.event.Cause.{Cause}
 use Rattle.ga_event.specs.Touches.{looked_at, seen_by, nodes_of as nodes_of_event}
-use Rattle.ga_event.specs.Apply.{Told, Did, Carried, seen_from, is_number, is_open, reads_from, unmatched, refusal_of, apply, after, unless, cause_of, run}
-use Rattle.ga_causal.specs.Dependence.{cause_touches, NoneLooks}
-use Rattle.ga_causal.specs.Equivalence.{AreEquivalent, account, account_told}
+use Rattle.ga_event.specs.Apply.{EventOutcome, Did, Carried, neighbour_states, is_number, is_open, reads_from, unmatched, refusal_of, apply, after, when_allowed, cause_of, run}
+use Rattle.ga_causal.specs.Dependence.{cause_touches, HasNoLooks}
+use Rattle.ga_causal.specs.Equivalence.{AreEquivalent, local_history, local_history_told}
 use Rattle.ga_causal.specs.Steps.{counted}
 use Rattle.ga_causal.proofs.Runs.{causes, first_of_run}
-use Rattle.ga_causal.proofs.Shuffles.{numbers, entries}
+use Rattle.ga_causal.proofs.Equivalences.{numbers, entries}
 use Rattle.ga_causal.proofs.Consistent.{told_after}
 use Rattle.ga_event.specs.declared.made.Made.{Made}
 use Rattle.ga_event.specs.declared.made.Made.TheVariants as made
 use Rattle.ga_event.specs.Told.{mades_of}
-use Rattle.ga_lab.specs.Machine.{State, first, chip_of, causes_of, history_of}
-use Rattle.ga_lab.specs.Calls.{MachineCall, called_all}
+use Rattle.ga_lab.specs.Machine.{State, initial_state, chip_of, causes_of, history_of}
+use Rattle.ga_lab.specs.Calls.{MachineCall, after_calls}
 use Rattle.ga_lab.proofs.Told.{made_of, history_accounted}
 use Rattle.ga_lab.proofs.Called.{Runs, told_is, causes_is, first_runs, calls_load}
 use Rattle.ga_lab.proofs.Alike.{consistent}
@@ -83,15 +83,15 @@ blind : Event → Cause
 blind e = record { event = e; look = false }
 
 -- the event and outcome of an event as made
-decoded : Made → (Cause × List ℕ) × Told
+decoded : Made → (Cause × List ℕ) × EventOutcome
 decoded (made.Own node k kind) = ((blind (event.Own node), k ∷ []), Did kind)
 decoded (made.Pass w k r j word) = ((blind (event.Pass w r (side_of w.number r.number)), k ∷ j ∷ []), Carried word)
 
 -- it can be decoded from its form as made
-IsTellable : (Cause × List ℕ) × Told → Type 0
+IsTellable : (Cause × List ℕ) × EventOutcome → Type 0
 IsTellable x = (m : Made) × (made_of x ≡ m ∷ []) × (decoded m ≡ x)
 
-abbrev AreTellable : List ((Cause × List ℕ) × Told) → Type 0
+abbrev AreTellable : List ((Cause × List ℕ) × EventOutcome) → Type 0
 AreTellable [] = Unit {0}
 AreTellable (x ∷ xs) = IsTellable x × AreTellable xs
 
@@ -113,15 +113,15 @@ pass_tellable s w r side word h =
     (made.Pass w (s w.number + 1) r (s r.number + 1) word, refl, ap (λ z. ((blind (event.Pass w r z), (s w.number + 1) ∷ (s r.number + 1) ∷ []), Carried word)) (side_is w.number r.number side h))
 
 -- an event that was made
-record CanBe (c : List NodeRecord) (e : Event) (told : Told) : Type 0 where
+record CanBe (c : List NodeRecord) (e : Event) (told : EventOutcome) : Type 0 where
   free : refusal_of c e ≡ None
   is : (after c e).1 ≡ told
 
-can_be : (c d : List NodeRecord) (e : Event) (told : Told) → apply c e ≡ Some (d, told) → CanBe c e told
+can_be : (c d : List NodeRecord) (e : Event) (told : EventOutcome) → apply c e ≡ Some (d, told) → CanBe c e told
 can_be c d e told h = go (refusal_of c e) refl h
   where
-    go : (o : Option NotReady) → refusal_of c e ≡ o → unless o (after c e) ≡ Some (d, told) → CanBe c e told
-    go None q k = record { free = q; is = ap (λ (z : List NodeRecord × Told). z.1) (same_Some (after c e) (d, told) k) }
+    go : (o : Option NotReady) → refusal_of c e ≡ o → when_allowed o (after c e) ≡ Some (d, told) → CanBe c e told
+    go None q k = record { free = q; is = ap (λ (z : List NodeRecord × EventOutcome). z.1) (same_Some (after c e) (d, told) k) }
     go (Some why) q k = absurd (cc)
 
 number_open : (w r : ℕ) (side : Side) (posted awaited : Wait) → is_open w r side posted awaited ≡ true → is_number (neighbour_of w side) r ≡ true
@@ -134,11 +134,11 @@ open_from false h = absurd (cc)
 numbers_blind : (s : ℕ → ℕ) (e : Event) → numbers s (blind e) ≡ map (λ n. s n + 1) (nodes_of_event e)
 numbers_blind s e = ap (map (λ n. s n + 1)) (seen_blind e)
 
-made_tellable : (c : List NodeRecord) (e : Event) (told : Told) (s : ℕ → ℕ) → CanBe c e told → IsTellable ((blind e, numbers s (blind e)), told)
+made_tellable : (c : List NodeRecord) (e : Event) (told : EventOutcome) (s : ℕ → ℕ) → CanBe c e told → IsTellable ((blind e, numbers s (blind e)), told)
 made_tellable c (event.Own node) told s h =
     subst (λ z. IsTellable ((blind (event.Own node), numbers s (blind (event.Own node))), z)) h.is
     (subst (λ z. IsTellable ((blind (event.Own node), z), (after c (event.Own node)).1)) (sym (numbers_blind s (event.Own node)))
-    (own_tellable s node (own (seen_from c node.number) (record_at c node.number)).0))
+    (own_tellable s node (own (neighbour_states c node.number) (record_at c node.number)).0))
 made_tellable c (event.Pass w r side) told s h =
     let here : is_open w.number r.number side (record_at c w.number).wait (record_at c r.number).wait ≡ true = open_from (is_open w.number r.number side (record_at c w.number).wait (record_at c r.number).wait) h.free in
     subst (λ z. IsTellable ((blind (event.Pass w r side), numbers s (blind (event.Pass w r side))), z)) h.is
@@ -152,17 +152,17 @@ cause_blind c e h = ap (named e) (sym h)
     named : Event → Bool → Cause
     named x b = record { event = x; look = b }
 
-all_tellable : (c last : List NodeRecord) (es : List Event) (ts : List (Cause × Told)) (s : ℕ → ℕ) → run c es ≡ Some (last, ts) → NoneLooks (causes ts) → AreTellable (told_after s ts)
-all_tellable c last [] ts s is none = subst (λ (z : List NodeRecord × List (Cause × Told)). AreTellable (told_after s z.1)) (same_Some (c, []) (last, ts) is) tt
+all_tellable : (c last : List NodeRecord) (es : List Event) (ts : List (Cause × EventOutcome)) (s : ℕ → ℕ) → run c es ≡ Some (last, ts) → HasNoLooks (causes ts) → AreTellable (told_after s ts)
+all_tellable c last [] ts s is none = subst (λ (z : List NodeRecord × List (Cause × EventOutcome)). AreTellable (told_after s z.1)) (same_Some (c, []) (last, ts) is) tt
 all_tellable c last (e ∷ es) ts s is none =
     let m = first_of_run c e es last ts is in
-    let look : NoneLooks (cause_of c e ∷ causes m.others) = subst (λ (z : List (Cause × Told)). NoneLooks (causes z)) m.all none in
-    subst (λ (z : List (Cause × Told)). AreTellable (told_after s z)) (sym m.all) (
+    let look : HasNoLooks (cause_of c e ∷ causes m.others) = subst (λ (z : List (Cause × EventOutcome)). HasNoLooks (causes z)) m.all none in
+    subst (λ (z : List (Cause × EventOutcome)). AreTellable (told_after s z)) (sym m.all) (
       subst (λ z. IsTellable ((z, numbers s z), m.told)) (cause_blind c e look.0) (made_tellable c e m.told s (can_be c m.mid e m.told m.first)),
       all_tellable m.mid last es m.others (counted s (cause_of c e)) m.then look.1,
     )
 
-some_tellable : (test : (Cause × List ℕ) × Told → Bool) (xs : List ((Cause × List ℕ) × Told)) → AreTellable xs → AreTellable (filter test xs)
+some_tellable : (test : (Cause × List ℕ) × EventOutcome → Bool) (xs : List ((Cause × List ℕ) × EventOutcome)) → AreTellable xs → AreTellable (filter test xs)
 some_tellable test [] h = tt
 some_tellable test (x ∷ xs) h = go (test x) (some_tellable test xs h.1)
   where
@@ -170,7 +170,7 @@ some_tellable test (x ∷ xs) h = go (test x) (some_tellable test xs h.1)
     go true k = (h.0, k)
     go false k = k
 
-told_back : (xs : List ((Cause × List ℕ) × Told)) → AreTellable xs → map decoded (flat_map made_of xs) ≡ xs
+told_back : (xs : List ((Cause × List ℕ) × EventOutcome)) → AreTellable xs → map decoded (flat_map made_of xs) ≡ xs
 unfolding IsTellable
 told_back [] h = refl
 told_back (x ∷ xs) h = one h.0 (told_back xs h.1)
@@ -179,30 +179,30 @@ told_back (x ∷ xs) h = one h.0 (told_back xs h.1)
     one (m, p, q) k = ap (λ z. map decoded (z ++ flat_map made_of xs)) p ∙ ap (λ z. z ∷ map decoded (flat_map made_of xs)) q ∙ ap (λ z. x ∷ z) k
 
 -- the local history of a node, out of the one with outcomes
-untold : (n : ℕ) (s : ℕ → ℕ) (ts : List (Cause × Told)) → filter (λ (x : Cause × List ℕ). cause_touches x.0 n) (entries s (causes ts)) ≡ map (λ x. x.0) (filter (λ (x : (Cause × List ℕ) × Told). cause_touches x.0.0 n) (told_after s ts))
+untold : (n : ℕ) (s : ℕ → ℕ) (ts : List (Cause × EventOutcome)) → filter (λ (x : Cause × List ℕ). cause_touches x.0 n) (entries s (causes ts)) ≡ map (λ x. x.0) (filter (λ (x : (Cause × List ℕ) × EventOutcome). cause_touches x.0.0 n) (told_after s ts))
 untold n s [] = refl
 untold n s (x ∷ ts) = go (cause_touches x.0 n) _ _ (untold n (counted s x.0) ts)
   where
-    go : (b : Bool) (xs : List (Cause × List ℕ)) (ys : List ((Cause × List ℕ) × Told)) → xs ≡ map (λ x. x.0) ys → cond b ((x.0, numbers s x.0) ∷ xs) xs ≡ map (λ x. x.0) (cond b (((x.0, numbers s x.0), x.1) ∷ ys) ys)
+    go : (b : Bool) (xs : List (Cause × List ℕ)) (ys : List ((Cause × List ℕ) × EventOutcome)) → xs ≡ map (λ x. x.0) ys → cond b ((x.0, numbers s x.0) ∷ xs) xs ≡ map (λ x. x.0) (cond b (((x.0, numbers s x.0), x.1) ∷ ys) ys)
     go true xs ys k = ap (λ z. (x.0, numbers s x.0) ∷ z) k
     go false xs ys k = k
 
-account_told_back : (s : State) (n : ℕ) (r : Runs s) → NoneLooks (causes_of s) → account n (causes_of s) ≡ map (λ x. x.0) (map decoded (history_of s n))
+account_told_back : (s : State) (n : ℕ) (r : Runs s) → HasNoLooks (causes_of s) → local_history n (causes_of s) ≡ map (λ x. x.0) (map decoded (history_of s n))
 account_told_back s n r none =
-    let all : AreTellable (told_after (λ i. 0) r.told) = all_tellable s.load r.last s.kept r.told (λ i. 0) r.run_is (subst NoneLooks (causes_is s r) none) in
-    ap (account n) (causes_is s r) ∙ untold n (λ i. 0) r.told
-    ∙ ap (map (λ x. x.0)) (sym (told_back (account_told n r.told) (some_tellable (λ x. cause_touches x.0.0 n) (told_after (λ i. 0) r.told) all)))
+    let all : AreTellable (told_after (λ i. 0) r.told) = all_tellable s.load r.last s.kept r.told (λ i. 0) r.run_is (subst HasNoLooks (causes_is s r) none) in
+    ap (local_history n) (causes_is s r) ∙ untold n (λ i. 0) r.told
+    ∙ ap (map (λ x. x.0)) (sym (told_back (local_history_told n r.told) (some_tellable (λ x. cause_touches x.0.0 n) (told_after (λ i. 0) r.told) all)))
     ∙ ap (λ z. map (λ x. x.0) (map decoded z)) (sym (ap (λ z. mades_of z n) (told_is s r) ∙ history_accounted r.told n))
 
-pub traces_tell : (load : List NodeRecord) (limit bound : ℕ) (calls others : List MachineCall)
-    → NoneLooks (causes_of (called_all (first load limit) calls))
-    → ((n : ℕ) → history_of (called_all (first load limit) calls) n ≡ history_of (called_all (first load bound) others) n)
-    → AreEquivalent load (called_all (first load limit) calls).kept (called_all (first load bound) others).kept × (chip_of (called_all (first load limit) calls) ≡ chip_of (called_all (first load bound) others))
-traces_tell load limit bound calls others none h =
-    let s = called_all (first load limit) calls in
-    let z = called_all (first load bound) others in
+pub traces_determine : (load : List NodeRecord) (limit bound : ℕ) (calls others : List MachineCall)
+    → HasNoLooks (causes_of (after_calls (initial_state load limit) calls))
+    → ((n : ℕ) → history_of (after_calls (initial_state load limit) calls) n ≡ history_of (after_calls (initial_state load bound) others) n)
+    → AreEquivalent load (after_calls (initial_state load limit) calls).kept (after_calls (initial_state load bound) others).kept × (chip_of (after_calls (initial_state load limit) calls) ≡ chip_of (after_calls (initial_state load bound) others))
+traces_determine load limit bound calls others none h =
+    let s = after_calls (initial_state load limit) calls in
+    let z = after_calls (initial_state load bound) others in
     let r = first_runs load limit calls in
     let q = first_runs load bound others in
-    let nor : NoneLooks (causes_of z) = none_looks s z r q (calls_load (first load limit) calls ∙ sym (calls_load (first load bound) others)) none h in
+    let nor : HasNoLooks (causes_of z) = none_looks s z r q (calls_load (initial_state load limit) calls ∙ sym (calls_load (initial_state load bound) others)) none h in
     let k = consistent load limit bound calls others (λ n. account_told_back s n r none ∙ ap (λ x. map (λ y. y.0) (map decoded x)) (h n) ∙ sym (account_told_back z n q nor)) in
     (k.0, k.1)

@@ -2,7 +2,7 @@
 use Rattle.std.specs.Prelude.{◌≡◌, ℕ, List, [], ◌∷◌}
 use Rattle.ga_grid.specs.declared.node_id.NodeId.{NodeId}
 use Rattle.ga_causal.specs.Equivalence.{AreEquivalent}
-use Rattle.ga_lab.specs.Machine.{State, first, stepped, undone, rewound}
+use Rattle.ga_lab.specs.Machine.{State, initial_state, stepped, undone, rewound}
 
 pub data MachineCall : Type 0 where
   step : NodeId → MachineCall
@@ -10,20 +10,20 @@ pub data MachineCall : Type 0 where
   rewind : ℕ → ℕ → MachineCall
 
 -- the machine after a call
-abbrev pub called : State → MachineCall → State
-called s (step n) = stepped s n
-called s undo = undone s
-called s (rewind n k) = rewound s n k
+abbrev pub after_call : State → MachineCall → State
+after_call s (step n) = stepped s n
+after_call s undo = undone s
+after_call s (rewind n k) = rewound s n k
 
 -- the machine after these calls, one after another
-abbrev pub called_all : State → List MachineCall → State
-called_all s [] = s
-called_all s (call ∷ calls) = called_all (called s call) calls
+abbrev pub after_calls : State → List MachineCall → State
+after_calls s [] = s
+after_calls s (call ∷ calls) = after_calls (after_call s call) calls
 
 -- calls lead to the machine from its load
 pub record IsReached (s : State) : Type 0 where
   pub calls : List MachineCall
-  pub is : called_all (first s.load s.limit) calls ≡ s
+  pub is : after_calls (initial_state s.load s.limit) calls ≡ s
 
 -- one machine keeps what the other keeps, but for the order of independent events
 pub record AreEquivalentStates (s z : State) : Type 0 where

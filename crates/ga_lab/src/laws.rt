@@ -10,13 +10,13 @@ ghost use Rattle.ga_event.specs.Told.{steps_of, made_in, events_in};
 ghost use Rattle.ga_grid.specs.declared.node_id.NodeId.{NodeId};
 ghost use Rattle.ga_grid.specs.Chip.{AreSteady, record_at};
 ghost use Rattle.ga_event.specs.declared.made.Made.{Made};
-ghost use Rattle.ga_lab.specs.Machine.{State, first, chip_of, told_of_kept, causes_of, step_answer, stepped, stands, undone, rewind_answer, rewound, why_answer, history_of, actor_of, stepped_all};
+ghost use Rattle.ga_lab.specs.Machine.{State, initial_state, chip_of, outcomes_of_kept, causes_of, step_answer, stepped, has_step, undone, rewind_answer, rewound, why_answer, history_of, actor_of, stepped_all};
 ghost use Rattle.ga_node.specs.Record.{NodeRecord};
-ghost use Rattle.ga_lab.specs.Calls.{MachineCall, called_all, IsReached, AreEquivalentStates};
+ghost use Rattle.ga_lab.specs.Calls.{MachineCall, after_calls, IsReached, AreEquivalentStates};
 ghost use Rattle.ga_lab.specs.Sequences.{AreCausal, TakesNoLook, taken_from};
-ghost use Rattle.ga_causal.specs.Equivalence.{AreEquivalent, account};
+ghost use Rattle.ga_causal.specs.Equivalence.{AreEquivalent, local_history};
 ghost use Rattle.ga_causal.specs.Words.{words_read};
-ghost use Rattle.ga_causal.specs.Dependence.{NoneLooks, place_of};
+ghost use Rattle.ga_causal.specs.Dependence.{HasNoLooks, position_of_step};
 ghost use Rattle.ga_causal.specs.declared.chain.Link.{Link};
 ghost use Rattle.ga_causal.specs.Chains.{IsChain};
 ghost use Rattle.ga_causal.specs.Steps.{links_by_events};
@@ -33,24 +33,24 @@ pub fn machine_stays_steady()
 }
 
 /// The event that a step returns is the one that the history has later, at the place after the events before it.
-#[tactic(auto, using(crate::proofs::Stepping::told_later))]
-pub fn told_later()
+#[tactic(auto, using(crate::proofs::Stepping::answers_are_stable))]
+pub fn answers_are_stable()
     ensures { (s : State) (n : NodeId) (told : Made) → IsSome (replay s.load s.kept) →
-        step_answer s n ≡ Ok told → made_in (told_of_kept (stepped s n)) (length s.kept) ≡ Some told }
+        step_answer s n ≡ Ok told → made_in (outcomes_of_kept (stepped s n)) (length s.kept) ≡ Some told }
 {}
 
 /// After any calls, the history can be replayed from the load.
 #[tactic(auto, using(crate::proofs::Called::reached))]
 pub fn reached()
     ensures { (load : List NodeRecord) (limit : ℕ) (calls : List MachineCall) →
-        let s = called_all (first load limit) calls in
+        let s = after_calls (initial_state load limit) calls in
         (s.load ≡ load) × IsSome (replay s.load s.kept) }
 {}
 
 /// After any calls, the history has no more events than the limit, nor than were made, and fewer than 2^64 were made.
-pub fn kept_fits()
+pub fn limit_is_respected()
     ensures { (load : List NodeRecord) (limit : ℕ) (calls : List MachineCall) →
-        let s = called_all (first load limit) calls in
+        let s = after_calls (initial_state load limit) calls in
         (length s.kept ≤ s.limit) × (length s.kept ≤ s.made) × (s.made < 2 ^ 64) }
 {}
 
@@ -71,12 +71,12 @@ pub fn undone_rewound()
 
 /// Causal consistency of the machine (Danos and Krivine): whatever steps, undos and rollbacks led to two machines from one
 /// load, if each node has the same local history in both, then they keep the same events except for the order of independent
-/// ones, their chips are the same, and so is each node's `trace`. `order_unseen` is the other direction.
-pub fn same_accounts()
+/// ones, their chips are the same, and so is each node's `trace`. `order_unobservable` is the other direction.
+pub fn same_local_histories()
     ensures { (load : List NodeRecord) (limit bound : ℕ) (calls others : List MachineCall) →
-        let s = called_all (first load limit) calls in
-        let z = called_all (first load bound) others in
-        ((n : ℕ) → account n (causes_of s) ≡ account n (causes_of z)) →
+        let s = after_calls (initial_state load limit) calls in
+        let z = after_calls (initial_state load bound) others in
+        ((n : ℕ) → local_history n (causes_of s) ≡ local_history n (causes_of z)) →
         AreEquivalent load s.kept z.kept × (chip_of s ≡ chip_of z) × ((n : ℕ) → history_of s n ≡ history_of z n) }
 {}
 
@@ -86,22 +86,22 @@ pub fn same_accounts()
 /// look: what a neighbour did after the look stays, and then the rollback is no sequence of undos (`examples/look_again`). It
 /// makes as many steps and undos again, which have to be counted: hence less than half of 2^64 calls.
 #[tactic(auto, using(crate::proofs::Sequences::sound, crate::proofs::Again::runs_reached, crate::proofs::Causal::related))]
-pub fn causal_calls()
+pub fn calls_causally_consistent()
     ensures ends { (s : State) (calls others : List MachineCall) → IsReached s → AreCausal s calls others →
-        AreEquivalent s.load (called_all s calls).kept (called_all s others).kept }
+        AreEquivalent s.load (after_calls s calls).kept (after_calls s others).kept }
     ensures related { (load : List NodeRecord) (limit : ℕ) (calls others : List MachineCall) →
         length calls + length calls < 2 ^ 64 → length others + length others < 2 ^ 64 →
-        TakesNoLook (first load limit) calls → TakesNoLook (first load limit) others →
-        AreEquivalent load (called_all (first load limit) calls).kept (called_all (first load limit) others).kept →
-        AreCausal (first load limit) calls others }
+        TakesNoLook (initial_state load limit) calls → TakesNoLook (initial_state load limit) others →
+        AreEquivalent load (after_calls (initial_state load limit) calls).kept (after_calls (initial_state load limit) others).kept →
+        AreCausal (initial_state load limit) calls others }
 {}
 
 /// The order of independent events shows in no chip, in no local history or `trace`, and in no answer to a step or a rollback,
 /// nor later. (An undo shows it: it removes the newest event.)
-pub fn order_unseen()
+pub fn order_unobservable()
     ensures chip { (s z : State) → AreEquivalentStates s z → chip_of s ≡ chip_of z }
     ensures account { (s z : State) (n : ℕ) → IsReached s → AreEquivalentStates s z →
-        account n (causes_of s) ≡ account n (causes_of z) }
+        local_history n (causes_of s) ≡ local_history n (causes_of z) }
     ensures history { (s z : State) (n : ℕ) → IsReached s → AreEquivalentStates s z → history_of s n ≡ history_of z n }
     ensures step { (s z : State) (n : NodeId) → AreEquivalentStates s z →
         (step_answer s n ≡ step_answer z n) × AreEquivalentStates (stepped s n) (stepped z n) }
@@ -114,7 +114,7 @@ pub fn order_unseen()
 /// same rule. (It need not be the one that is returned there: where several of the events on which a step depends directly lead
 /// back to the first, the one that was made first is in the chain.)
 #[tactic(auto, using(crate::proofs::Explained::same_none, crate::proofs::Again::some_reached, crate::proofs::Explained::same_chain))]
-pub fn why_unseen()
+pub fn why_ignores_order()
     ensures none { (s z : State) (n k m j : ℕ) → IsReached s → AreEquivalentStates s z →
         ((why_answer s n k m j ≡ Ok None) ↔ (why_answer z n k m j ≡ Ok None)) }
     ensures chain { (s z : State) (n k m j : ℕ) (links : List Link) → IsReached s → AreEquivalentStates s z →
@@ -125,48 +125,48 @@ pub fn why_unseen()
 /// If no event of one of two machines looks, the histories of the nodes, which are what `trace` prints, determine all events
 /// except for the order of independent ones, and with them the chip: another machine with the same histories has no look
 /// either. (If one looks they don't: it reads another word if a neighbour made a step before it, and prints alike.)
-pub fn traces_tell()
+pub fn traces_determine()
     ensures { (load : List NodeRecord) (limit bound : ℕ) (calls others : List MachineCall) →
-        let s = called_all (first load limit) calls in
-        let z = called_all (first load bound) others in
-        NoneLooks (causes_of s) → ((n : ℕ) → history_of s n ≡ history_of z n) →
+        let s = after_calls (initial_state load limit) calls in
+        let z = after_calls (initial_state load bound) others in
+        HasNoLooks (causes_of s) → ((n : ℕ) → history_of s n ≡ history_of z n) →
         AreEquivalent load s.kept z.kept × (chip_of s ≡ chip_of z) }
 {}
 
 /// The histories of the nodes, together with the words that their looks read, determine the chip, whoever looks: a node with
 /// the same `trace`, whose looks read the same words, is the same, whatever else differs. The local history of a node with the
 /// words that it received thus determines it (after Danos and Krivine, who pair a process with the memory of what it received).
-/// If its looks read other words, it may differ (`traces_tell`). The order of all events is not determined: a look may have
+/// If its looks read other words, it may differ (`traces_determine`). The order of all events is not determined: a look may have
 /// read a word before or after a step of a neighbour that shows no wait, and a rollback of that step removes the look or keeps
 /// it.
 #[tactic(auto, using(crate::proofs::Heard::same_node, crate::proofs::Heard::same_chip))]
-pub fn words_tell()
+pub fn io_words_determine()
     ensures node { (load : List NodeRecord) (limit bound : ℕ) (calls others : List MachineCall) (n : ℕ) →
-        let s = called_all (first load limit) calls in
-        let z = called_all (first load bound) others in
+        let s = after_calls (initial_state load limit) calls in
+        let z = after_calls (initial_state load bound) others in
         history_of s n ≡ history_of z n → words_read n load s.kept ≡ words_read n load z.kept →
         record_at (chip_of s) n ≡ record_at (chip_of z) n }
     ensures chip { (load : List NodeRecord) (limit bound : ℕ) (calls others : List MachineCall) →
-        let s = called_all (first load limit) calls in
-        let z = called_all (first load bound) others in
+        let s = after_calls (initial_state load limit) calls in
+        let z = after_calls (initial_state load bound) others in
         ((n : ℕ) → history_of s n ≡ history_of z n) → ((n : ℕ) → words_read n load s.kept ≡ words_read n load z.kept) →
         chip_of s ≡ chip_of z }
 {}
 
 /// Whatever was undone, the machine is where steps alone lead from the load: one step for each event of the history, in order,
 /// for a pass one of its writer.
-#[tactic(auto, using(crate::proofs::Forward::reached_forward, crate::proofs::Again::some_reached, crate::proofs::Again::kept_reached, crate::proofs::Again::count_reached))]
-pub fn reached_forward()
+#[tactic(auto, using(crate::proofs::Forward::reachable_by_steps, crate::proofs::Again::some_reached, crate::proofs::Again::kept_reached, crate::proofs::Again::count_reached))]
+pub fn reachable_by_steps()
     ensures { (s : State) → IsReached s →
-        stepped_all (first s.load s.limit) (map actor_of s.kept) ≡ record s { made = length s.kept } }
+        stepped_all (initial_state s.load s.limit) (map actor_of s.kept) ≡ record s { made = length s.kept } }
 {}
 
 /// `why` finds no chain from a step to another exactly if a rollback of the first keeps the other. Both must exist: `why`
 /// refuses a step that doesn't.
-#[tactic(auto, using(crate::proofs::Reasoned::takes_what_it_explains, crate::proofs::Again::some_reached))]
-pub fn takes_what_it_explains()
-    ensures { (s : State) (n k m j : ℕ) → IsReached s → stands s n k ≡ true → stands s m j ≡ true →
-        ((why_answer s n k m j ≡ Ok None) ↔ (stands (rewound s n k) m j ≡ true)) }
+#[tactic(auto, using(crate::proofs::Reasoned::rollback_iff_chain, crate::proofs::Again::some_reached))]
+pub fn rollback_iff_chain()
+    ensures { (s : State) (n k m j : ℕ) → IsReached s → has_step s n k ≡ true → has_step s m j ≡ true →
+        ((why_answer s n k m j ≡ Ok None) ↔ (has_step (rewound s n k) m j ≡ true)) }
 {}
 
 /// Two rollbacks leave the same machine in either order.
@@ -178,8 +178,8 @@ pub fn either_order()
 
 /// What was undone is made again by a step of its node, of a pass by one of its writer (a step of its reader takes the word of the
 /// first writer that waits, which may be another). Once 2^64 - 1 events were made a step is refused.
-#[tactic(auto, using(crate::proofs::Forward::redone, crate::proofs::Again::some_reached, crate::proofs::Again::kept_reached))]
-pub fn redone()
+#[tactic(auto, using(crate::proofs::Forward::undo_is_redone_by_step, crate::proofs::Again::some_reached, crate::proofs::Again::kept_reached))]
+pub fn undo_is_redone_by_step()
     ensures { (s : State) (xs : List Event) (e : Event) → IsReached s → s.kept ≡ xs ++ e ∷ [] →
         s.made < 2 ^ 64 - 1 → stepped (undone s) (actor_of e) ≡ record s { made = s.made + 1 } }
 {}
@@ -187,17 +187,17 @@ pub fn redone()
 /// What a rollback removed is made again by steps of the same nodes in their order, for a pass by one of its writer, if no look
 /// is among it: then the history has the same events again except for the order of independent ones, and the chip is the same.
 /// (A look made again also observes what its neighbours did after it.) The count of made events must have room for them.
-pub fn remade()
+pub fn rollback_is_redone_by_steps()
     ensures { (s : State) (n k : ℕ) → IsReached s →
-        let taken = taken_from (causes_of s) (place_of (causes_of s) n k) in
-        NoneLooks taken → s.made + length taken < 2 ^ 64 →
+        let taken = taken_from (causes_of s) (position_of_step (causes_of s) n k) in
+        HasNoLooks taken → s.made + length taken < 2 ^ 64 →
         let z = stepped_all (rewound s n k) (map actor_of (events_in taken)) in
         AreEquivalent s.load s.kept z.kept × (chip_of z ≡ chip_of s) }
 {}
 
 /// A node that keeps all its steps is the same after a rollback as before.
-#[tactic(auto, using(crate::proofs::Elsewhere::stays_elsewhere, crate::proofs::Again::some_reached))]
-pub fn stays_elsewhere()
+#[tactic(auto, using(crate::proofs::Elsewhere::rollback_leaves_other_nodes, crate::proofs::Again::some_reached))]
+pub fn rollback_leaves_other_nodes()
     ensures { (s : State) (n k m : ℕ) → IsReached s → steps_of m (rewound s n k).kept ≡ steps_of m s.kept →
         record_at (chip_of (rewound s n k)) m ≡ record_at (chip_of s) m }
 {}

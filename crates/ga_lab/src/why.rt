@@ -2,12 +2,12 @@
 
 ghost use Rattle.std.specs.Prelude.{◌≡◌, ◌+◌, ◌<◌, ◌^◌, ◌⊎◌, ℕ, List, length, drop, Some, Err, IsOk};
 ghost use Rattle.ga_event.specs.declared.event.Cause.{Cause};
-ghost use Rattle.ga_causal.specs.Dependence.{place_of};
+ghost use Rattle.ga_causal.specs.Dependence.{position_of_step};
 ghost use Rattle.ga_journal.specs.Logs.{IsSince};
 ghost use Rattle.ga_lab.specs.Machine.{why_between};
 
 use crate::fault::LabFault;
-use ga_causal::{Chain, find_later_chain, place_of};
+use ga_causal::{Chain, find_later_chain, position_of_step};
 use ga_grid::NodeId;
 use ga_journal::Since;
 
@@ -17,13 +17,13 @@ pub(crate) fn chain_since(since: &Since, to: (NodeId, u32)) -> Result<Option<Cha
     requires short { since.now.before + length since.now.causes.items < 2 ^ 32 }
     ensures { (all : List Cause) (n k : ℕ) →
         IsSince all n k to.0.number since.now.causes.items since.now.before since.now.steps →
-        let answer = why_between all (place_of all n k) (place_of all to.0.number to.1) in
+        let answer = why_between all (position_of_step all n k) (position_of_step all to.0.number to.1) in
         (result ≡ answer) ⊎ ((result ≡ Err LabFault.Memory) × IsOk answer) }
 {
     if to.1 <= since.steps {
         return Ok(None);
     }
-    match place_of(&since.causes, to.0, to.1 - since.steps) {
+    match position_of_step(&since.causes, to.0, to.1 - since.steps) {
         Some(effect) => chain(since, effect),
         None => Err(LabFault::NoStep),
     }

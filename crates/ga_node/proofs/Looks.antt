@@ -11,14 +11,14 @@ use Rattle.ga_ports.specs.declared.address.Target.TheVariants.{Ram, Rom, Io, Por
 use Rattle.ga_node.specs.declared.wait.Reader.{Reader}
 use Rattle.ga_node.specs.declared.wait.Reader.TheVariants.{Instruction, Stack}
 use Rattle.ga_node.specs.declared.seen.Seen.{Seen}
-use Rattle.ga_node.specs.declared.due.Due.{Due}
-use Rattle.ga_node.specs.declared.due.Due.TheVariants as due
+use Rattle.ga_node.specs.declared.due.NextAction.{NextAction}
+use Rattle.ga_node.specs.declared.due.NextAction.TheVariants as due
 use Rattle.ga_node.specs.declared.kind.Kind.{Kind}
 use Rattle.ga_node.specs.declared.kind.Kind.TheVariants as kind
 use Rattle.ga_node.specs.Io.{io_word}
 use Rattle.ga_node.specs.Record.{NodeRecord, HasSizes}
 use Rattle.ga_node.specs.Changes.{Change, after_changes}
-use Rattle.ga_node.specs.Table.{Access, Plain, Reads, Writes, with_kind, found, followed, carried_out, does, fetches, reads_io_in, reads_io, due_of, done_by, own_event, own, is_io, looks_by, looks}
+use Rattle.ga_node.specs.Table.{Access, Plain, Reads, Writes, with_kind, found, followed, carried_out, opcode_effect, fetches, reads_io_in, reads_io, next_action_of, done_by, own_event, own, is_io, looks_by, looks}
 
 found_blind : (target : Target) (reader : Reader) (seen other : Seen) (n : NodeRecord) → is_io target ≡ false → found target reader seen n ≡ found target reader other n
 unfolding found
@@ -33,20 +33,20 @@ access_blind reader (Plain changes) seen other n blind = refl
 access_blind reader (Reads address more) seen other n blind = ap (λ found. followed found more) (found_blind (classified address) reader seen other n blind)
 access_blind reader (Writes address more) seen other n blind = refl
 
-done_blind : (due : Due) (seen other : Seen) (n : NodeRecord) → looks_by due n ≡ false → done_by due seen n ≡ done_by due other n
+done_blind : (due : NextAction) (seen other : Seen) (n : NodeRecord) → looks_by due n ≡ false → done_by due seen n ≡ done_by due other n
 done_blind due.Fetch seen other n blind = ap (with_kind kind.Fetch) (access_blind Instruction (fetches n) seen other n blind)
-done_blind (due.Run op) seen other n blind = ap (with_kind (kind.Run (code_of op))) (access_blind Stack (does op n) seen other n blind)
+done_blind (due.Run op) seen other n blind = ap (with_kind (kind.Run (code_of op))) (access_blind Stack (opcode_effect op n) seen other n blind)
 
 pub event_blind : (seen other : Seen) (n : NodeRecord) → looks n ≡ false → own_event seen n ≡ own_event other n
 unfolding own_event looks
-event_blind seen other n = done_blind (due_of n) seen other n
+event_blind seen other n = done_blind (next_action_of n) seen other n
 
 pub own_blind : (seen other : Seen) (n : NodeRecord) → looks n ≡ false → own seen n ≡ own other n
 unfolding own
 own_blind seen other n blind = ap (λ event. (event.0, after_changes event.1 n)) (event_blind seen other n blind)
 
 -- whether it looks, by what it carries out
-pub looks_due : (due : Due) (n : NodeRecord) (look : Bool) → due ≡ due_of n → looks_by due n ≡ look → looks n ≡ look
+pub looks_due : (due : NextAction) (n : NodeRecord) (look : Bool) → due ≡ next_action_of n → looks_by due n ≡ look → looks n ≡ look
 unfolding looks
 looks_due due n look is by = rw (← is) by
 
@@ -65,7 +65,7 @@ top_tells word other xs size same = sym (top word) ∙ ap (λ ys. slice_index ys
     top : (w : ℕ) → slice_index (pushed w xs) 0 ≡ w
     top w = get_or-take (length xs) (w ∷ xs) 0 0 (omega (arith, size))
 
-op_tells : (op : Op) (n : NodeRecord) → HasSizes n → IsTelling (does op n) n
+op_tells : (op : Op) (n : NodeRecord) → HasSizes n → IsTelling (opcode_effect op n) n
 op_tells op.Return n sizes = tt
 op_tells op.Execute n sizes = tt
 op_tells op.Jump n sizes = tt
@@ -115,13 +115,13 @@ access_tells reader (Plain changes) kind seen other n look tells same = cc
 access_tells reader (Reads address more) kind seen other n look tells same = read_tells (classified address) reader more kind seen other n look tells same
 access_tells reader (Writes address more) kind seen other n look tells same = cc
 
-done_tells : (due : Due) (seen other : Seen) (n : NodeRecord) → HasSizes n → looks_by due n ≡ true → after_changes (done_by due seen n).1 n ≡ after_changes (done_by due other n).1 n → io_word seen ≡ io_word other
+done_tells : (due : NextAction) (seen other : Seen) (n : NodeRecord) → HasSizes n → looks_by due n ≡ true → after_changes (done_by due seen n).1 n ≡ after_changes (done_by due other n).1 n → io_word seen ≡ io_word other
 done_tells due.Fetch seen other n sizes look same = access_tells Instruction (fetches n) kind.Fetch seen other n look (λ word else_word e. ap (λ (m : NodeRecord). m.i) e) same
-done_tells (due.Run op) seen other n sizes look same = access_tells Stack (does op n) (kind.Run (code_of op)) seen other n look (op_tells op n sizes) same
+done_tells (due.Run op) seen other n sizes look same = access_tells Stack (opcode_effect op n) (kind.Run (code_of op)) seen other n look (op_tells op n sizes) same
 
 pub look_sees : (seen other : Seen) (n : NodeRecord) → HasSizes n → looks n ≡ true → own seen n ≡ own other n → io_word seen ≡ io_word other
 unfolding own own_event looks
-look_sees seen other n sizes look same = done_tells (due_of n) seen other n sizes look (ap (λ (z : Kind × NodeRecord). z.1) same)
+look_sees seen other n sizes look same = done_tells (next_action_of n) seen other n sizes look (ap (λ (z : Kind × NodeRecord). z.1) same)
 
 -- ---- the opcodes that read
 

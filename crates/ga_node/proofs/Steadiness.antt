@@ -11,7 +11,7 @@ use Rattle.ga_ports.specs.declared.address.Target.{Target}
 use Rattle.ga_ports.specs.declared.address.Target.TheVariants.{Ram, Rom, Io, Ports, Bad}
 use Rattle.ga_node.specs.Record.{NodeRecord, FitsWait, IsSteady}
 use Rattle.ga_node.specs.Changes.{Change, PushData, PopData, SetTop, PopTo, PushReturn, PopReturn, SetTopReturn, SetP, SetA, SetB, SetI, SetIo, SetCarry, SetRam, GoOn, Skip, StartAgain, SetWait, SetStop, changed, after_changes}
-use Rattle.ga_node.specs.Table.{t, r, found, stored, followed, effect, fetched, with_kind, posts, halts, is_extended, own_event, own, refused_by, refusal, sent, taken, taking}
+use Rattle.ga_node.specs.Table.{t, r, found, stored, followed, effect, fetched, with_kind, posts, stop_effect, is_extended, own_event, own, refused_by, refusal, sent, taken, taking}
 use Rattle.ga_node.specs.declared.seen.Seen.{Seen}
 use Rattle.ga_node.specs.declared.wait.Wait.{Wait}
 use Rattle.ga_node.specs.declared.wait.Wait.TheVariants as wait
@@ -85,7 +85,7 @@ read_lands (Ports sides) Instruction seen n more reads plain = inl (wait.Fetch s
 read_lands (Ports sides) Stack seen n more reads plain = inl (wait.Read sides, refl, (reads, refl))
 read_lands Bad reader seen n more reads plain = inr (2, refl)
 
-post_lands : (single : Bool) (side : Side) (slot : ℕ) → slot ≢ 4 → Ends slot (cond single (posts (wait.Write side)) (halts 1)).1
+post_lands : (single : Bool) (side : Side) (slot : ℕ) → slot ≢ 4 → Ends slot (cond single (posts (wait.Write side)) (stop_effect 1)).1
 post_lands true side slot other = inl (wait.Write side, refl, (other, refl))
 post_lands false side slot other = inr (1, refl)
 

@@ -1,13 +1,13 @@
 -- What a read of `io` shows of the neighbours (F18A Technology Reference DB001, the `io` register; the whole table is a choice
 -- of this project's own: which bits a side has, what sets and clears them, every other bit, and what counts as waiting).
 use Rattle.std.specs.Prelude.{ℕ, ◌+◌, ◌^◌}
-use Rattle.ga_node.specs.declared.seen.Beside.{Beside}
-use Rattle.ga_node.specs.declared.seen.Beside.TheVariants.{Nobody, Idle, Reading, Writing}
+use Rattle.ga_node.specs.declared.seen.NeighbourState.{NeighbourState}
+use Rattle.ga_node.specs.declared.seen.NeighbourState.TheVariants.{Nobody, Idle, Reading, Writing}
 use Rattle.ga_node.specs.declared.seen.Seen.{Seen}
 
 -- what a side shows in its two bits: the first is cleared where the neighbour waits reading a set with the side, and the
 -- second is set where it waits writing the side
-abbrev pub shown : Beside → ℕ → ℕ → ℕ
+abbrev pub shown : NeighbourState → ℕ → ℕ → ℕ
 shown Nobody first second = 2 ^ first
 shown Idle first second = 2 ^ first
 shown Reading first second = 0

@@ -2,7 +2,7 @@
 
 ghost use Rattle.ga_node.specs.inner.Packed.{unpacked, IsWord};
 
-use crate::aside::Aside;
+use crate::aside::SuspendedStatus;
 use crate::node::Node;
 use crate::saved::{Saved, unpack};
 use std::marker::Model;
@@ -13,12 +13,12 @@ const CODES: usize = 249;
 /// The old values of many events, gathered from the newest event on: of each place the one that is written back last. To write
 /// these back leads to the same node as to write all of them back. A contract sees a list of pairs.
 #[derive(Drop)]
-pub struct Gathered {
+pub struct OverwrittenValues {
     // At the code of each place one more than the word of its pair, 0 where it has none.
     words: [u32; CODES],
 }
 
-impl Model for Gathered {
+impl Model for OverwrittenValues {
     ghost use Rattle.std.specs.Prelude.{◌≡◌, List, ℕ, length};
     ghost use Rattle.ga_node.specs.declared.place.Place.{Place};
     ghost use Rattle.ga_node.specs.inner.Packed.{pairs_of, AreAt};
@@ -30,7 +30,7 @@ impl Model for Gathered {
     ghost invariant = { λ g. (length g.words ≡ 249) × AreAt 0 g.words };
 }
 
-impl Gathered {
+impl OverwrittenValues {
     ghost use Rattle.std.specs.Prelude.{◌≡◌, ◌≤◌, []};
     ghost use Rattle.ga_node.specs.Record.{NodeState};
     ghost use Rattle.ga_node.specs.State.{with_value, with_aside, restored, IsInRange, AreFit, IsCleared};
@@ -39,7 +39,7 @@ impl Gathered {
     pub fn new() -> Self
         ensures { result ≡ [] }
     {
-        Gathered { words: [0; CODES] }
+        OverwrittenValues { words: [0; CODES] }
     }
 
     // Adds a pair, which is written back last.
@@ -65,7 +65,7 @@ impl Gathered {
     }
 
     /// Writes the gathered values back to a node whose wait and stop are set aside.
-    pub fn write_back(&self, node: &mut Node, aside: &mut Aside)
+    pub fn write_back(&self, node: &mut Node, aside: &mut SuspendedStatus)
         requires fit { AreFit self.now }
         requires cleared { IsCleared node.old }
         requires in_range { aside.old.stop ≤ 3 }

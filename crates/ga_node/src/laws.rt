@@ -8,7 +8,7 @@ ghost use Rattle.ga_node.specs.Io.{io_word};
 
 /// An event that doesn't look is the same whatever its neighbours wait for, and so are its changes.
 #[tactic(auto, using(crate::proofs::Looks::own_blind, crate::proofs::Looks::event_blind))]
-pub fn blind_unless_it_looks()
+pub fn only_looks_observe()
     ensures event { (seen other : Seen) (node : NodeRecord) → looks node ≡ false → own seen node ≡ own other node }
     ensures changes { (seen other : Seen) (node : NodeRecord) → looks node ≡ false → own_event seen node ≡ own_event other node }
 {}
@@ -16,6 +16,6 @@ pub fn blind_unless_it_looks()
 /// An event that looks observes: it leads to different nodes if the words of `io` differ. No event is called a look that isn't
 /// one.
 #[tactic(auto, using(crate::proofs::Looks::look_sees))]
-pub fn a_look_sees()
+pub fn looks_observe()
     ensures { (seen other : Seen) (node : NodeRecord) → HasSizes node → looks node ≡ true → own seen node ≡ own other node → io_word seen ≡ io_word other }
 {}

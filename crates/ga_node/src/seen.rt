@@ -7,7 +7,7 @@ use ga_word::Word18;
 
 /// The neighbour on one side of a node, as a read of `io` shows it.
 #[derive(Clone, Copy, PartialEq, Eq, Debug)]
-pub enum Beside {
+pub enum NeighbourState {
     /// No node: an edge of the grid.
     Nobody,
     /// A neighbour that doesn't wait for this side.
@@ -22,31 +22,31 @@ pub enum Beside {
 #[derive(Clone, Copy, PartialEq, Eq, Debug)]
 pub struct Seen {
     /// The neighbour on side right.
-    pub right: Beside,
+    pub right: NeighbourState,
     /// The neighbour on side down.
-    pub down: Beside,
+    pub down: NeighbourState,
     /// The neighbour on side left.
-    pub left: Beside,
+    pub left: NeighbourState,
     /// The neighbour on side up.
-    pub up: Beside,
+    pub up: NeighbourState,
 }
 
-impl Beside {
+impl NeighbourState {
     /// What a side shows in its two bits, which are given by their values.
     #[inline(always)]
     fn shown(self, first: u32, second: u32) -> u32
         requires { first + second < 2 ^ 18 }
-        ensures nobody { self ≡ Beside.Nobody → result ≡ first }
-        ensures idle { self ≡ Beside.Idle → result ≡ first }
-        ensures reading { self ≡ Beside.Reading → result ≡ 0 }
-        ensures writing { self ≡ Beside.Writing → result ≡ first + second }
+        ensures nobody { self ≡ NeighbourState.Nobody → result ≡ first }
+        ensures idle { self ≡ NeighbourState.Idle → result ≡ first }
+        ensures reading { self ≡ NeighbourState.Reading → result ≡ 0 }
+        ensures writing { self ≡ NeighbourState.Writing → result ≡ first + second }
         ensures in_range { result ≤ first + second }
     {
         match self {
-            Beside::Nobody => first,
-            Beside::Idle => first,
-            Beside::Reading => 0,
-            Beside::Writing => first + second,
+            NeighbourState::Nobody => first,
+            NeighbourState::Idle => first,
+            NeighbourState::Reading => 0,
+            NeighbourState::Writing => first + second,
         }
     }
 }
@@ -58,10 +58,10 @@ impl Seen {
         ensures { result ≡ nobody }
     {
         Seen {
-            right: Beside::Nobody,
-            down: Beside::Nobody,
-            left: Beside::Nobody,
-            up: Beside::Nobody,
+            right: NeighbourState::Nobody,
+            down: NeighbourState::Nobody,
+            left: NeighbourState::Nobody,
+            up: NeighbourState::Nobody,
         }
     }
 

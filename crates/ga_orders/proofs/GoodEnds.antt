@@ -7,7 +7,7 @@ use Rattle.std.proofs.lemmas.List.Elements.{All-nil, All-cons, All-head, All-tai
 use Rattle.ga_node.specs.Record.{NodeRecord}
 use Rattle.ga_event.specs.declared.event.Event.{Event}
 use Rattle.ga_event.specs.Apply.{replay}
-use Rattle.ga_races.specs.Orders.{IsAtEnd}
+use Rattle.ga_races.specs.Orders.{IsTerminal}
 use Rattle.ga_races.proofs.Orders.{order_replay}
 use Rattle.ga_check.specs.Runs.{IsEveryOrder, ends_of}
 use Rattle.ga_check.specs.Kinds.{waiting_fate, fate_of, fates_of, fate_code, are_same, with_order, with_ends, kinds_of, AreAlike, IsTally}
@@ -103,7 +103,7 @@ one_of (first ∷ others) h = (first, All-cons (λ (other : List NodeRecord). fi
 
 -- what holds of each end of these orders holds of the end of a list that ends
 at_end : (P : List NodeRecord → Type 0) (chip last : List NodeRecord) (runs : List (List Event)) (events : List Event) → IsEveryOrder chip runs
-    → All P (ends_of chip runs) → replay chip events ≡ Some last → IsAtEnd last → P last
+    → All P (ends_of chip runs) → replay chip events ≡ Some last → IsTerminal last → P last
 at_end P chip last runs events every all is end =
     let met = every.met events (last, is, end) in
     let same : replay chip met.0 ≡ Some last = order_replay chip met.0 events met.2 ∙ is in
@@ -111,14 +111,14 @@ at_end P chip last runs events every all is end =
     (All-contains (λ (run : List Event). P (unwrap_or (replay chip run) [])) runs met.0 (unmapped P (λ (run : List Event). unwrap_or (replay chip run) []) runs all) met.1)
 
 pub one_end_of : (chip last end : List NodeRecord) (runs : List (List Event)) (events others : List Event) (tally : Tally) → IsEveryOrder chip runs
-    → IsTally tally (ends_of chip runs) → is_faultless tally ≡ true → replay chip events ≡ Some last → IsAtEnd last → replay chip others ≡ Some end → IsAtEnd end → last ≡ end
+    → IsTally tally (ends_of chip runs) → is_faultless tally ≡ true → replay chip events ≡ Some last → IsTerminal last → replay chip others ≡ Some end → IsTerminal end → last ≡ end
 one_end_of chip last end runs events others tally every counted good is ends so ends_too =
     let one = one_of (ends_of chip runs) (counted.alike.0 (faultless_parts tally good).0) in
     let P : List NodeRecord → Type 0 = λ other. one.0 ≡ other in
     sym (at_end P chip last runs events every one.1 is ends) ∙ at_end P chip end runs others every one.1 so ends_too
 
 pub unstopped_at : (chip last : List NodeRecord) (runs : List (List Event)) (events : List Event) (tally : Tally) → IsEveryOrder chip runs
-    → IsTally tally (ends_of chip runs) → is_faultless tally ≡ true → replay chip events ≡ Some last → IsAtEnd last → All (λ (node : NodeRecord). node.stop ≡ 0) last
+    → IsTally tally (ends_of chip runs) → is_faultless tally ≡ true → replay chip events ≡ Some last → IsTerminal last → All (λ (node : NodeRecord). node.stop ≡ 0) last
 unstopped_at chip last runs events tally every counted good is end =
     let none : list_any has_stop (kinds_of (ends_of chip runs)) ≡ false =
     ap (list_any has_stop) (sym counted.kinds) ∙ (faultless_parts tally good).1 in

@@ -12,7 +12,7 @@ use Rattle.ga_event.specs.Apply.{refusal_of, after, replay}
 use Rattle.ga_event.specs.Next.{next}
 use Rattle.ga_event.proofs.Nexts.{next_can}
 use Rattle.ga_races.proofs.Exact.{replay_into}
-use Rattle.ga_races.proofs.Frees.{replay_more}
+use Rattle.ga_races.proofs.Independence.{replay_more}
 use Rattle.ga_lab.specs.declared.fault.LabFault.{LabFault}
 use Rattle.ga_lab.specs.Machine.{State, chip_of, step_answer, stepped, with_event, unless_refused}
 use Rattle.ga_check.specs.Runs.{HasMade}

@@ -15,11 +15,11 @@ use Rattle.ga_check.specs.declared.tally.Fate.{Fate}
 use Rattle.ga_check.specs.declared.tally.Fate.TheVariants.{Quiet, Reads, Writes, Polls, Stopped}
 use Rattle.ga_check.specs.declared.tally.Stop.{Stop}
 use Rattle.ga_check.specs.declared.tally.Stop.TheVariants.{Reached, Memory}
-use Rattle.ga_text.specs.Output.{Begins}
+use Rattle.ga_text.specs.Output.{TextHasPrefix}
 use Rattle.ga_display.specs.Texts.{refusal_text}
 use Rattle.ga_console.specs.declared.run.Status.{Status}
 use Rattle.ga_console.specs.declared.run.Status.TheVariants.{ImageRefused, StreamFault}
-use Rattle.ga_explorer.specs.Opening.{OpensExploring, IsFront, Unbegun, Exploring}
+use Rattle.ga_explorer.specs.Opening.{OpensExploring, IsFront, Unbegun, ExplorerState}
 use Rattle.ga_orders.specs.OrderTexts.{orders_text, no_order_text}
 use Rattle.ga_orders.specs.Settled.{begun_from}
 use Rattle.ga_explorer_text.specs.Saved.{saved_text}
@@ -103,7 +103,7 @@ said_verdict true verdict = searched verdict
 
 -- a text was written whole, or that failed
 abbrev pub IsTextOut : Text → Verdict → Text → Verdict → Type 0
-IsTextOut whole verdict text end = ((text ≡ whole) × (end ≡ verdict)) ⊎ (Begins whole text × (end ≡ Ended StreamFault))
+IsTextOut whole verdict text end = ((text ≡ whole) × (end ≡ verdict)) ⊎ (TextHasPrefix whole text × (end ≡ Ended StreamFault))
 
 pub record TellsOrders (asked : ℕ) (s : State) (text : Text) (verdict : Verdict) : Type 0 where
   pub looks : Bool
@@ -125,7 +125,7 @@ pub record TellsEvery (s : State) (text : Text) : Type 0 where
 pub record ChecksText (limit : ℕ) (settles : Bool) (asked : ℕ) (read rest : Bytes) (written : Text) (verdict : Verdict) : Type 0 where
   pub text : Text
   pub ahead : Bytes
-  pub begun : Exploring
+  pub begun : ExplorerState
   pub splits : read ≡ text ++ ahead
   pub front : IsFront text (ahead ++ rest)
   pub opens : OpensExploring text limit begun

@@ -4,7 +4,7 @@ ghost use Rattle.std.specs.Prelude.{◌≡◌, ◌++◌, Some, nat_lt};
 ghost use Rattle.std.specs.List.{list_any};
 ghost use Rattle.ga_text.specs.Lines.{Bytes};
 ghost use Rattle.ga_lab.specs.declared.fault.LabFault.TheVariants.{Memory};
-ghost use Rattle.ga_text.specs.Output.{IsSaidOrCut, IsSameStream, WritesText, ReadsAndWrites};
+ghost use Rattle.ga_text.specs.Output.{IsWrittenOrTruncated, IsSameStream, WritesText, ReadsAndWrites};
 ghost use Rattle.ga_display.specs.Texts.{refusal_text};
 ghost use Rattle.ga_orders.specs.Settled.{begun_from};
 ghost use Rattle.ga_explorer_text.specs.Saved.{saved_text};
@@ -21,10 +21,10 @@ use ga_check::orders::{Bounds, check_shared};
 use ga_check::tally::{EndKind, Fate, Stop, Tally};
 use ga_console::Status;
 use ga_display::refusal_text;
-use ga_explorer::begin;
-use ga_explorer_text::say_saved;
+use ga_explorer::open_lab;
+use ga_explorer_text::write_save;
 use ga_lab::{Lab, LabFault};
-use ga_text::{Input, Spoken, Writer};
+use ga_text::{Input, WriteResult, Writer};
 use std::alloc::Global;
 use std::io::{Read, Write};
 use std::sync::atomic::AtomicU64;
@@ -71,7 +71,7 @@ pub fn check_orders<S: Threads + Sync, R: Read, W: Write, E: Write>(
         (R.remaining reader.old) (R.remaining reader.new) (W.contents writer.old) (W.contents writer.new) }
 {
     let mut input = Input::new();
-    match begin(alloc, &mut input, reader, writer, errors, None, limit) {
+    match open_lab(alloc, &mut input, reader, writer, errors, None, limit) {
         Ok(begun) => tell_settled(
             rt,
             alloc,
@@ -231,7 +231,7 @@ fn tell_session<W: Write>(lab: &Lab, writer: &mut W) -> Verdict
     ensures { WritesText (λ text. IsTextOut (saved_text lab.now) Alike text result) (W.contents writer.old) (W.contents writer.new) }
 {
     let mut out = Writer::new(writer);
-    let said = say_saved(lab, &mut out);
+    let said = write_save(lab, &mut out);
     sent(said, Verdict::Alike, &mut out)
 }
 
@@ -241,18 +241,18 @@ fn tell_no_memory<W: Write>(writer: &mut W) -> Verdict
         (W.contents writer.old) (W.contents writer.new) }
 {
     let mut out = Writer::new(writer);
-    let said = out.say(refusal_text(LabFault::Memory));
+    let said = out.write_text(refusal_text(LabFault::Memory));
     sent(said, Verdict::Ended(Status::ImageRefused), &mut out)
 }
 
 /// Writes what is pending of what was said, and answers a verdict, or that a write failed.
-fn sent<W: Write>(said: Spoken, verdict: Verdict, writer: &mut Writer<'_, W>) -> Verdict
+fn sent<W: Write>(said: WriteResult, verdict: Verdict, writer: &mut Writer<'_, W>) -> Verdict
     ensures same { IsSameStream writer.old writer.new }
-    ensures written { (before whole : Bytes) → IsSaidOrCut said (W.contents writer.old.stream.now) before whole writer.old.pending.items →
+    ensures written { (before whole : Bytes) → IsWrittenOrTruncated said (W.contents writer.old.stream.now) before whole writer.old.pending.items →
         (text : Bytes) × (W.contents writer.new.stream.now ≡ Some (before ++ text)) × IsTextOut whole verdict text result }
 {
     match said {
-        Ok(()) => match writer.send() {
+        Ok(()) => match writer.flush() {
             Ok(()) => verdict,
             Err(_) => Verdict::Ended(Status::StreamFault),
         },

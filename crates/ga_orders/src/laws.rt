@@ -5,7 +5,7 @@ ghost use Rattle.ga_node.specs.Record.{NodeRecord};
 ghost use Rattle.ga_text.specs.Lines.{Text};
 ghost use Rattle.ga_event.specs.declared.event.Event.{Event};
 ghost use Rattle.ga_event.specs.Apply.{replay};
-ghost use Rattle.ga_races.specs.Orders.{IsAtEnd};
+ghost use Rattle.ga_races.specs.Orders.{IsTerminal};
 ghost use Rattle.ga_lab.specs.Machine.{State, chip_of};
 ghost use Rattle.ga_check.specs.Runs.{HasMade};
 ghost use Rattle.ga_orders.specs.Settled.{settled};
@@ -23,9 +23,9 @@ pub fn every_order_told()
 /// Where the verdict is `Alike` then, whatever the nodes do first, they end on one chip, and no node is stopped there.
 pub fn one_chip_told()
     ensures one { (s : State) (text : Text) (events others : List Event) (last end : List NodeRecord) → TellsOrders 0 s text Alike →
-        replay (chip_of s) events ≡ Some last → IsAtEnd last → replay (chip_of s) others ≡ Some end → IsAtEnd end → last ≡ end }
+        replay (chip_of s) events ≡ Some last → IsTerminal last → replay (chip_of s) others ≡ Some end → IsTerminal end → last ≡ end }
     ensures unstopped { (s : State) (text : Text) (events : List Event) (last : List NodeRecord) → TellsOrders 0 s text Alike →
-        replay (chip_of s) events ≡ Some last → IsAtEnd last → All (λ (node : NodeRecord). node.stop ≡ 0) last }
+        replay (chip_of s) events ≡ Some last → IsTerminal last → All (λ (node : NodeRecord). node.stop ≡ 0) last }
 {}
 
 /// A machine that has come to rest keeps some events more, and else is as it was. So what is told from there is told of the program:

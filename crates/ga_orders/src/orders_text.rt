@@ -2,7 +2,7 @@
 
 ghost use Rattle.std.specs.Prelude.{◌≡◌, ◌+◌, ◌≤◌, ◌++◌, length, codes, true, false, if◌then◌else◌, []};
 ghost use Rattle.arrayvec.specs.ArrayVec.{array_vec_len};
-ghost use Rattle.ga_text.specs.Output.{Says, SaysExactly};
+ghost use Rattle.ga_text.specs.Output.{WritesSome, WritesExactly};
 ghost use Rattle.ga_orders.specs.OrderTexts.{counted_text, alike_text, kinds_head, bound_text, orders_head, fate_at, stop_item, doing_item, stop_items, doing_items, doing_tail, unstopped_text, end_text, verb_text, end_kind_line, end_kind_text, orders_with, orders_text, no_order_text};
 ghost use Rattle.ga_explorer_text.specs.Waiting.{name_text};
 
@@ -10,12 +10,13 @@ use arrayvec::ArrayVec;
 use ga_check::tally::{EndKind, Fate, Tally};
 use ga_grid::NodeId;
 use ga_text::{
-    NODE_ROOM, NUMBER_ROOM, Spoken, TextBuffer, Writer, push_node, push_number, push_text,
+    MAX_NUMBER_DIGITS, NODE_NAME_BYTES, TextBuffer, WriteResult, Writer, push_node, push_number,
+    push_text,
 };
 use std::io::Write;
 
 /// The most bytes of a node that is stopped.
-const STOP_ROOM: usize = b", ".len() + NODE_ROOM + b" stop ".len() + NUMBER_ROOM;
+const STOP_ROOM: usize = b", ".len() + NODE_NAME_BYTES + b" stop ".len() + MAX_NUMBER_DIGITS;
 
 const STOPS_ROOM: usize = 144 * STOP_ROOM;
 
@@ -41,11 +42,11 @@ const END_ROOM: usize = b"with".len()
     + b" polling".len();
 
 /// The most bytes of the line of a kind of end.
-const KIND_ROOM: usize = NUMBER_ROOM
+const KIND_ROOM: usize = MAX_NUMBER_DIGITS
     + b" ends ".len()
     + END_ROOM
     + b": --session ".len()
-    + NUMBER_ROOM
+    + MAX_NUMBER_DIGITS
     + b"\n".len();
 
 /// The text of that line.
@@ -55,19 +56,19 @@ type KindLine = ArrayVec<u8, KIND_ROOM>;
 ///
 /// # Errors
 /// A write failed.
-pub(crate) fn say_orders<W: Write>(tally: &Tally, writer: &mut Writer<'_, W>) -> Spoken
-    ensures { Says result (λ text. text ≡ orders_text tally.now)
+pub(crate) fn say_orders<W: Write>(tally: &Tally, writer: &mut Writer<'_, W>) -> WriteResult
+    ensures { WritesSome result (λ text. text ≡ orders_text tally.now)
         W.contents writer.old writer.new }
 {
     say_kinds(tally, tally.kinds.as_slice(), writer)
 }
 
 /// Says how many orders there are, then each of these kinds of end.
-fn say_kinds<W: Write>(tally: &Tally, kinds: &[EndKind], writer: &mut Writer<'_, W>) -> Spoken
-    ensures { Says result (λ text. text ≡ orders_with tally.now kinds.now)
+fn say_kinds<W: Write>(tally: &Tally, kinds: &[EndKind], writer: &mut Writer<'_, W>) -> WriteResult
+    ensures { WritesSome result (λ text. text ≡ orders_with tally.now kinds.now)
         W.contents writer.old writer.new }
 {
-    writer.say_blocks(head_line(tally, kinds.len()).as_slice())?;
+    writer.write_blocks(head_line(tally, kinds.len()).as_slice())?;
     'kinds: for kind in kinds {
         say_kind(kind, writer)?;
     }
@@ -75,10 +76,10 @@ fn say_kinds<W: Write>(tally: &Tally, kinds: &[EndKind], writer: &mut Writer<'_,
 }
 
 /// Says a kind of end.
-fn say_kind<W: Write>(kind: &EndKind, writer: &mut Writer<'_, W>) -> Spoken
-    ensures { SaysExactly result (end_kind_text kind.now) W.contents writer.old writer.new }
+fn say_kind<W: Write>(kind: &EndKind, writer: &mut Writer<'_, W>) -> WriteResult
+    ensures { WritesExactly result (end_kind_text kind.now) W.contents writer.old writer.new }
 {
-    writer.say_blocks(kind_line(kind).as_slice())
+    writer.write_blocks(kind_line(kind).as_slice())
 }
 
 /// Says that there is no order of this number, and how many there are.
@@ -89,11 +90,11 @@ pub(crate) fn say_no_order<W: Write>(
     asked: u64,
     tally: &Tally,
     writer: &mut Writer<'_, W>,
-) -> Spoken
-    ensures { Says result (λ text. text ≡ no_order_text asked tally.now)
+) -> WriteResult
+    ensures { WritesSome result (λ text. text ≡ no_order_text asked tally.now)
         W.contents writer.old writer.new }
 {
-    writer.say_blocks(no_order_line(asked, tally).as_slice())
+    writer.write_blocks(no_order_line(asked, tally).as_slice())
 }
 
 /// That there is no order of this number, and how many there are.

@@ -5,9 +5,9 @@ use Rattle.std.proofs.lemmas.List.{reverse-append, map-set, map-append, length-m
 use Rattle.std.proofs.lemmas.Bool.{cond-false, cond-true, cases_Bool}
 use Rattle.ga_parser.specs.declared.controls.Open.{Open}
 use Rattle.ga_parser.specs.declared.scan.Token.{Token}
-use Rattle.ga_parser.specs.Asking.{Asking, Refusal, refuse_line, line_of, all_closed, hear, next_text, asked_from, finished, is_waiting, all_placed, ◌▷◌, Mention, mention_of, named_before, label_number, label_at, with_mark}
+use Rattle.ga_parser.specs.Asking.{ParseState, Refusal, refuse_line, line_of, all_closed, hear, next_text, asked_from, finished, is_waiting, all_placed, ◌▷◌, Mention, mention_of, named_before, label_number, label_at, with_mark}
 use Rattle.ga_parser.specs.Asking.Wrong.{Unclosed, Unknown}
-use Rattle.ga_parser.specs.Saying.{said_of, all_said, has_bytes}
+use Rattle.ga_parser.specs.Saying.{token_content, token_contents, has_bytes}
 use Rattle.ga_parser.specs.inner.Drafting.{texts_of}
 use Rattle.ga_parser.specs.inner.Names.{AreNames}
 use Rattle.std.specs.HashMap.{HashMap, get_by, UpdatesBy}
@@ -20,53 +20,53 @@ use Rattle.ga_parser.proofs.Hearing.{same_text as same_bytes}
 
 -- ---- what is still open
 
-outermost : (now : Asking) (inner : List Open) (one : Open) → all_closed now (inner ++ one ∷ []) ≡ refuse_line (line_of one) Unclosed
+outermost : (now : ParseState) (inner : List Open) (one : Open) → all_closed now (inner ++ one ∷ []) ≡ refuse_line (line_of one) Unclosed
 unfolding all_closed
 outermost now [] one = refl
 outermost now (a ∷ []) one = refl
 outermost now (a ∷ b ∷ inner) one = outermost now (b ∷ inner) one
 
-pub first_open : (now : Asking) (opened : List Open) (d : Open) → 0 < length opened → all_closed now (reverse opened) ≡ refuse_line (line_of (get_or opened 0 d)) Unclosed
+pub first_open : (now : ParseState) (opened : List Open) (d : Open) → 0 < length opened → all_closed now (reverse opened) ≡ refuse_line (line_of (get_or opened 0 d)) Unclosed
 first_open now [] d some = absurd (omega arith)
 first_open now (one ∷ inner) d some = ap (all_closed now) (reverse-append (one ∷ []) inner) ∙ outermost now (reverse inner) one
 
-pub open_refused : (now : Asking) (last : ℕ) (items : List Open) (open_one : Open) → now.opened ≡ reverse items → is_waiting now.expect ≡ false → 0 < length items → open_one ≡ get_or items 0 open_one → finished now last ≡ refuse_line (line_of open_one) Unclosed
+pub open_refused : (now : ParseState) (last : ℕ) (items : List Open) (open_one : Open) → now.opened ≡ reverse items → is_waiting now.expect ≡ false → 0 < length items → open_one ≡ get_or items 0 open_one → finished now last ≡ refuse_line (line_of open_one) Unclosed
 open_refused now last items open_one is ready some first =
     cond-false (is_waiting now.expect) _ _ ready
-    ∙ ap (λ (r : Result Asking Refusal). r ▷ (λ closed. all_placed closed closed.labels))
-    (ap (all_closed now) is ∙ (first_open now items open_one some ∙ ap (λ (o : Open). refuse_line {X = Asking} (line_of o) Unclosed) (sym first)))
+    ∙ ap (λ (r : Result ParseState Refusal). r ▷ (λ closed. all_placed closed closed.labels))
+    (ap (all_closed now) is ∙ (first_open now items open_one some ∙ ap (λ (o : Open). refuse_line {X = ParseState} (line_of o) Unclosed) (sym first)))
 
 -- ---- one word more
 
-next_is : (tokens : List Token) (k : ℕ) → next_text (all_said (drop k tokens)) ≡ slice_index_or (texts_of tokens) k []
+next_is : (tokens : List Token) (k : ℕ) → next_text (token_contents (drop k tokens)) ≡ slice_index_or (texts_of tokens) k []
 next_is [] zero = refl
 next_is [] (suc k) = refl
 next_is (token ∷ tokens) zero = refl
 next_is (token ∷ tokens) (suc k) = next_is tokens k
 
-first_left : (tokens : List Token) (k : ℕ) (d : Token) → k < length tokens → all_said (drop k tokens) ≡ said_of (get_or tokens k d) ∷ all_said (drop (k + 1) tokens)
+first_left : (tokens : List Token) (k : ℕ) (d : Token) → k < length tokens → token_contents (drop k tokens) ≡ token_content (get_or tokens k d) ∷ token_contents (drop (k + 1) tokens)
 first_left [] k d within = absurd (omega arith)
 first_left (token ∷ tokens) zero d within = refl
 first_left (token ∷ tokens) (suc k) d within =
     let one : suc k + 1 ≡ suc (k + 1) = omega arith in
-    first_left tokens k d (omega arith) ∙ ap (λ (j : ℕ). said_of (get_or tokens k d) ∷ all_said (drop j (token ∷ tokens))) (sym one)
+    first_left tokens k d (omega arith) ∙ ap (λ (j : ℕ). token_content (get_or tokens k d) ∷ token_contents (drop j (token ∷ tokens))) (sym one)
 
-module _ (now : Asking) (last : ℕ) (tokens : List Token) (k : ℕ) (d : Token) (next : List ℕ) (within : k < length tokens) (is_next : next ≡ slice_index_or (texts_of tokens) (k + 1) []) where
-  front : asked_from now last (all_said (drop k tokens)) ≡ (hear now (said_of (get_or tokens k d)) next ▷ (λ after. asked_from after (get_or tokens k d).line (all_said (drop (k + 1) tokens))))
+module _ (now : ParseState) (last : ℕ) (tokens : List Token) (k : ℕ) (d : Token) (next : List ℕ) (within : k < length tokens) (is_next : next ≡ slice_index_or (texts_of tokens) (k + 1) []) where
+  front : asked_from now last (token_contents (drop k tokens)) ≡ (hear now (token_content (get_or tokens k d)) next ▷ (λ after. asked_from after (get_or tokens k d).line (token_contents (drop (k + 1) tokens))))
   unfolding asked_from
   front = ap (asked_from now last) (first_left tokens k d within)
-      ∙ ap (λ (text : List ℕ). hear now (said_of (get_or tokens k d)) text ▷ (λ after. asked_from after (get_or tokens k d).line (all_said (drop (k + 1) tokens)))) (next_is tokens (k + 1) ∙ sym is_next)
+      ∙ ap (λ (text : List ℕ). hear now (token_content (get_or tokens k d)) text ▷ (λ after. asked_from after (get_or tokens k d).line (token_contents (drop (k + 1) tokens)))) (next_is tokens (k + 1) ∙ sym is_next)
 
-  pub one_heard : (after : Asking) → hear now (said_of (get_or tokens k d)) next ≡ Ok after → asked_from now last (all_said (drop k tokens)) ≡ asked_from after (get_or tokens k d).line (all_said (drop (k + 1) tokens))
-  one_heard after heard = front ∙ ap (λ (r : Result Asking Refusal). r ▷ (λ after. asked_from after (get_or tokens k d).line (all_said (drop (k + 1) tokens)))) heard
+  pub one_heard : (after : ParseState) → hear now (token_content (get_or tokens k d)) next ≡ Ok after → asked_from now last (token_contents (drop k tokens)) ≡ asked_from after (get_or tokens k d).line (token_contents (drop (k + 1) tokens))
+  one_heard after heard = front ∙ ap (λ (r : Result ParseState Refusal). r ▷ (λ after. asked_from after (get_or tokens k d).line (token_contents (drop (k + 1) tokens)))) heard
 
-  pub one_refused : (refusal : Refusal) → hear now (said_of (get_or tokens k d)) next ≡ Err refusal → asked_from now last (all_said (drop k tokens)) ≡ Err refusal
-  one_refused refusal heard = front ∙ ap (λ (r : Result Asking Refusal). r ▷ (λ after. asked_from after (get_or tokens k d).line (all_said (drop (k + 1) tokens)))) heard
+  pub one_refused : (refusal : Refusal) → hear now (token_content (get_or tokens k d)) next ≡ Err refusal → asked_from now last (token_contents (drop k tokens)) ≡ Err refusal
+  one_refused refusal heard = front ∙ ap (λ (r : Result ParseState Refusal). r ▷ (λ after. asked_from after (get_or tokens k d).line (token_contents (drop (k + 1) tokens)))) heard
 
 -- behind the last
-pub none_left : (now : Asking) (last : ℕ) (tokens : List Token) → tokens ≡ [] → asked_from now last (all_said tokens) ≡ finished now last
+pub none_left : (now : ParseState) (last : ℕ) (tokens : List Token) → tokens ≡ [] → asked_from now last (token_contents tokens) ≡ finished now last
 unfolding asked_from
-none_left now last tokens none = ap (λ (t : List Token). asked_from now last (all_said t)) none
+none_left now last tokens none = ap (λ (t : List Token). asked_from now last (token_contents t)) none
 
 -- ---- labels by their names
 
@@ -197,11 +197,11 @@ marked_view items labels k found view within is =
 
 -- ---- names that are no place's
 
-pub placed_all : (now : Asking) (items : List Label) (labels : List Mention) → items ≡ [] → all_placed now (map mention_of items) ≡ all_placed now labels → all_placed now labels ≡ Ok now
+pub placed_all : (now : ParseState) (items : List Label) (labels : List Mention) → items ≡ [] → all_placed now (map mention_of items) ≡ all_placed now labels → all_placed now labels ≡ Ok now
 unfolding all_placed
 placed_all now items labels none e = sym e ∙ ap (λ (l : List Label). all_placed now (map mention_of l)) none
 
-one_left : (now : Asking) (items : List Label) (k : ℕ) (d : Label) → k < length items → all_placed now (map mention_of (drop k items)) ≡ all_placed now (map mention_of (get_or items k d ∷ drop (k + 1) items))
+one_left : (now : ParseState) (items : List Label) (k : ℕ) (d : Label) → k < length items → all_placed now (map mention_of (drop k items)) ≡ all_placed now (map mention_of (get_or items k d ∷ drop (k + 1) items))
 one_left now items k d within =
     let one : suc k ≡ k + 1 = omega arith in
     ap (λ (l : List Label). all_placed now (map mention_of l)) (drop-cons items k d within ∙ ap (λ (j : ℕ). get_or items k d ∷ drop j items) one)
@@ -209,12 +209,12 @@ one_left now items k d within =
 abbrev is_unplaced : Label → Bool
 is_unplaced label = has_bytes label.name.now && not label.is_marked
 
-pub placed_more : (now : Asking) (items : List Label) (labels : List Mention) (k : ℕ) (d : Label) → k < length items → is_unplaced (get_or items k d) ≡ false → all_placed now (map mention_of (drop k items)) ≡ all_placed now labels → all_placed now (map mention_of (drop (k + 1) items)) ≡ all_placed now labels
+pub placed_more : (now : ParseState) (items : List Label) (labels : List Mention) (k : ℕ) (d : Label) → k < length items → is_unplaced (get_or items k d) ≡ false → all_placed now (map mention_of (drop k items)) ≡ all_placed now labels → all_placed now (map mention_of (drop (k + 1) items)) ≡ all_placed now labels
 unfolding all_placed
 placed_more now items labels k d within placed e =
     sym (cond-false (is_unplaced (get_or items k d)) _ _ placed) ∙ (sym (one_left now items k d within) ∙ e)
 
-pub placed_not : (now : Asking) (items : List Label) (labels : List Mention) (k : ℕ) (d : Label) → k < length items → is_unplaced (get_or items k d) ≡ true → all_placed now (map mention_of (drop k items)) ≡ all_placed now labels → all_placed now labels ≡ Err (record { line = (get_or items k d).line; wrong = Unknown (get_or items k d).name.now })
+pub placed_not : (now : ParseState) (items : List Label) (labels : List Mention) (k : ℕ) (d : Label) → k < length items → is_unplaced (get_or items k d) ≡ true → all_placed now (map mention_of (drop k items)) ≡ all_placed now labels → all_placed now labels ≡ Err (record { line = (get_or items k d).line; wrong = Unknown (get_or items k d).name.now })
 unfolding all_placed
 placed_not now items labels k d within unplaced same =
     sym same ∙ (one_left now items k d within ∙ cond-true (is_unplaced (get_or items k d)) _ _ unplaced)

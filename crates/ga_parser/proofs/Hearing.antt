@@ -13,7 +13,7 @@ use Rattle.ga_parser.specs.declared.vocabulary.Register.TheVariants.{P, A, B}
 use Rattle.ga_parser.specs.declared.item.Request.TheVariants.{Put, Go}
 use Rattle.ga_parser.specs.declared.draft.Expect.{Expect}
 use Rattle.ga_parser.specs.declared.draft.Expect.TheVariants.{Word, Address, Name, Register, Nothing}
-use Rattle.ga_parser.specs.Asking.{carried}
+use Rattle.ga_parser.specs.Asking.{with_carry_bit}
 use Rattle.ga_ports.specs.Steps.{◌>>=◌}
 use Rattle.ga_ports.specs.Address.{set_number, side_value}
 use Rattle.ga_parser.specs.Vocabulary.{by_name, number_by_word, directives, has_prefix, plain_in, word_of_size, word_below, numeral_in, set_address, set_in, ports, port_in}
@@ -81,8 +81,8 @@ pub same_number : (n m : ℕ) (number : NumberIn) → Of n ≡ number → number
 same_number n m number is asked = of_same n m (is ∙ asked)
 
 -- an address of a cell, without bit 9, is itself
-pub not_carried : (n : ℕ) (is_set : Bool) → is_set ≡ false → n < 512 → carried is_set n ≡ n
-not_carried n is_set e small = ap (λ (b : Bool). carried b n) e ∙ omega arith
+pub not_carried : (n : ℕ) (is_set : Bool) → is_set ≡ false → n < 512 → with_carry_bit is_set n ≡ n
+not_carried n is_set e small = ap (λ (b : Bool). with_carry_bit b n) e ∙ omega arith
 
 -- where a number asks for something, there is one
 pub record IsNumbered {X : Type 0} (number : NumberIn) (asks : ℕ → Option X) (x : X) : Type 0 where

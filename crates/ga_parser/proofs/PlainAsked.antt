@@ -14,7 +14,7 @@ use Rattle.ga_parser.specs.declared.item.Operand.TheVariants.{Number}
 use Rattle.ga_parser.specs.declared.item.Item.TheVariants.{Cell}
 use Rattle.ga_parser.specs.declared.item.Request.{Request}
 use Rattle.ga_parser.specs.declared.item.Request.TheVariants.{Put, Go}
-use Rattle.ga_parser.specs.declared.item.Given.{Given}
+use Rattle.ga_parser.specs.declared.item.RegisterValue.{RegisterValue}
 use Rattle.ga_parser.specs.declared.vocabulary.Directive.{Directive}
 use Rattle.ga_parser.specs.declared.vocabulary.Directive.TheVariants.{Label as Labels, Address as GoesOn, Register as Gives, Fill, Carry}
 use Rattle.ga_parser.specs.declared.vocabulary.Register.{Register as RegisterName}
@@ -26,9 +26,9 @@ use Rattle.ga_parser.specs.declared.draft.Expect.TheVariants.{Word, Address, Nam
 use Rattle.ga_parser.specs.declared.scan.TokenKind.{TokenKind}
 use Rattle.ga_parser.specs.declared.scan.TokenKind.TheVariants.{Word as WordKind, LongLine as LongLineKind, OpenComment as OpenCommentKind}
 use Rattle.ga_parser.specs.declared.controls.Open.{Open}
-use Rattle.ga_parser.specs.Asking.{Mention, is_waiting, carried, Asking, Refusal, asking as asks, nothing_asked, by_range, value_said, cell, directive, word_asks, named_word, address_asks, register_asks, given_in, with_given, hear as hear_asking, expected, of_kind, asked_from, asked_by_words, finished, all_closed, all_placed, next_text, ◌▷◌, mention_of}
+use Rattle.ga_parser.specs.Asking.{Mention, is_waiting, with_carry_bit, ParseState, Refusal, asking as asks, nothing_asked, by_range, value_said, cell, directive, word_asks, named_word, address_asks, register_asks, given_in, with_given, hear as hear_asking, expected, of_kind, asked_from, asked_by_words, finished, all_closed, all_placed, next_text, ◌▷◌, mention_of}
 use Rattle.ga_parser.specs.Asking.Wrong.{LongLine, OpenComment}
-use Rattle.ga_parser.specs.Saying.{Said, said_of, all_said}
+use Rattle.ga_parser.specs.Saying.{TokenContent, token_content, token_contents}
 use Rattle.ga_ports.specs.Steps.{◌>>=◌}
 use Rattle.ga_parser.specs.Vocabulary.{by_name, has_prefix, number_by_word, directives, directive_in, bound_of, range_of}
 use Rattle.ga_parser.specs.Plain.{Plain, with_request, by_number, only_if, is_cell, asked_by, value_in, plain_of, no_request}
@@ -40,12 +40,12 @@ use Rattle.ga_parser.specs.Requests.{AreRequestsOf}
 use Rattle.ga_parser.proofs.Hearing.{no_some, some_same, no_label, numbered, allowed, not_carried, same_text, hear_plain, end_heard}
 
 -- the words ask for this, which is what was heard
-record IsHeard (outcome : Result Asking Refusal) (after : Heard) : Type 0 where
-  pub later : Asking
+record IsHeard (outcome : Result ParseState Refusal) (after : Heard) : Type 0 where
+  pub later : ParseState
   pub is : outcome ≡ Ok later
   pub has : HasHeard later after
 
-heard_as : (outcome : Result Asking Refusal) (later : Asking) (expected after : Heard) → outcome ≡ Ok later → HasHeard later expected → expected ≡ after → IsHeard outcome after
+heard_as : (outcome : Result ParseState Refusal) (later : ParseState) (expected after : Heard) → outcome ≡ Ok later → HasHeard later expected → expected ≡ after → IsHeard outcome after
 heard_as outcome later expected after is has e = record { later = later; is = is; has = subst (λ (h : Heard). HasHeard later h) e has }
 
 -- ---- numbers
@@ -57,7 +57,7 @@ quoted_first : (word : List ℕ) → has_prefix word (codes "'") ≡ true → sl
 quoted_first [] e = absurd (true≢false (sym e))
 quoted_first (b ∷ word) e = ap (λ (t : List ℕ). slice_index_or t 0 0) (same_text (take 1 (b ∷ word)) (codes "'") e)
 
-number_said : (now : Asking) (line n : ℕ) (word : List ℕ) → number_by_word word ≡ Of n → value_said now line word ≡ Ok (Some (Number n), now)
+number_said : (now : ParseState) (line n : ℕ) (word : List ℕ) → number_by_word word ≡ Of n → value_said now line word ≡ Ok (Some (Number n), now)
 unfolding value_said
 number_said now line n word is = elim (cases_Bool (has_prefix word (codes "'"))) [
   | inl quoted ↦ absurd (no_label word n (quoted_first word quoted) is)
@@ -77,21 +77,21 @@ is_next heard (Gives register) after is = (Register register, refl, some_same _ 
 is_next heard Fill after is = absurd (no_some is)
 is_next heard (Carry b) after is = absurd (no_some is)
 
-directive_next : (now : Asking) (line : ℕ) (d : Directive) (e : Expect) → next_of d ≡ Some e → directive now line d ≡ record now { expect = e }
+directive_next : (now : ParseState) (line : ℕ) (d : Directive) (e : Expect) → next_of d ≡ Some e → directive now line d ≡ record now { expect = e }
 directive_next now line Labels e is = absurd (no_some is)
 directive_next now line GoesOn e is = ap (λ (x : Expect). record now { expect = x }) (some_same Address e is)
 directive_next now line (Gives register) e is = ap (λ (x : Expect). record now { expect = x }) (some_same (Register register) e is)
 directive_next now line Fill e is = absurd (no_some is)
 directive_next now line (Carry b) e is = absurd (no_some is)
 
-none_given : (o : Option Given) (given : Option Operand) → value_in o ≡ given → is_none given ≡ true → is_none o ≡ true
+none_given : (o : Option RegisterValue) (given : Option Operand) → value_in o ≡ given → is_none given ≡ true → is_none o ≡ true
 none_given None given e none = refl
 none_given (Some one) given e none = absurd (true≢false (sym (ap is_none e ∙ none)))
 
 cell_small : (n : ℕ) → is_cell n ≡ true → n < 512
 cell_small n is = grind (arith, nat_tests)
 
-module _ (now : Asking) (heard : Heard) (has : HasHeard now heard) where
+module _ (now : ParseState) (heard : Heard) (has : HasHeard now heard) where
   next_has : (e : Expect) → HasHeard (record now { expect = e }) (record { expect = e; plain = heard.plain })
   next_has e = record { expect = refl; plain = has.plain; names = has.names; opened = has.opened; carries = has.carries }
 
@@ -111,7 +111,7 @@ module _ (now : Asking) (heard : Heard) (has : HasHeard now heard) where
   directive_heard line word next after (Some d) named other is =
       let e = is_next heard d after is in
       heard_as _ (record now { expect = e.0 }) _ after
-      (cond-false (bytes_eq next (codes ",")) _ _ other ∙ (ap (named_word now line word next) named ∙ ap (λ (a : Asking). let r : Result Asking Refusal = Ok a in r) (directive_next now line d e.0 e.1)))
+      (cond-false (bytes_eq next (codes ",")) _ _ other ∙ (ap (named_word now line word next) named ∙ ap (λ (a : ParseState). let r : Result ParseState Refusal = Ok a in r) (directive_next now line d e.0 e.1)))
       (next_has e.0) e.2
 
   word_heard : (line : ℕ) (word next : List ℕ) (after : Heard) → hear_word heard.plain word next ≡ Some after → IsHeard (word_asks now line word next) after
@@ -121,7 +121,7 @@ module _ (now : Asking) (heard : Heard) (has : HasHeard now heard) where
         let number = numbered (number_by_word word) (λ n. Some (record { expect = Nothing; plain = with_request heard.plain (Put (Cell (Number n))) })) after
         (sym (cond-true (bytes_eq next (codes ",")) _ _ comma) ∙ is) in
         heard_as _ (asks (record now { expect = Nothing }) line (Put (Cell (Number number.n)))) _ after
-        (cond-true (bytes_eq next (codes ",")) _ _ comma ∙ ap (λ (r : Result (Option Operand × Asking) Refusal). r ▷ (λ said. cell said.1 line said.0)) (number_said now line number.n word number.is))
+        (cond-true (bytes_eq next (codes ",")) _ _ comma ∙ ap (λ (r : Result (Option Operand × ParseState) Refusal). r ▷ (λ said. cell said.1 line said.0)) (number_said now line number.n word number.is))
         (asks_has Nothing line (Put (Cell (Number number.n)))) (some_same _ after number.gives)
     | inr other ↦
         directive_heard line word next after (by_name directives word) refl other (sym (cond-false (bytes_eq next (codes ",")) _ _ other) ∙ is)
@@ -132,9 +132,9 @@ module _ (now : Asking) (heard : Heard) (has : HasHeard now heard) where
   address_heard line word after is =
       let number = numbered (number_by_word word) (λ n. only_if (is_cell n) (record { expect = Word; plain = with_request heard.plain (Go n) })) after is in
       let may = allowed (is_cell number.n) _ after number.gives in
-      let small : carried now.carries number.n ≡ number.n = not_carried number.n now.carries has.carries (cell_small number.n may.0) in
+      let small : with_carry_bit now.carries number.n ≡ number.n = not_carried number.n now.carries has.carries (cell_small number.n may.0) in
       heard_as _ (asks (record now { expect = Word }) line (Go number.n)) _ after
-      (in_range word line number.n ToCell _ _ number.is ∙ (cond-true (is_cell number.n) _ _ may.0 ∙ ap (λ (n : ℕ). let r : Result Asking Refusal = Ok (asks (record now { expect = Word }) line (Go n)) in r) small))
+      (in_range word line number.n ToCell _ _ number.is ∙ (cond-true (is_cell number.n) _ _ may.0 ∙ ap (λ (n : ℕ). let r : Result ParseState Refusal = Ok (asks (record now { expect = Word }) line (Go n)) in r) small))
       (asks_has Word line (Go number.n)) may.1
 
   given_heard : (line n : ℕ) (register : RegisterName) → may_give heard.plain register n ≡ true → (nat_lt n (bound_of register) ≡ true) × (is_none (given_in now.registers register) ≡ true) × HasHeard (record now { expect = Word; registers = with_given now.registers register (record { line = line; value = Number n }) }) (record { expect = Word; plain = with_register heard.plain register n })
@@ -165,7 +165,7 @@ module _ (now : Asking) (heard : Heard) (has : HasHeard now heard) where
       given.2 may.1
 
 -- one word, by what is expected
-expected_heard : (now : Asking) (heard after : Heard) (e : Expect) (line : ℕ) (word next : List ℕ) → HasHeard now heard → heard.expect ≡ e → hear (record heard { expect = e }) word next ≡ Some after → IsHeard (expected (record now { expect = Word }) e line word next) after
+expected_heard : (now : ParseState) (heard after : Heard) (e : Expect) (line : ℕ) (word next : List ℕ) → HasHeard now heard → heard.expect ≡ e → hear (record heard { expect = e }) word next ≡ Some after → IsHeard (expected (record now { expect = Word }) e line word next) after
 expected_heard now heard after Word line word next has e is =
     word_heard (record now { expect = Word }) (record heard { expect = Word }) (next_has now heard has Word) line word next after is
 expected_heard now heard after Address line word next has e is = address_heard now heard has line word after is
@@ -173,7 +173,7 @@ expected_heard now heard after Name line word next has e is = absurd (no_some is
 expected_heard now heard after (Register register) line word next has e is = register_heard now heard has line register word after is
 expected_heard now heard after Nothing line word next has e is = heard_as _ (record now { expect = Word }) _ after refl (next_has now heard has Word) (some_same _ after is)
 
-one_word : (now : Asking) (heard after : Heard) (said : Said) (next : List ℕ) → said.kind ≡ WordKind → HasHeard now heard → hear heard said.text next ≡ Some after → IsHeard (hear_asking now said next) after
+one_word : (now : ParseState) (heard after : Heard) (said : TokenContent) (next : List ℕ) → said.kind ≡ WordKind → HasHeard now heard → hear heard said.text next ≡ Some after → IsHeard (hear_asking now said next) after
 one_word now heard after said next kind has is =
     let there = expected_heard now heard after heard.expect said.line said.text next has refl is in
     heard_as _ there.later after after
@@ -183,17 +183,17 @@ one_word now heard after said next kind has is =
 -- ---- all words
 
 -- what plain words ask for: this, or a line has a fault
-abbrev pub AsksPlain : Result Asking Refusal → Plain → List Said → Type 0
+abbrev pub AsksPlain : Result ParseState Refusal → Plain → List TokenContent → Type 0
 AsksPlain outcome all words = MatchResult outcome (λ end. (asked_by end.asked end.registers ≡ all) × (end.labels ≡ [])) (λ refusal. All (λ said. said.kind ≡ WordKind) words → ⊥)
 
-abbrev pub texts : List Said → List (List ℕ)
+abbrev pub texts : List TokenContent → List (List ℕ)
 texts words = map (λ said. said.text) words
 
-none_open : (now : Asking) (opened : List Open) → opened ≡ [] → all_closed now opened ≡ Ok now
+none_open : (now : ParseState) (opened : List Open) → opened ≡ [] → all_closed now opened ≡ Ok now
 unfolding all_closed
 none_open now opened none = ap (all_closed now) none
 
-none_named : (now : Asking) (labels : List Mention) → labels ≡ [] → all_placed now labels ≡ Ok now
+none_named : (now : ParseState) (labels : List Mention) → labels ≡ [] → all_placed now labels ≡ Ok now
 unfolding all_placed
 none_named now labels none = ap (all_placed now) none
 
@@ -204,13 +204,13 @@ ready Name plain all is = absurd (no_some is)
 ready (Register register) plain all is = absurd (no_some is)
 ready Nothing plain all is = refl
 
-end_asked : (now : Asking) (heard : Heard) (last : ℕ) (all : Plain) → HasHeard now heard → end_of heard ≡ Some all → finished now last ≡ Ok now
+end_asked : (now : ParseState) (heard : Heard) (last : ℕ) (all : Plain) → HasHeard now heard → end_of heard ≡ Some all → finished now last ≡ Ok now
 end_asked now heard last all has is =
     cond-false (is_waiting now.expect) _ _ (ap is_waiting has.expect ∙ ready heard.expect heard.plain all is)
-    ∙ (ap (λ (r : Result Asking Refusal). r ▷ (λ closed. all_placed closed closed.labels)) (none_open now now.opened has.opened)
+    ∙ (ap (λ (r : Result ParseState Refusal). r ▷ (λ closed. all_placed closed closed.labels)) (none_open now now.opened has.opened)
     ∙ none_named now now.labels has.names)
 
-next_same : (words : List Said) → slice_index_or (texts words) 0 [] ≡ next_text words
+next_same : (words : List TokenContent) → slice_index_or (texts words) 0 [] ≡ next_text words
 next_same [] = refl
 next_same (said ∷ words) = refl
 
@@ -219,18 +219,18 @@ is_a_word WordKind = Some 0
 is_a_word LongLineKind = None
 is_a_word OpenCommentKind = None
 
-more_words : (outcome : Result Asking Refusal) (all : Plain) (said : Said) (words : List Said) → AsksPlain outcome all words → AsksPlain outcome all (said ∷ words)
+more_words : (outcome : Result ParseState Refusal) (all : Plain) (said : TokenContent) (words : List TokenContent) → AsksPlain outcome all words → AsksPlain outcome all (said ∷ words)
 more_words (Ok end) all said words h = h
 more_words (Err refusal) all said words h = λ kinds. h (All-tail (λ said. said.kind ≡ WordKind) said words kinds)
 
-kind_cases : (kind : TokenKind) (line : ℕ) (asks : Result Asking Refusal) → (kind ≡ WordKind) ⊎ ((kind ≡ WordKind → ⊥) × (refusal : Refusal) × (of_kind kind line asks ≡ Err refusal))
+kind_cases : (kind : TokenKind) (line : ℕ) (asks : Result ParseState Refusal) → (kind ≡ WordKind) ⊎ ((kind ≡ WordKind → ⊥) × (refusal : Refusal) × (of_kind kind line asks ≡ Err refusal))
 kind_cases WordKind line asks = inl refl
 kind_cases LongLineKind line asks = inr ((λ e. no_some (ap is_a_word e)), record { line = line; wrong = LongLine }, refl)
 kind_cases OpenCommentKind line asks = inr ((λ e. no_some (ap is_a_word e)), record { line = line; wrong = OpenComment }, refl)
 
 -- the first word is heard, or has a fault of its line
-first_word : (now : Asking) (heard : Heard) (last : ℕ) (said : Said) (words : List Said) (all : Plain)
-    → ((now : Asking) (heard : Heard) → HasHeard now heard → hear_all heard (texts words) ≡ Some all → AsksPlain (asked_from now said.line words) all words)
+first_word : (now : ParseState) (heard : Heard) (last : ℕ) (said : TokenContent) (words : List TokenContent) (all : Plain)
+    → ((now : ParseState) (heard : Heard) → HasHeard now heard → hear_all heard (texts words) ≡ Some all → AsksPlain (asked_from now said.line words) all words)
     → (o : Option Heard) → hear heard said.text (slice_index_or (texts words) 0 []) ≡ o → (o >>= (λ now. hear_all now (texts words))) ≡ Some all
     → HasHeard now heard → AsksPlain (asked_from now last (said ∷ words)) all (said ∷ words)
 unfolding asked_from
@@ -240,30 +240,30 @@ first_word now heard last said words all again (Some after) is more has =
       | inl word ↦
           let one = one_word now heard after said (next_text words) word has (ap (hear heard said.text) (sym (next_same words)) ∙ is) in
           let rest = again one.later after one.has more in
-          subst (λ (r : Result Asking Refusal). AsksPlain r all (said ∷ words)) (sym (ap (λ (r : Result Asking Refusal). r ▷ (λ after. asked_from after said.line words)) one.is))
+          subst (λ (r : Result ParseState Refusal). AsksPlain r all (said ∷ words)) (sym (ap (λ (r : Result ParseState Refusal). r ▷ (λ after. asked_from after said.line words)) one.is))
           (more_words (asked_from one.later said.line words) all said words rest)
       | inr fault ↦
-          subst (λ (r : Result Asking Refusal). AsksPlain r all (said ∷ words)) (sym (ap (λ (r : Result Asking Refusal). r ▷ (λ after. asked_from after said.line words)) fault.2))
+          subst (λ (r : Result ParseState Refusal). AsksPlain r all (said ∷ words)) (sym (ap (λ (r : Result ParseState Refusal). r ▷ (λ after. asked_from after said.line words)) fault.2))
           (λ kinds. fault.0 (kinds 0 said (omega arith)))
     ]
 
-plain_from_here : (words : List Said) (now : Asking) (heard : Heard) (last : ℕ) (all : Plain) → HasHeard now heard → hear_all heard (texts words) ≡ Some all → AsksPlain (asked_from now last words) all words
+plain_from_here : (words : List TokenContent) (now : ParseState) (heard : Heard) (last : ℕ) (all : Plain) → HasHeard now heard → hear_all heard (texts words) ≡ Some all → AsksPlain (asked_from now last words) all words
 unfolding asked_from hear_all
 plain_from_here [] now heard last all has is =
-    subst (λ (r : Result Asking Refusal). AsksPlain r all []) (sym (end_asked now heard last all has is)) (has.plain ∙ end_heard heard all is, has.names)
+    subst (λ (r : Result ParseState Refusal). AsksPlain r all []) (sym (end_asked now heard last all has is)) (has.plain ∙ end_heard heard all is, has.names)
 plain_from_here (said ∷ words) now heard last all has is =
     first_word now heard last said words all (λ n h. plain_from_here words n h said.line all) (hear heard said.text (slice_index_or (texts words) 0 [])) refl is has
 
 nothing_heard_yet : HasHeard nothing_asked nothing_heard
 nothing_heard_yet = record { expect = refl; plain = refl; names = refl; opened = refl; carries = refl }
 
-pub plain_asks : (line : ℕ) (words : List Said) (all : Plain) → plain_of (texts words) ≡ Some all → AsksPlain (asked_by_words line words) all words
+pub plain_asks : (line : ℕ) (words : List TokenContent) (all : Plain) → plain_of (texts words) ≡ Some all → AsksPlain (asked_by_words line words) all words
 plain_asks line words all is = plain_from_here words nothing_asked nothing_heard line all nothing_heard_yet (hear_plain (texts words) no_request all is)
 
 -- ---- the same of requests
 
-kinds_said : (tokens : List Token) → All (λ token. token.kind ≡ WordKind) tokens → All (λ said. said.kind ≡ WordKind) (all_said tokens)
-kinds_said tokens kinds = All-map (λ said. said.kind ≡ WordKind) said_of tokens kinds
+kinds_said : (tokens : List Token) → All (λ token. token.kind ≡ WordKind) tokens → All (λ said. said.kind ≡ WordKind) (token_contents tokens)
+kinds_said tokens kinds = All-map (λ said. said.kind ≡ WordKind) token_content tokens kinds
 
 abbrev has_some : List Mention → Type 0
 has_some [] = ⊥
@@ -272,7 +272,7 @@ has_some (label ∷ labels) = Unit {0}
 some_names : {label : Mention} {labels : List Mention} → label ∷ labels ≡ [] → ⊥
 some_names e = subst has_some e tt
 
-pub map_map : (tokens : List Token) → map (λ said. said.text) (all_said tokens) ≡ texts_of tokens
+pub map_map : (tokens : List Token) → map (λ said. said.text) (token_contents tokens) ≡ texts_of tokens
 map_map [] = refl
 map_map (token ∷ tokens) = ap (λ (rest : List (List ℕ)). token.text.now ∷ rest) (map_map tokens)
 
@@ -281,16 +281,16 @@ no_names [] labels e none = refl
 no_names (label ∷ items) labels e none = absurd (some_names (e ∙ none))
 
 module _ (line : ℕ) (tokens : List Token) (all : Plain) (is : plain_of (texts_of tokens) ≡ Some all) where
-  asks_plain : AsksPlain (asked_by_words line (all_said tokens)) all (all_said tokens)
-  asks_plain = plain_asks line (all_said tokens) all (ap plain_of (map_map tokens) ∙ is)
+  asks_plain : AsksPlain (asked_by_words line (token_contents tokens)) all (token_contents tokens)
+  asks_plain = plain_asks line (token_contents tokens) all (ap plain_of (map_map tokens) ∙ is)
 
-  plain_end : (last : Asking) → asked_by_words line (all_said tokens) ≡ Ok last → (asked_by last.asked last.registers ≡ all) × (last.labels ≡ [])
-  plain_end last e = subst (λ (r : Result Asking Refusal). AsksPlain r all (all_said tokens)) e asks_plain
+  plain_end : (last : ParseState) → asked_by_words line (token_contents tokens) ≡ Ok last → (asked_by last.asked last.registers ≡ all) × (last.labels ≡ [])
+  plain_end last e = subst (λ (r : Result ParseState Refusal). AsksPlain r all (token_contents tokens)) e asks_plain
 
-  pub plain_told : (requests : NodeRequests) → AreRequestsOf line (all_said tokens) requests → (asked_by requests.asked.items requests.registers ≡ all) × (requests.names.items ≡ [])
+  pub plain_told : (requests : NodeRequests) → AreRequestsOf line (token_contents tokens) requests → (asked_by requests.asked.items requests.registers ≡ all) × (requests.names.items ≡ [])
   plain_told requests of =
       let end = plain_end of.last of.asks in
       (rw (of.asked, of.registers) end.0, no_names requests.names.items of.last.labels of.names end.1)
 
-  pub plain_untold : (refusal : Refusal) → asked_by_words line (all_said tokens) ≡ Err refusal → All (λ token. token.kind ≡ WordKind) tokens → ⊥
-  plain_untold refusal e kinds = subst (λ (r : Result Asking Refusal). AsksPlain r all (all_said tokens)) e asks_plain (kinds_said tokens kinds)
+  pub plain_untold : (refusal : Refusal) → asked_by_words line (token_contents tokens) ≡ Err refusal → All (λ token. token.kind ≡ WordKind) tokens → ⊥
+  plain_untold refusal e kinds = subst (λ (r : Result ParseState Refusal). AsksPlain r all (token_contents tokens)) e asks_plain (kinds_said tokens kinds)

@@ -5,7 +5,7 @@ use Rattle.std.specs.List.{list_all}
 use Rattle.std.proofs.lemmas.Bool.{cond-true, cond-false, both_ways, and_parts, cases_Bool, le-ltb, lt-ltb}
 use Rattle.ga_text.specs.Lines.{with_byte, lines_of}
 use Rattle.ga_parser.specs.declared.scan.TokenKind.TheVariants.{LongLine, OpenComment}
-use Rattle.ga_parser.specs.Saying.{parted, is_blank, source_lines, has_bytes, source_words, longest_source_line, bare, Said, a_word, a_fault, is_word, closes, spoken, said_by, up_to_fault, next_line, said_from, part_column, columns_spoken, columns_by, columns_from}
+use Rattle.ga_parser.specs.Saying.{parted, is_blank, source_lines, has_bytes, source_words, longest_source_line, bare, TokenContent, a_word, a_fault, is_word, closes, spoken, said_by, up_to_fault, next_line, said_from, part_column, columns_spoken, columns_by, columns_from}
 use Rattle.ga_parser.specs.inner.Drafting.{IsTold}
 
 -- ---- parts
@@ -95,15 +95,15 @@ hear_word line rest (b ∷ part) behind e some no_remark no_opening =
 -- ---- faults of lines
 
 -- nothing is left out where there is no fault
-whole_front : (front rest : List Said) → list_all is_word front ≡ true → up_to_fault (front ++ rest) ≡ front ++ up_to_fault rest
+whole_front : (front rest : List TokenContent) → list_all is_word front ≡ true → up_to_fault (front ++ rest) ≡ front ++ up_to_fault rest
 unfolding up_to_fault
 whole_front [] rest whole = refl
 whole_front (said ∷ front) rest whole =
     let parts = and_parts (is_word said) (list_all is_word front) whole in
-    ap (λ (tail : List Said). said ∷ tail) (cond-true (is_word said) (up_to_fault (front ++ rest)) [] parts.0 ∙ whole_front front rest parts.1)
+    ap (λ (tail : List TokenContent). said ∷ tail) (cond-true (is_word said) (up_to_fault (front ++ rest)) [] parts.0 ∙ whole_front front rest parts.1)
 
 -- a fault stands last in what words say
-fault_last : (line : ℕ) (is_open : Bool) (words : List (List ℕ)) (rest : List Said) → list_all is_word (spoken line is_open words) ≡ false → up_to_fault (spoken line is_open words ++ rest) ≡ spoken line is_open words
+fault_last : (line : ℕ) (is_open : Bool) (words : List (List ℕ)) (rest : List TokenContent) → list_all is_word (spoken line is_open words) ≡ false → up_to_fault (spoken line is_open words ++ rest) ≡ spoken line is_open words
 unfolding spoken up_to_fault
 fault_last line false [] rest faulty = absurd (both_ways true faulty refl)
 fault_last line true [] rest faulty = refl
@@ -112,12 +112,12 @@ fault_last line false (word ∷ words) rest faulty = elim (cases_Bool (bytes_eq 
   | inl remark ↦ absurd (both_ways true (rw remark at faulty) refl)
   | inr other ↦ elim (cases_Bool (bytes_eq word (codes "("))) [
     | inl opening ↦ rw (other, opening) (fault_last line true words rest (rw (other, opening) at faulty))
-    | inr plain ↦ rw (other, plain) (ap (λ (tail : List Said). a_word line word ∷ tail) (fault_last line false words rest (rw (other, plain) at faulty)))
+    | inr plain ↦ rw (other, plain) (ap (λ (tail : List TokenContent). a_word line word ∷ tail) (fault_last line false words rest (rw (other, plain) at faulty)))
   ]
 ]
 
 -- and so in what a line says
-line_fault_last : (line : ℕ) (text : List ℕ) (rest : List Said) → list_all is_word (said_by line text) ≡ false → up_to_fault (said_by line text ++ rest) ≡ said_by line text
+line_fault_last : (line : ℕ) (text : List ℕ) (rest : List TokenContent) → list_all is_word (said_by line text) ≡ false → up_to_fault (said_by line text ++ rest) ≡ said_by line text
 unfolding up_to_fault
 line_fault_last line text rest faulty = elim (cases_Bool (ltb longest_source_line (length text))) [
   | inl long ↦ rw long refl
@@ -169,29 +169,29 @@ nothing_left line (b ∷ rest) none = absurd (omega arith)
 -- ---- joined with what was said before
 
 -- nothing is left
-pub said_all : (told left said : List Said) → left ≡ [] → told ++ left ≡ said → told ≡ said
-said_all told left said none all = sym (append-nil told) ∙ (ap (λ (l : List Said). told ++ l) (sym none) ∙ all)
+pub said_all : (told left said : List TokenContent) → left ≡ [] → told ++ left ≡ said → told ≡ said
+said_all told left said none all = sym (append-nil told) ∙ (ap (λ (l : List TokenContent). told ++ l) (sym none) ∙ all)
 
 -- what was left was told
-pub said_last : (told left said new part : List Said) → new ≡ told ++ part → left ≡ part → told ++ left ≡ said → new ≡ said
-said_last told left said new part e is all = e ∙ (ap (λ (l : List Said). told ++ l) (sym is) ∙ all)
+pub said_last : (told left said new part : List TokenContent) → new ≡ told ++ part → left ≡ part → told ++ left ≡ said → new ≡ said
+said_last told left said new part e is all = e ∙ (ap (λ (l : List TokenContent). told ++ l) (sym is) ∙ all)
 
 -- what was left was told but for some
-pub said_more : (told left said new part rest : List Said) → new ≡ told ++ part → left ≡ part ++ rest → told ++ left ≡ said → new ++ rest ≡ said
+pub said_more : (told left said new part rest : List TokenContent) → new ≡ told ++ part → left ≡ part ++ rest → told ++ left ≡ said → new ++ rest ≡ said
 said_more told left said new part rest e parts all =
-    ap (λ (l : List Said). l ++ rest) e ∙ (append_assoc told part rest ∙ (ap (λ (l : List Said). told ++ l) (sym parts) ∙ all))
+    ap (λ (l : List TokenContent). l ++ rest) e ∙ (append_assoc told part rest ∙ (ap (λ (l : List TokenContent). told ++ l) (sym parts) ∙ all))
 
 -- ---- within a line
 
 -- the same is left to say behind a part
-pub told_same : (line : ℕ) (text : List ℕ) (before now : List Said) (was is : Bool) (rest behind : List ℕ) → spoken line was (source_words rest) ≡ spoken line is (source_words behind) → IsTold line text before now was rest → IsTold line text before now is behind
+pub told_same : (line : ℕ) (text : List ℕ) (before now : List TokenContent) (was is : Bool) (rest behind : List ℕ) → spoken line was (source_words rest) ≡ spoken line is (source_words behind) → IsTold line text before now was rest → IsTold line text before now is behind
 told_same line text before now was is rest behind e told = record {
-  says = ap (λ (l : List Said). now ++ l) (sym e) ∙ told.says;
+  says = ap (λ (l : List TokenContent). now ++ l) (sym e) ∙ told.says;
   whole = ap (list_all is_word) (sym e) ∙ told.whole;
 }
 
 -- a word was told
-pub told_word : (line : ℕ) (text : List ℕ) (before now new : List Said) (is_open : Bool) (rest part behind : List ℕ) → is_open ≡ false → new ≡ now ++ a_word line part ∷ [] → spoken line false (source_words rest) ≡ a_word line part ∷ spoken line false (source_words behind) → IsTold line text before now is_open rest → IsTold line text before new is_open behind
+pub told_word : (line : ℕ) (text : List ℕ) (before now new : List TokenContent) (is_open : Bool) (rest part behind : List ℕ) → is_open ≡ false → new ≡ now ++ a_word line part ∷ [] → spoken line false (source_words rest) ≡ a_word line part ∷ spoken line false (source_words behind) → IsTold line text before now is_open rest → IsTold line text before new is_open behind
 told_word line text before now new true rest part behind closed pushed e told = absurd (both_ways true closed refl)
 told_word line text before now new false rest part behind closed pushed e told = record {
   says = said_more now (spoken line false (source_words rest)) (before ++ spoken line false (source_words text)) new (a_word line part ∷ []) (spoken line false (source_words behind)) pushed e told.says;
@@ -214,12 +214,12 @@ short_line line text short = cond-false (ltb longest_source_line (length text)) 
 pub long_line : (line : ℕ) (text : List ℕ) → 200 < length text → said_by line text ≡ a_fault line LongLine ∷ []
 long_line line text long = cond-true (ltb longest_source_line (length text)) (a_fault line LongLine ∷ []) (spoken line false (source_words text)) (lt-ltb longest_source_line (length text) long)
 
-pub line_told : (line : ℕ) (text : List ℕ) (before now new left : List Said) (is_open : Bool) (rest : List ℕ) → length text ≤ 200 → IsTold line text before now is_open rest → spoken line is_open (source_words rest) ≡ left → new ≡ now ++ left → new ≡ before ++ said_by line text
+pub line_told : (line : ℕ) (text : List ℕ) (before now new left : List TokenContent) (is_open : Bool) (rest : List ℕ) → length text ≤ 200 → IsTold line text before now is_open rest → spoken line is_open (source_words rest) ≡ left → new ≡ now ++ left → new ≡ before ++ said_by line text
 line_told line text before now new left is_open rest short told e pushed =
     said_last now (spoken line is_open (source_words rest)) (before ++ spoken line false (source_words text)) new left pushed e told.says
-    ∙ ap (λ (l : List Said). before ++ l) (sym (short_line line text short))
+    ∙ ap (λ (l : List TokenContent). before ++ l) (sym (short_line line text short))
 
-pub line_whole : (line : ℕ) (text : List ℕ) (before now left : List Said) (is_open : Bool) (rest : List ℕ) → length text ≤ 200 → IsTold line text before now is_open rest → spoken line is_open (source_words rest) ≡ left → list_all is_word left ≡ list_all is_word (said_by line text)
+pub line_whole : (line : ℕ) (text : List ℕ) (before now left : List TokenContent) (is_open : Bool) (rest : List ℕ) → length text ≤ 200 → IsTold line text before now is_open rest → spoken line is_open (source_words rest) ≡ left → list_all is_word left ≡ list_all is_word (said_by line text)
 line_whole line text before now left is_open rest short told e =
     ap (list_all is_word) (sym e) ∙ (told.whole ∙ ap (list_all is_word) (sym (short_line line text short)))
 

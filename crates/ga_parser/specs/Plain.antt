@@ -9,17 +9,17 @@ use Rattle.ga_parser.specs.declared.item.Operand.TheVariants.{Number}
 use Rattle.ga_parser.specs.declared.item.Item.TheVariants.{Cell}
 use Rattle.ga_parser.specs.declared.item.Request.{Request}
 use Rattle.ga_parser.specs.declared.item.Request.TheVariants.{Put, Go}
-use Rattle.ga_parser.specs.declared.item.Asked.{Asked}
-use Rattle.ga_parser.specs.declared.item.Given.{Given}
+use Rattle.ga_parser.specs.declared.item.LocatedRequest.{LocatedRequest}
+use Rattle.ga_parser.specs.declared.item.RegisterValue.{RegisterValue}
 use Rattle.ga_parser.specs.declared.item.Registers.{Registers}
-use Rattle.ga_parser.specs.Saying.{Said, said_in}
+use Rattle.ga_parser.specs.Saying.{TokenContent, said_in}
 use Rattle.ga_ports.specs.Steps.{◌>>=◌}
 use Rattle.ga_parser.specs.Vocabulary.{number_by_word}
 
 -- ---- the words of each node
 
 -- the words of what is said; a line's fault has no text
-abbrev pub texts_in : List Said → List (List ℕ)
+abbrev pub texts_in : List TokenContent → List (List ℕ)
 texts_in all = map (λ said. said.text) all
 
 -- the words of a source
@@ -103,11 +103,11 @@ plain_of words = plain_from no_request words
 -- ---- requests as plain words
 
 -- a register's value, where it is given
-abbrev pub value_in : Option Given → Option Operand
+abbrev pub value_in : Option RegisterValue → Option Operand
 value_in given = option_map (λ one. one.value) given
 
 -- requests without their lines, and the registers' values
-abbrev pub asked_by : List Asked → Registers → Plain
+abbrev pub asked_by : List LocatedRequest → Registers → Plain
 asked_by asked registers = record {
   requests = map (λ one. one.request) asked;
   p = value_in registers.p;

@@ -4,8 +4,8 @@ use Rattle.ga_parser.specs.declared.fault.SourceCause.{SourceCause}
 use Rattle.ga_parser.specs.declared.fault.SourceCause.TheVariants.{LongLine as TooLong, OpenComment as LeftOpen, Unknown as WhatIs, Taken as IsTaken, Missing as IsMissing, LabelTwice as StandsTwice, RegisterTwice as GivenTwice, Unmatched as NothingOpen, Open as NeverClosed, Number as OutOfRange}
 use Rattle.ga_parser.specs.declared.fault.Fault.{Fault}
 use Rattle.ga_parser.specs.declared.item.NodeRequests.{NodeRequests}
-use Rattle.ga_parser.specs.Saying.{Said}
-use Rattle.ga_parser.specs.Asking.{Asking, Wrong, Refusal, mention_of, asked_by_words}
+use Rattle.ga_parser.specs.Saying.{TokenContent}
+use Rattle.ga_parser.specs.Asking.{ParseState, Wrong, Refusal, mention_of, asked_by_words}
 use Rattle.ga_parser.specs.Asking.Wrong.{LongLine, OpenComment, Unknown, Taken, Missing, LabelTwice, RegisterTwice, Unmatched, Unclosed, NoNumberHere, Later}
 
 -- what is wrong with words, where a fault is one of words
@@ -27,8 +27,8 @@ word_refusal fault = record { line = fault.line; wrong = wrong_of fault.cause }
 
 -- The requests are just what the words behind a node's name on this line ask for: each request with its line, the labels with their
 -- names and lines in the order in which the words name them, and the registers with theirs.
-pub record AreRequestsOf (line : ℕ) (words : List Said) (requests : NodeRequests) : Type 0 where
-  pub last : Asking
+pub record AreRequestsOf (line : ℕ) (words : List TokenContent) (requests : NodeRequests) : Type 0 where
+  pub last : ParseState
   pub asks : asked_by_words line words ≡ Ok last
   pub asked : requests.asked.items ≡ last.asked
   pub names : map mention_of requests.names.items ≡ last.labels

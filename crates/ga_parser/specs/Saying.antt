@@ -39,8 +39,8 @@ abbrev pub order_mark : List ℕ
 order_mark = 0xef ∷ 0xbb ∷ 0xbf ∷ []
 
 -- a line without the byte order mark, where it is the first and begins with one
-abbrev pub unmarked : ℕ → List ℕ → List ℕ
-unmarked line text = if line == 1 && bytes_eq (take 3 text) order_mark then drop 3 text else text
+abbrev pub strip_bom : ℕ → List ℕ → List ℕ
+strip_bom line text = if line == 1 && bytes_eq (take 3 text) order_mark then drop 3 text else text
 
 -- a line without the carriage return at its end
 abbrev pub without_return : List ℕ → List ℕ
@@ -48,7 +48,7 @@ without_return text = if slice_index text (length text - 1) == 13 then take (len
 
 -- a line without the byte order mark, and without the carriage return at its end
 abbrev pub bare : ℕ → List ℕ → List ℕ
-bare line text = without_return (unmarked line text)
+bare line text = without_return (strip_bom line text)
 
 -- ---- what a line says
 
@@ -57,15 +57,15 @@ abbrev pub longest_source_line : ℕ
 longest_source_line = 200
 
 -- a word, or what is wrong with a line and then no text, with the line's number
-pub record Said : Type 0 where
+pub record TokenContent : Type 0 where
   pub line : ℕ
   pub text : List ℕ
   pub kind : TokenKind
 
-abbrev pub a_word : ℕ → List ℕ → Said
+abbrev pub a_word : ℕ → List ℕ → TokenContent
 a_word line text = record { line = line; text = text; kind = Word }
 
-abbrev pub a_fault : ℕ → TokenKind → Said
+abbrev pub a_fault : ℕ → TokenKind → TokenContent
 a_fault line kind = record { line = line; text = []; kind = kind }
 
 abbrev pub is_word_kind : TokenKind → Bool
@@ -73,7 +73,7 @@ is_word_kind Word = true
 is_word_kind LongLine = false
 is_word_kind OpenComment = false
 
-abbrev pub is_word : Said → Bool
+abbrev pub is_word : TokenContent → Bool
 is_word said = is_word_kind said.kind
 
 -- the word ends with `)`
@@ -82,7 +82,7 @@ closes word = slice_index word (length word - 1) == 41
 
 -- What words of a line say, behind a `(` that isn't closed yet or not: `\` leaves out all behind it, and `(` all up to a word that
 -- ends with `)`.
-unfoldable pub spoken : ℕ → Bool → List (List ℕ) → List Said
+unfoldable pub spoken : ℕ → Bool → List (List ℕ) → List TokenContent
 spoken line false [] = []
 spoken line true [] = a_fault line OpenComment ∷ []
 spoken line false (word ∷ words) =
@@ -91,13 +91,13 @@ spoken line false (word ∷ words) =
     else a_word line word ∷ spoken line false words
 spoken line true (word ∷ words) = spoken line (not (closes word)) words
 
-abbrev pub said_by : ℕ → List ℕ → List Said
+abbrev pub said_by : ℕ → List ℕ → List TokenContent
 said_by line text = if nat_lt longest_source_line (length text) then a_fault line LongLine ∷ [] else spoken line false (source_words text)
 
 -- ---- what a text says
 
 -- what is said, up to the first fault
-unfoldable pub up_to_fault : List Said → List Said
+unfoldable pub up_to_fault : List TokenContent → List TokenContent
 up_to_fault [] = []
 up_to_fault (said ∷ rest) = said ∷ (if is_word said then up_to_fault rest else [])
 
@@ -106,27 +106,27 @@ abbrev pub next_line : ℕ → ℕ
 next_line line = min (line + 1) (2 ^ 32 - 1)
 
 -- what the lines say up to one that is `end`, numbered from here on
-unfoldable pub said_from : ℕ → List (List ℕ) → List Said
+unfoldable pub said_from : ℕ → List (List ℕ) → List TokenContent
 said_from line [] = []
 said_from line (text ∷ texts) =
     if bytes_eq (bare line text) (codes "end") then [] else said_by line (bare line text) ++ said_from (next_line line) texts
 
 -- what a source says, up to its end or to a line `end`
-abbrev pub all_in : List ℕ → List Said
+abbrev pub all_in : List ℕ → List TokenContent
 all_in source = said_from 1 (source_lines source)
 
 -- what a source says, up to its end, to a line `end` or to the first fault of a line
-unfoldable pub said_in : List ℕ → List Said
+unfoldable pub said_in : List ℕ → List TokenContent
 said_in source = up_to_fault (all_in source)
 
 -- ---- what was read
 
 -- what a word that was read says, and what some say
-abbrev pub said_of : Token → Said
-said_of token = record { line = token.line; text = token.text.now; kind = token.kind }
+abbrev pub token_content : Token → TokenContent
+token_content token = record { line = token.line; text = token.text.now; kind = token.kind }
 
-abbrev pub all_said : List Token → List Said
-all_said tokens = map said_of tokens
+abbrev pub token_contents : List Token → List TokenContent
+token_contents tokens = map token_content tokens
 
 -- ---- where what a source says stands in its lines
 

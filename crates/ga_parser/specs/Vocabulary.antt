@@ -188,8 +188,8 @@ is_sign word = bytes_eq word (codes "node") || bytes_eq word (codes ",") || byte
 
 -- The word says something of itself, so that no label has this name: an opcode, with an address or without, a control word, a number,
 -- a port, a directive, or a sign.
-unfoldable pub is_taken : List ℕ → Bool
-is_taken word =
+unfoldable pub is_reserved : List ℕ → Bool
+is_reserved word =
     (is_some (opcode_in word) || bytes_eq word (codes "jump") || bytes_eq word (codes "call"))
     || is_some (control_in word)
     || is_a_number (number_by_word word)

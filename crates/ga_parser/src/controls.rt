@@ -5,7 +5,7 @@ ghost use Rattle.ga_parser.specs.Asking.{asking, begin_loop as begin_row, ahead 
 ghost use Rattle.ga_parser.specs.inner.Drafting.{Answers, asking_of};
 ghost use Rattle.ga_parser.specs.declared.vocabulary.Control.TheVariants.{Else as ElseWord, Then as ThenWord, NextAround as NextAroundWord, Unext as UnextWord, While as WhileWord, Repeat as RepeatWord, For as ForWord};
 
-use super::draft::Draft;
+use super::draft::RequestBuilder;
 use super::fault::{Fault, SourceCause, fault_at};
 use super::item::{Item, Request};
 use super::vocabulary::Control;
@@ -31,7 +31,7 @@ impl Open {
     }
 }
 
-impl<'s> Draft<'s> {
+impl<'s> RequestBuilder<'s> {
     /// What a control word asks for.
     pub(crate) fn control(&mut self, line: u32, word: Control) -> Result<(), Fault<'s>>
         ensures { Answers result (control_row (asking_of self.old) line word) (λ _. asking_of self.new) }
@@ -56,7 +56,7 @@ impl<'s> Draft<'s> {
     fn begin(&mut self, line: u32) -> Result<(), Fault<'s>>
         ensures { Answers result (Ok (begin_row (asking_of self.old) line)) (λ _. asking_of self.new) }
     {
-        let label = self.labels.nameless(line, true)?;
+        let label = self.labels.add_anonymous(line, true)?;
         self.ask(line, Request::Mark(label))?;
         self.open.push(Open::Loop(line, label))?;
         Ok(())
@@ -74,7 +74,7 @@ impl<'s> Draft<'s> {
     fn ahead(&mut self, line: u32, op: Op) -> Result<(), Fault<'s>>
         ensures { Answers result (Ok (ahead_row (asking_of self.old) line op)) (λ _. asking_of self.new) }
     {
-        let label = self.labels.nameless(line, false)?;
+        let label = self.labels.add_anonymous(line, false)?;
         self.jump(line, op, label)?;
         self.open.push(Open::Ahead(line, label))?;
         Ok(())

@@ -3,20 +3,20 @@
 ghost use Rattle.std.specs.Prelude.{◌≡◌, ◌⊎◌, Err, IfOk, IfErr, codes, [], bytes_eq, if◌then◌else◌, slice_index_or};
 ghost use Rattle.ga_slots.specs.declared.op.Op.TheVariants.{Jump, Call};
 ghost use Rattle.ga_parser.specs.declared.fault.SourceCause.TheVariants.{Memory};
-ghost use Rattle.ga_parser.specs.Asking.{asked_by_words, carried as carried_of, is_waiting as is_waiting_for};
+ghost use Rattle.ga_parser.specs.Asking.{asked_by_words, with_carry_bit as carried_of, is_waiting as is_waiting_for};
 ghost use Rattle.ga_parser.specs.Requests.{AreRequestsOf, word_refusal};
 ghost use Rattle.ga_parser.specs.Asking.Wrong.{NoNumberHere};
 ghost use Rattle.ga_parser.specs.inner.Drafting.{Answers, asking_of, texts_of};
-ghost use Rattle.ga_parser.specs.Saying.{all_said};
+ghost use Rattle.ga_parser.specs.Saying.{token_contents};
 
 use super::controls::Open;
 use super::fault::{Fault, NumberRange, SourceCause, fault_at};
-use super::item::{Asked, Given, Item, NodeRequests, Operand, Registers, Request};
+use super::item::{Item, LocatedRequest, NodeRequests, Operand, RegisterValue, Registers, Request};
 use super::labels::Labels;
 use super::number::{Number, number_of};
 use super::scan::Token;
 use super::vocabulary::{
-    Directive, Register, control_named, directive_named, is_taken, opcode_named,
+    Directive, Register, control_named, is_reserved, parse_directive, parse_opcode,
 };
 use ga_slots::Op;
 use std::alloc::Global;
@@ -35,8 +35,8 @@ enum Expect {
 
 /// What the words so far ask for.
 #[derive(Drop)]
-pub(crate) struct Draft<'s> {
-    pub asked: Vec<Asked>,
+pub(crate) struct RequestBuilder<'s> {
+    pub asked: Vec<LocatedRequest>,
     pub labels: Labels<'s>,
     pub registers: Registers,
     pub open: Vec<Open>,
@@ -45,17 +45,17 @@ pub(crate) struct Draft<'s> {
     expect: Expect,
 }
 
-impl<'s> Draft<'s> {
+impl<'s> RequestBuilder<'s> {
     ghost use Rattle.std.specs.Prelude.{◌≡◌, Ok};
     ghost use Rattle.ga_parser.specs.Asking.{◌▷◌, nothing_asked, asking, jump as jump_row, mark as mark_row, value_said, name_asks, register_asks, address_asks, directive as directive_row, cell as cell_row, call as call_row, word_asks, hear, give, naming, label_number as number_of_label, finished};
     ghost use Rattle.ga_parser.specs.declared.item.Operand.TheVariants.{Label as LabelOf};
     ghost use Rattle.ga_parser.specs.inner.Drafting.{Answers, asking_of};
-    ghost use Rattle.ga_parser.specs.Saying.{said_of};
+    ghost use Rattle.ga_parser.specs.Saying.{token_content};
 
     fn new(alloc: Global) -> Self
         ensures { asking_of result ≡ nothing_asked }
     {
-        Draft {
+        RequestBuilder {
             asked: Vec::new(alloc),
             labels: Labels::new(alloc),
             registers: Registers {
@@ -72,7 +72,7 @@ impl<'s> Draft<'s> {
     pub(crate) fn ask(&mut self, line: u32, request: Request) -> Result<(), Fault<'s>>
         ensures { Answers result (Ok (asking (asking_of self.old) line request)) (λ _. asking_of self.new) }
     {
-        self.asked.push(Asked { line, request })?;
+        self.asked.push(LocatedRequest { line, request })?;
         Ok(())
     }
 
@@ -122,7 +122,7 @@ impl<'s> Draft<'s> {
     fn name(&mut self, line: u32, name: &'s [u8]) -> Result<(), Fault<'s>>
         ensures { Answers result (name_asks (asking_of self.old) line name.now) (λ _. asking_of self.new) }
     {
-        if is_taken(name) {
+        if is_reserved(name) {
             return Err(fault_at(line, SourceCause::Taken));
         }
         let label = self.labels.named(line, name)?;
@@ -143,13 +143,13 @@ impl<'s> Draft<'s> {
             }
             Number::OutOfRange => return Err(out_of_range(line, text, register.range())),
             Number::Nothing => {
-                if is_taken(text) {
+                if is_reserved(text) {
                     return Err(fault_at(line, SourceCause::Missing));
                 }
                 Operand::Label(self.labels.named(line, text)?)
             }
         };
-        let given = Some(Given { line, value });
+        let given = Some(RegisterValue { line, value });
         let before = match register {
             Register::P => mem::replace(&mut self.registers.p, given),
             Register::A => mem::replace(&mut self.registers.a, given),
@@ -184,7 +184,7 @@ impl<'s> Draft<'s> {
         match number_of(text) {
             Number::Of(found) => {
                 if found < 0x40 || 0x80 <= found && found < 0xc0 {
-                    self.ask(line, Request::Go(carried(self.carries, found)))
+                    self.ask(line, Request::Go(with_carry_bit(self.carries, found)))
                 } else {
                     Err(out_of_range(line, text, NumberRange::Cell))
                 }
@@ -210,7 +210,7 @@ impl<'s> Draft<'s> {
     fn call(&mut self, line: u32, name: &'s [u8], next: &[u8]) -> Result<(), Fault<'s>>
         ensures { Answers result (call_row (asking_of self.old) line name.now next.now) (λ _. asking_of self.new) }
     {
-        if is_taken(name) {
+        if is_reserved(name) {
             return Err(fault_at(line, SourceCause::Unknown(name)));
         }
         let label = self.labels.named(line, name)?;
@@ -229,10 +229,10 @@ impl<'s> Draft<'s> {
         if next == b",".as_slice() {
             return self.cell(line, text);
         }
-        if let Some(directive) = directive_named(text) {
+        if let Some(directive) = parse_directive(text) {
             return self.directive(line, directive);
         }
-        if let Some(op) = opcode_named(text) {
+        if let Some(op) = parse_opcode(text) {
             return self.ask(line, Request::Put(Item::Opcode(op)));
         }
         if let Some(control) = control_named(text) {
@@ -245,7 +245,7 @@ impl<'s> Draft<'s> {
     }
 
     fn take(&mut self, token: Token<'s>, next: &[u8]) -> Result<(), Fault<'s>>
-        ensures { Answers result (hear (asking_of self.old) (said_of token.entry) next.now) (λ _. asking_of self.new) }
+        ensures { Answers result (hear (asking_of self.old) (token_content token.entry) next.now) (λ _. asking_of self.new) }
     {
         let text = token.word()?;
         let expect = self.expect;
@@ -313,10 +313,14 @@ fn text_at<'s>(tokens: &[Token<'s>], i: usize) -> &'s [u8]
 }
 
 /// What the words of a node ask for.
-fn read_node<'s>(alloc: Global, line: u32, tokens: &[Token<'s>]) -> Result<Draft<'s>, Fault<'s>>
-    ensures { Answers result (asked_by_words line (all_said tokens.now)) asking_of }
+fn read_node<'s>(
+    alloc: Global,
+    line: u32,
+    tokens: &[Token<'s>],
+) -> Result<RequestBuilder<'s>, Fault<'s>>
+    ensures { Answers result (asked_by_words line (token_contents tokens.now)) asking_of }
 {
-    let mut draft = Draft::new(alloc);
+    let mut draft = RequestBuilder::new(alloc);
     let mut last = line;
     for (i, token) in tokens.iter().enumerate() {
         draft.take(*token, text_at(tokens, i + 1))?;
@@ -327,7 +331,7 @@ fn read_node<'s>(alloc: Global, line: u32, tokens: &[Token<'s>]) -> Result<Draft
 }
 
 /// An address with this bit 9.
-pub fn carried(is_set: bool, address: u32) -> u32
+pub fn with_carry_bit(is_set: bool, address: u32) -> u32
     ensures { result ≡ carried_of is_set address }
 {
     (if is_set { 512 } else { 0 }) + address % 512
@@ -343,10 +347,10 @@ pub fn read_requests<'s>(
     line: u32,
     tokens: &[Token<'s>],
 ) -> Result<NodeRequests<'s>, Fault<'s>>
-    ensures asked { IfOk result (AreRequestsOf line (all_said tokens.now)) }
-    ensures refused { IfErr result (λ fault. (fault.cause ≡ Memory) ⊎ (asked_by_words line (all_said tokens.now) ≡ Err (word_refusal fault))) }
+    ensures asked { IfOk result (AreRequestsOf line (token_contents tokens.now)) }
+    ensures refused { IfErr result (λ fault. (fault.cause ≡ Memory) ⊎ (asked_by_words line (token_contents tokens.now) ≡ Err (word_refusal fault))) }
 {
-    let Draft {
+    let RequestBuilder {
         asked,
         labels,
         registers,

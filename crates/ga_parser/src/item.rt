@@ -50,14 +50,14 @@ pub enum Request {
 
 /// A request and its line.
 #[derive(Clone, Copy)]
-pub struct Asked {
+pub struct LocatedRequest {
     pub line: u32,
     pub request: Request,
 }
 
 /// A register's value at load, and the line that gives it; line 0 where none does.
 #[derive(Clone, Copy, PartialEq, Eq)]
-pub struct Given {
+pub struct RegisterValue {
     pub line: u32,
     pub value: Operand,
 }
@@ -65,15 +65,15 @@ pub struct Given {
 /// What the source gives a node's registers at load.
 #[derive(Clone, Copy, PartialEq, Eq)]
 pub struct Registers {
-    pub p: Option<Given>,
-    pub a: Option<Given>,
-    pub b: Option<Given>,
+    pub p: Option<RegisterValue>,
+    pub a: Option<RegisterValue>,
+    pub b: Option<RegisterValue>,
 }
 
 /// What the words of a node ask for.
 #[derive(Drop)]
 pub struct NodeRequests<'s> {
-    pub asked: Vec<Asked>,
+    pub asked: Vec<LocatedRequest>,
     /// The labels by their numbers; the name is empty where a control word made the label.
     pub names: Vec<Label<'s>>,
     pub registers: Registers,

@@ -2,7 +2,7 @@
 
 ghost use Rattle.std.specs.Prelude.{◌≡◌, ◌&&◌, not, [], length, map, IfOk, OnOk};
 ghost use Rattle.ga_parser.specs.Saying.{has_bytes};
-ghost use Rattle.ga_parser.specs.Asking.{Asking, mention_of, named_before, label_number, with_name, one_label_more, is_behind, with_mark, all_placed};
+ghost use Rattle.ga_parser.specs.Asking.{ParseState, mention_of, named_before, label_number, with_name, one_label_more, is_behind, with_mark, all_placed};
 ghost use Rattle.ga_parser.specs.inner.Drafting.{Answers};
 
 use super::fault::{Fault, SourceCause, fault_at};
@@ -95,7 +95,7 @@ impl<'s> Labels<'s> {
 
     /// A new label without a name.
     #[tactic(auto, using(crate::proofs::Asking::nameless_pushed))]
-    pub(crate) fn nameless(&mut self, line: u32, is_marked: bool) -> Result<usize, AllocError>
+    pub(crate) fn add_anonymous(&mut self, line: u32, is_marked: bool) -> Result<usize, AllocError>
         ensures number { IfOk result (λ label. label ≡ length self.old) }
         ensures labels { OnOk result (self.new ≡ one_label_more self.old line [] is_marked) }
     {
@@ -131,7 +131,7 @@ impl<'s> Labels<'s> {
     /// The first name that no place has.
     #[tactic(auto, using(crate::proofs::Asking::placed_more, crate::proofs::Asking::placed_not, crate::proofs::Asking::placed_all, std::proofs::lemmas::List::drop_all))]
     pub(crate) fn check(&self) -> Result<(), Fault<'s>>
-        ensures { (now : Asking) → Answers result (all_placed now self.now) (λ _. now) }
+        ensures { (now : ParseState) → Answers result (all_placed now self.now) (λ _. now) }
     {
         for label in &self.list {
             if is_unplaced(label) {

@@ -15,11 +15,11 @@ mod number;
 mod scan;
 mod vocabulary;
 
-pub use draft::{carried, read_requests};
+pub use draft::{read_requests, with_carry_bit};
 pub use fault::{Fault, NumberRange, SourceCause, fault_at};
 pub use hint::{Hint, hint_for};
-pub use item::{Asked, Given, Item, NodeRequests, Operand, Registers, Request};
+pub use item::{Item, LocatedRequest, NodeRequests, Operand, RegisterValue, Registers, Request};
 pub use labels::Label;
 pub use nearness::is_near;
-pub use scan::{Token, TokenKind, source_words, unmarked, words_up_to_fault};
-pub use vocabulary::{Directive, Register, directive_named};
+pub use scan::{Token, TokenKind, source_words, strip_bom, words_up_to_fault};
+pub use vocabulary::{Directive, Register, parse_directive};

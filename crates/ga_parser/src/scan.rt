@@ -2,7 +2,7 @@
 
 ghost use Rattle.std.specs.Prelude.{◌≡◌, ◌<◌, ◌+◌, ◌-◌, [], ◌∷◌, ◌++◌, length, IsOkAnd, IsErrAnd, IfOk, OnOk};
 ghost use Rattle.std.specs.List.{list_all};
-ghost use Rattle.ga_parser.specs.Saying.{is_blank as is_blank_byte, parted, closes as closes_comment, unmarked as without_mark, bare as bare_line, without_return as without_end, said_by, is_word, all_in, said_in, all_said, columns_by, columns_in, columns_of};
+ghost use Rattle.ga_parser.specs.Saying.{is_blank as is_blank_byte, parted, closes as closes_comment, strip_bom as without_mark, bare as bare_line, without_return as without_end, said_by, is_word, all_in, said_in, token_contents, columns_by, columns_in, columns_of};
 ghost use Rattle.ga_parser.specs.declared.scan.TokenKind.TheVariants.{Word, LongLine, OpenComment};
 ghost use Rattle.ga_parser.specs.declared.fault.SourceCause.TheVariants.{LongLine as TooLong, OpenComment as LeftOpen};
 
@@ -84,7 +84,7 @@ fn first_part(text: &[u8]) -> (&[u8], &[u8])
 
 /// Adds the words of a line, and then its fault where it has one. True where it has none.
 fn scan_line<'s>(tokens: &mut Vec<Token<'s>>, line: u32, text: &'s [u8]) -> Result<bool, AllocError>
-    ensures says { OnOk result (all_said tokens.new.items ≡ all_said tokens.old.items ++ said_by line text.now) }
+    ensures says { OnOk result (token_contents tokens.new.items ≡ token_contents tokens.old.items ++ said_by line text.now) }
     ensures columns { OnOk result (columns_of tokens.new.items ≡ columns_of tokens.old.items ++ columns_by text.now) }
     ensures whole { IfOk result (λ whole. whole ≡ list_all is_word (said_by line text.now)) }
 {
@@ -122,7 +122,7 @@ fn push<'s>(
     text: &'s [u8],
     kind: TokenKind,
 ) -> Result<(), AllocError>
-    ensures says { OnOk result (all_said tokens.new.items ≡ all_said tokens.old.items ++ record { line = line; text = text.now; kind = kind } ∷ []) }
+    ensures says { OnOk result (token_contents tokens.new.items ≡ token_contents tokens.old.items ++ record { line = line; text = text.now; kind = kind } ∷ []) }
     ensures column { OnOk result (columns_of tokens.new.items ≡ columns_of tokens.old.items ++ column ∷ []) }
 {
     tokens.push(Token {
@@ -135,7 +135,7 @@ fn push<'s>(
 }
 
 /// A line without the byte order mark with which the first line of a text may begin. Lines count from 1.
-pub fn unmarked(line: u32, text: &[u8]) -> &[u8]
+pub fn strip_bom(line: u32, text: &[u8]) -> &[u8]
     ensures { result.now ≡ without_mark line text.now }
 {
     match text {
@@ -158,7 +158,7 @@ fn without_return(text: &[u8]) -> &[u8]
 fn bare(line: u32, text: &[u8]) -> &[u8]
     ensures { result.now ≡ bare_line line text.now }
 {
-    without_return(unmarked(line, text))
+    without_return(strip_bom(line, text))
 }
 
 /// The words of a text, up to its end or to a line `end`. What stands behind a line with a fault is read too.
@@ -166,7 +166,7 @@ fn bare(line: u32, text: &[u8]) -> &[u8]
 /// # Errors
 /// Memory was refused.
 pub fn source_words(alloc: Global, source: &[u8]) -> Result<Vec<Token<'_>>, AllocError>
-    ensures says { IfOk result (λ words. all_said words.items ≡ all_in source.now) }
+    ensures says { IfOk result (λ words. token_contents words.items ≡ all_in source.now) }
     ensures columns { IfOk result (λ words. columns_of words.items ≡ columns_in source.now) }
 {
     let mut words = Vec::new(alloc);
@@ -190,7 +190,7 @@ pub fn source_words(alloc: Global, source: &[u8]) -> Result<Vec<Token<'_>>, Allo
 /// # Errors
 /// Memory was refused.
 pub fn words_up_to_fault(alloc: Global, source: &[u8]) -> Result<Vec<Token<'_>>, AllocError>
-    ensures { IfOk result (λ tokens. all_said tokens.items ≡ said_in source.now) }
+    ensures { IfOk result (λ tokens. token_contents tokens.items ≡ said_in source.now) }
 {
     let mut tokens = Vec::new(alloc);
     let mut rest = source;

@@ -1,7 +1,7 @@
 //! The words that stand for themselves.
 
 ghost use Rattle.std.specs.Prelude.{◌≡◌, ◌||◌, is_some, codes, bytes_eq};
-ghost use Rattle.ga_parser.specs.Vocabulary.{by_name, closings, other_names, own_names, without_address, opcode_in, control_in, directive_in, bound_of, range_of, is_a_number as is_number_in, is_sign as is_sign_word, is_taken as is_taken_word};
+ghost use Rattle.ga_parser.specs.Vocabulary.{by_name, closings, other_names, own_names, without_address, opcode_in, control_in, directive_in, bound_of, range_of, is_a_number as is_number_in, is_sign as is_sign_word, is_reserved as is_taken_word};
 
 use super::fault::NumberRange;
 use super::number::{Number, number_of};
@@ -71,7 +71,7 @@ fn without_address(op: Op) -> Option<Op>
 
 /// The opcode of a name, where the word is an opcode without an address.
 #[tactic(auto, unfolding(crate::specs::Vocabulary::opcode_in))]
-pub(crate) fn opcode_named(text: &[u8]) -> Option<Op>
+pub(crate) fn parse_opcode(text: &[u8]) -> Option<Op>
     ensures { result ≡ opcode_in text.now }
 {
     match other_name(text) {
@@ -85,14 +85,14 @@ pub(crate) fn opcode_named(text: &[u8]) -> Option<Op>
 
 /// Whether a word says something of itself, so that no label has this name: an opcode, a control word, a number, a port, or a
 /// word that goes before or behind a name or a value.
-#[tactic(auto, unfolding(crate::specs::Vocabulary::is_taken))]
-pub(crate) fn is_taken(text: &[u8]) -> bool
+#[tactic(auto, unfolding(crate::specs::Vocabulary::is_reserved))]
+pub(crate) fn is_reserved(text: &[u8]) -> bool
     ensures { result ≡ is_taken_word text.now }
 {
     is_opcode(text)
         || control_named(text).is_some()
         || is_number(number_of(text))
-        || directive_named(text).is_some()
+        || parse_directive(text).is_some()
         || is_sign(text)
 }
 
@@ -121,7 +121,7 @@ fn is_sign(text: &[u8]) -> bool
 fn is_opcode(text: &[u8]) -> bool
     ensures { result ≡ (is_some (opcode_in text.now) || bytes_eq text.now (codes "jump") || bytes_eq text.now (codes "call")) }
 {
-    opcode_named(text).is_some() || text == b"jump".as_slice() || text == b"call".as_slice()
+    parse_opcode(text).is_some() || text == b"jump".as_slice() || text == b"call".as_slice()
 }
 
 /// A word that asks for no opcode itself.
@@ -173,7 +173,7 @@ impl Register {
 
 /// The directive of a name.
 #[tactic(auto, unfolding(crate::specs::Vocabulary::directive_in))]
-pub fn directive_named(text: &[u8]) -> Option<Directive>
+pub fn parse_directive(text: &[u8]) -> Option<Directive>
     ensures { result ≡ directive_in text.now }
 {
     by_name!(text;

@@ -1,57 +1,57 @@
 -- From a session that says nothing to one whose answers are dropped.
 use Rattle.std.proofs.Common.{◌≡◌, Option, ℕ, List, [], ◌∷◌, ◌++◌, false, inl, inr, sym, ap, ◌∙◌, Result, Ok, Err, ◌≢◌, refl, subst, ◌-◌, length, ◌↔◌, Bool, true≢false, IsTrue, Some, arith}
-use Rattle.ga_explorer.specs.Opening.{Exploring, OpensFront, IsFront}
+use Rattle.ga_explorer.specs.Opening.{ExplorerState, OpensFront, IsFront}
 use Rattle.ga_console.specs.Run.{status_of}
 use Rattle.ga_console.specs.Session.{Answers, Script, Serves, Written, Answering, Turns}
-use Rattle.ga_console.specs.declared.commands.Ending.{Ending}
-use Rattle.ga_console.specs.declared.commands.Ending.TheVariants.{Ended, Quit, Past, ReadFailed}
-use Rattle.ga_text.specs.declared.output.WriteFailed.{WriteFailed}
+use Rattle.ga_console.specs.declared.commands.CommandsEnd.{CommandsEnd}
+use Rattle.ga_console.specs.declared.commands.CommandsEnd.TheVariants.{Ended, Quit, Past, ReadFailed}
+use Rattle.ga_text.specs.declared.output.WriteError.{WriteError}
 use Rattle.ga_console.specs.declared.run.Status.TheVariants.{Done, StreamFault}
 use Rattle.ga_picture.specs.Following.{Hears, Follows, Declines, Followed, FollowsTo, IsShort}
 use Rattle.ga_picture.specs.inner.{HearsLine, Goes, Ends, Notes}
-use Rattle.ga_picture.specs.declared.silent.Silent.{Silent}
+use Rattle.ga_picture.specs.declared.silent.SilentSession.{SilentSession}
 use Rattle.ga_lab.specs.declared.fault.LabFault.TheVariants.{Memory}
 use Rattle.ga_console.specs.declared.run.Status.{Status}
 use Rattle.ga_text.specs.Input.{input_limit}
 use Rattle.ga_picture.specs.Following.Unreached.{broken, short}
 use Rattle.std.proofs.lemmas.List.{append-nil}
 use Rattle.std.proofs.lemmas.Option.{same_Some}
-use Rattle.ga_text.specs.Output.{IsSaid}
-use Rattle.ga_console.specs.declared.responder.Turn.{Turn}
-use Rattle.ga_console.specs.declared.responder.Turn.TheVariants as turns
+use Rattle.ga_text.specs.Output.{IsWritten}
+use Rattle.ga_console.specs.declared.responder.LineAction.{LineAction}
+use Rattle.ga_console.specs.declared.responder.LineAction.TheVariants as turns
 use Rattle.ga_explorer.specs.Answers.{Explores}
 
 -- ---- from a session that says nothing to one whose answers are dropped
 
 -- how such a session answers a line
-abbrev pub Silently : Silent → List ℕ → List ℕ → Silent → Type 0
+abbrev pub Silently : SilentSession → List ℕ → List ℕ → SilentSession → Type 0
 Silently m line said new = HearsLine m.explorer m.short line said new.explorer new.short
 
-answers_heard : (m : Silent) (lines : List (List ℕ)) (text : List ℕ) (last : Silent) → Answers Silently m lines text last → Answers Hears m.explorer lines text last.explorer
-answers_heard m [] text last h = (h.0, ap (λ (x : Silent). x.explorer) h.1)
+answers_heard : (m : SilentSession) (lines : List (List ℕ)) (text : List ℕ) (last : SilentSession) → Answers Silently m lines text last → Answers Hears m.explorer lines text last.explorer
+answers_heard m [] text last h = (h.0, ap (λ (x : SilentSession). x.explorer) h.1)
 answers_heard m (line ∷ lines) text last h =
     (h.0, h.1.explorer, h.2, (h.3.0, h.3.1, h.3.2), answers_heard h.1 lines h.2 last h.4, h.5)
 
 -- where no want of memory is noted at the end, there was none
-answers_follow : (m : Silent) (lines : List (List ℕ)) (text : List ℕ) (last : Silent) → last.short ≡ false → Answers Silently m lines text last
+answers_follow : (m : SilentSession) (lines : List (List ℕ)) (text : List ℕ) (last : SilentSession) → last.short ≡ false → Answers Silently m lines text last
     → (m.short ≡ false) × Answers Follows m.explorer lines text last.explorer
-answers_follow m [] text last e h = (sym (ap (λ (x : Silent). x.short) h.1) ∙ e, (h.0, ap (λ (x : Silent). x.explorer) h.1))
+answers_follow m [] text last e h = (sym (ap (λ (x : SilentSession). x.short) h.1) ∙ e, (h.0, ap (λ (x : SilentSession). x.explorer) h.1))
 answers_follow m (line ∷ lines) text last e h =
     let rest = answers_follow h.1 lines h.2 last e h.4 in
     let noted = h.3.3 rest.0 in
     (noted.0, (h.0, h.1.explorer, h.2, (h.3.0, h.3.1, h.3.2, noted.1), rest.1, h.5))
 
-nothing_said : (s : Exploring) (lines : List (List ℕ)) (text : List ℕ) (last : Exploring) → Answers Hears s lines text last → text ≡ []
+nothing_said : (s : ExplorerState) (lines : List (List ℕ)) (text : List ℕ) (last : ExplorerState) → Answers Hears s lines text last → text ≡ []
 nothing_said s [] text last h = h.0
 nothing_said s (line ∷ lines) text last h =
     h.5 ∙ ap (λ (t : List ℕ). t ++ h.2) h.3.0 ∙ nothing_said h.1 lines h.2 last h.4
 
-script_heard : (room : ℕ) (m : Silent) (read : List ℕ) (lines : List (List ℕ)) (text : List ℕ) (last : Silent) → Script Silently room m read lines text last
+script_heard : (room : ℕ) (m : SilentSession) (read : List ℕ) (lines : List (List ℕ)) (text : List ℕ) (last : SilentSession) → Script Silently room m read lines text last
     → Script Hears room m.explorer read lines text last.explorer
 script_heard room m read lines text last (inl h) = inl (answers_heard m lines text last h)
 script_heard room m read lines text last (inr h) = inr (h.0, h.1, h.2, answers_heard m lines h.2 last h.3, h.4)
 
-pub serves_heard : (room : ℕ) (m : Silent) (read rest text : List ℕ) (last : Silent) (ending : Result Ending WriteFailed) → Serves Silently room m read rest text last ending
+pub serves_heard : (room : ℕ) (m : SilentSession) (read rest text : List ℕ) (last : SilentSession) (ending : Result CommandsEnd WriteError) → Serves Silently room m read rest text last ending
     → Serves Hears room m.explorer read rest text last.explorer ending
 serves_heard room m read rest text last (Ok Ended) h = record {
   within = h.within;
@@ -89,7 +89,7 @@ serves_heard room m read rest text last (Err failed) h = record {
 }
 
 -- up to the end of the input or to `quit` nothing is written
-pub serves_silent : (room : ℕ) (m : Silent) (read rest text : List ℕ) (last : Silent) (ending : Result Ending WriteFailed) → status_of ending ≡ Done
+pub serves_silent : (room : ℕ) (m : SilentSession) (read rest text : List ℕ) (last : SilentSession) (ending : Result CommandsEnd WriteError) → status_of ending ≡ Done
     → Serves Silently room m read rest text last ending → text ≡ []
 serves_silent room m read rest text last (Ok Ended) e h = nothing_said m.explorer _ text last.explorer (answers_heard m _ text last h.answers)
 serves_silent room m read rest text last (Ok Quit) e h = nothing_said m.explorer _ text last.explorer (answers_heard m _ text last h.answers)
@@ -97,7 +97,7 @@ serves_silent room m read rest text last (Ok Past) e h = cc
 serves_silent room m read rest text last (Ok ReadFailed) e h = cc
 serves_silent room m read rest text last (Err failed) e h = cc
 
-pub serves_follow : (room : ℕ) (m : Silent) (read rest text : List ℕ) (last : Silent) (ending : Result Ending WriteFailed) → status_of ending ≡ Done → last.short ≡ false
+pub serves_follow : (room : ℕ) (m : SilentSession) (read rest text : List ℕ) (last : SilentSession) (ending : Result CommandsEnd WriteError) → status_of ending ≡ Done → last.short ≡ false
     → Serves Silently room m read rest text last ending → Serves Follows room m.explorer read rest text last.explorer ending
 serves_follow room m read rest text last (Ok Ended) e none h = record {
   within = h.within;
@@ -119,19 +119,19 @@ serves_follow room m read rest text last (Err failed) e none h = cc
 
 -- ---- where a session that says nothing comes to
 
-sent_none : (ending : Result Ending WriteFailed) (said sent : List ℕ) → status_of ending ≡ Done → said ≡ [] → Written ending said sent → sent ≡ []
+sent_none : (ending : Result CommandsEnd WriteError) (said sent : List ℕ) → status_of ending ≡ Done → said ≡ [] → Written ending said sent → sent ≡ []
 sent_none (Ok done) said sent e none written = written ∙ none
 sent_none (Err failed) said sent e none written = cc
 
 -- to the end of the input or to `quit`
-pub goes_ended : (room : ℕ) (m : Silent) (read rest said sent : List ℕ) (last : Silent) (ending : Result Ending WriteFailed) → status_of ending ≡ Done
+pub goes_ended : (room : ℕ) (m : SilentSession) (read rest said sent : List ℕ) (last : SilentSession) (ending : Result CommandsEnd WriteError) → status_of ending ≡ Done
     → Serves Silently room m read rest said last ending → Written ending said sent
-    → (text : List ℕ) (result : Result Exploring Status) → Ends last.explorer last.short text result → Goes room m.explorer read rest (sent ++ text) result
+    → (text : List ℕ) (result : Result ExplorerState Status) → Ends last.explorer last.short text result → Goes room m.explorer read rest (sent ++ text) result
 goes_ended room m read rest said sent last ending e serves written text (Ok s) ends =
     let quiet : said ≡ [] = serves_silent room m read rest said last ending e serves in
     let none : sent ≡ [] = sent_none ending said sent e quiet written in
     let P : List ℕ → Type 0 = λ t. Serves Follows room m.explorer read rest t last.explorer ending in
-    let Q : Exploring → Type 0 = λ z. Serves Follows room m.explorer read rest [] z ending in (
+    let Q : ExplorerState → Type 0 = λ z. Serves Follows room m.explorer read rest [] z ending in (
       ap (λ (t : List ℕ). t ++ text) none ∙ ends.2,
       ending,
       e,
@@ -148,13 +148,13 @@ goes_ended room m read rest said sent last ending e serves written text (Err sta
     )
 
 -- not so far
-pub goes_broken : (room : ℕ) (m : Silent) (read rest said sent : List ℕ) (last : Silent) (ending : Result Ending WriteFailed) → status_of ending ≡ StreamFault
+pub goes_broken : (room : ℕ) (m : SilentSession) (read rest said sent : List ℕ) (last : SilentSession) (ending : Result CommandsEnd WriteError) → status_of ending ≡ StreamFault
     → Serves Silently room m read rest said last ending → Written ending said sent → Goes room m.explorer read rest sent (Err StreamFault)
 goes_broken room m read rest said sent last ending e serves written =
     (last.explorer, ending, inl (e, refl, said, serves_heard room m read rest said last ending serves, written))
 
 -- a session that isn't done ends by a fault of a stream
-pub stream_fault : (ending : Result Ending WriteFailed) → status_of ending ≢ Done → status_of ending ≡ StreamFault
+pub stream_fault : (ending : Result CommandsEnd WriteError) → status_of ending ≢ Done → status_of ending ≡ StreamFault
 stream_fault (Ok Ended) h = absurd (h refl)
 stream_fault (Ok Quit) h = absurd (h refl)
 stream_fault (Ok Past) h = refl
@@ -163,7 +163,7 @@ stream_fault (Err failed) h = refl
 
 -- ---- from the parts of a session whose answers are dropped to the whole
 
-followed_in : (A : Answering Exploring) (chip : Option (List ℕ)) (limit : ℕ) (text commands rest said written : List ℕ) (machine last : Exploring) (ending : Result Ending WriteFailed) → IsFront text (commands ++ rest)
+followed_in : (A : Answering ExplorerState) (chip : Option (List ℕ)) (limit : ℕ) (text commands rest said written : List ℕ) (machine last : ExplorerState) (ending : Result CommandsEnd WriteError) → IsFront text (commands ++ rest)
     → OpensFront chip text limit machine → Serves A (input_limit - length text) machine commands rest said last ending → Written ending said written
     → Followed A chip limit (text ++ commands) rest written last ending
 followed_in A chip limit text commands rest said written machine last ending front opens serves out = record {
@@ -179,12 +179,12 @@ followed_in A chip limit text commands rest said written machine last ending fro
 }
 
 -- where the input was followed to its end, all that was said was written: nothing
-written_none : (ending : Result Ending WriteFailed) → status_of ending ≡ Done → Written ending [] []
+written_none : (ending : Result CommandsEnd WriteError) → status_of ending ≡ Done → Written ending [] []
 written_none (Ok done) e = refl
 written_none (Err failed) e = cc
 
 -- after a text that opened a machine
-pub reaches_after : (chip : Option (List ℕ)) (limit : ℕ) (text commands rest written : List ℕ) (machine : Exploring) (result : Result Exploring Status) → IsFront text (commands ++ rest) → OpensFront chip text limit machine
+pub reaches_after : (chip : Option (List ℕ)) (limit : ℕ) (text commands rest written : List ℕ) (machine : ExplorerState) (result : Result ExplorerState Status) → IsFront text (commands ++ rest) → OpensFront chip text limit machine
     → Goes (input_limit - length text) machine commands rest written result → FollowsTo chip limit (text ++ commands) rest written result
 reaches_after chip limit text commands rest written machine (Ok last) front opens g =
     (g.0, g.1, g.2, followed_in Follows chip limit text commands rest [] [] machine last g.1 front opens g.3 (written_none g.1 g.2))
@@ -196,7 +196,7 @@ reaches_after chip limit text commands rest written machine (Err status) front o
 -- ---- answers that are dropped
 
 -- what was written of an answer of which nothing is pending is the answer
-pub heard_whole : (items answer pending : List ℕ) → IsSaid (Some items) [] answer pending → pending ≡ [] → items ≡ answer
+pub heard_whole : (items answer pending : List ℕ) → IsWritten (Some items) [] answer pending → pending ≡ [] → items ≡ answer
 heard_whole items answer pending h e =
     same_Some items h.sent h.held ∙ sym (h.splits ∙ ap (λ (t : List ℕ). h.sent ++ t) e ∙ append-nil h.sent)
 
@@ -212,13 +212,13 @@ nothing_short (inr e) = absurd (omega (arith, ap length e))
 pub quiet_notes : (wanting : Bool) (answer : List ℕ) → answer ≡ [] → Notes wanting answer wanting
 quiet_notes wanting answer e same = (same, λ told. nothing_short (subst IsShort e told))
 
-same_silent : (m n : Silent) → n.explorer ≡ m.explorer → n.short ≡ m.short → n ≡ m
+same_silent : (m n : SilentSession) → n.explorer ≡ m.explorer → n.short ≡ m.short → n ≡ m
 same_silent m n e f =
-    let A : Exploring → Silent = λ s. record { explorer = s; short = n.short } in
-    let B : Bool → Silent = λ b. record { explorer = m.explorer; short = b } in
+    let A : ExplorerState → SilentSession = λ s. record { explorer = s; short = n.short } in
+    let B : Bool → SilentSession = λ b. record { explorer = m.explorer; short = b } in
     ap A e ∙ ap B f
 
-pub silent_turn : (m n : Silent) (line answer : List ℕ) (turn : Turn) → Turns Explores m.explorer line n.explorer (Ok turn) answer → Notes m.short answer n.short
+pub silent_turn : (m n : SilentSession) (line answer : List ℕ) (turn : LineAction) → Turns Explores m.explorer line n.explorer (Ok turn) answer → Notes m.short answer n.short
     → (turn ≡ turns.Quit → n.short ≡ m.short) → Turns Silently m line n (Ok turn) []
 silent_turn m n line answer turns.Answered h noted ends = λ part kept. ((refl, answer, (h part kept).0, noted), (h part kept).1)
 silent_turn m n line answer turns.Quit h noted ends = (h.0, same_silent m n h.1 (ends refl), refl)

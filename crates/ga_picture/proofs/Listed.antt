@@ -19,7 +19,7 @@ use Rattle.std.proofs.lemmas.List.Elements.{All-map}
 use Rattle.std.proofs.lemmas.List.FromFn.{get_or-map-range_with_len, length-map-range_with_len}
 use Rattle.ga_picture.specs.declared.shade.Shade.{Shade}
 use Rattle.ga_picture.specs.declared.view.View.{View}
-use Rattle.ga_picture.specs.declared.by_itself.ByItself.{ByItself}
+use Rattle.ga_picture.specs.declared.independent.IndependentNode.{IndependentNode}
 use Rattle.ga_picture.specs.Picture.{place_for, start_in, end_in, known_of, items_in}
 use Rattle.ga_picture.specs.inner.{known_by, AreListed, AreItemsOf, IsHeld}
 
@@ -177,7 +177,7 @@ without_simple alone item h = simple (alone (actor item.cause.event)) item h whe
   simple true item h = λ e. absurd (true≢false (sym e))
   simple false item h = h
 
-pub items_drawn : (events : List Cause) (ready idle : ℕ → Bool) (view : View) (shades list : List Shade) (cause rewind : Option ℕ) (from to : ℕ) (items : List PictureItem) (told : List ByItself)
+pub items_drawn : (events : List Cause) (ready idle : ℕ → Bool) (view : View) (shades list : List Shade) (cause rewind : Option ℕ) (from to : ℕ) (items : List PictureItem) (told : List IndependentNode)
     → AreShades events cause rewind shades → list ≡ shades → cause ≡ place_for events view.cause → rewind ≡ place_for events view.rewind
     → from ≡ start_in events view → to ≡ end_in events view → AreListed (items_of (known_by events list ready idle cause rewind) view from to) items told
     → AreItemsOf events ready idle view items told
@@ -193,7 +193,7 @@ items_drawn events ready idle view shades list cause rewind from to items told a
       e;
 }
 
-pub drawn_few : (events : List Cause) (ready idle : ℕ → Bool) (view : View) (items : List PictureItem) (told : List ByItself) → AreItemsOf events ready idle view items told
+pub drawn_few : (events : List Cause) (ready idle : ℕ → Bool) (view : View) (items : List PictureItem) (told : List IndependentNode) → AreItemsOf events ready idle view items told
     → length items ≤ length events
 drawn_few events ready idle view items told a =
     let known = known_of events ready idle view a.shades in
@@ -204,7 +204,7 @@ drawn_few events ready idle view items told a =
     let within : end_in events view ≤ length events = omega arith in
     omega arith
 
-pub drawn_simple : (events : List Cause) (ready idle : ℕ → Bool) (view : View) (items : List PictureItem) (told : List ByItself) → AreItemsOf events ready idle view items told
+pub drawn_simple : (events : List Cause) (ready idle : ℕ → Bool) (view : View) (items : List PictureItem) (told : List IndependentNode) → AreItemsOf events ready idle view items told
     → All IsSimple items
 drawn_simple events ready idle view items told a =
     let looked = items_in events ready idle view a.shades in

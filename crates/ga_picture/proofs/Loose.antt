@@ -17,7 +17,7 @@ use Rattle.ga_event.specs.declared.event.Cause.{Cause}
 use Rattle.ga_event.specs.Touches.{nodes_of, looked_at, neighbours, seen_by}
 use Rattle.ga_causal.specs.inner.{any_of}
 use Rattle.ga_causal.specs.Dependence.{cause_touches, is_a_pass, is_marked}
-use Rattle.ga_causal.specs.Equivalence.{sees}
+use Rattle.ga_causal.specs.Equivalence.{observes}
 use Rattle.ga_causal.proofs.Oldest.{any_neighbours}
 use Rattle.ga_picture.specs.declared.item.PictureItem.{PictureItem}
 use Rattle.ga_picture.specs.Items.{at_place, no_item}
@@ -26,8 +26,8 @@ use Rattle.ga_picture.specs.inner.{IsHeld, is_on, is_look, touched_in, held_in, 
 use Rattle.ga_picture.proofs.Shaded.{any_of_one, any_at}
 use Rattle.ga_picture.proofs.Listed.{touched_below}
 use Rattle.std.proofs.lemmas.List.FromFn.{filter_of_map_range_with_len_more}
-use Rattle.ga_picture.specs.declared.by_itself.ByItself.{ByItself}
-use Rattle.ga_picture.specs.declared.by_itself.Tally.{Tally}
+use Rattle.ga_picture.specs.declared.independent.IndependentNode.{IndependentNode}
+use Rattle.ga_picture.specs.declared.independent.NodeActivity.{NodeActivity}
 
 -- ---- neighbours
 
@@ -101,11 +101,11 @@ seen_from e (Own node) true n is l t = record {
 seen_from e (Own node) false n is l t = absurd (both_ways false refl t)
 seen_from e (Pass w r side) look n is l t = absurd (both_ways false refl t)
 
-sees_parts : (e : Cause) (n : ℕ) → sees e n ≡ (cause_touches e n || list_any (λ k. k == n) (looked_at e.event e.look))
+sees_parts : (e : Cause) (n : ℕ) → observes e n ≡ (cause_touches e n || list_any (λ k. k == n) (looked_at e.event e.look))
 unfolding seen_by
 sees_parts e n = list_any-append (λ k. k == n) (nodes_of e.event) (looked_at e.event e.look)
 
-is_seen : (e : Cause) (n : ℕ) → sees e n ≡ true → cause_touches e n ≡ false → IsSeen e n
+is_seen : (e : Cause) (n : ℕ) → observes e n ≡ true → cause_touches e n ≡ false → IsSeen e n
 is_seen e n s f = ⊎_elim (λ t. absurd (both_ways (cause_touches e n) f t)) (λ t. seen_from e e.event e.look n refl refl t)
     (or_cases _ _ (sym (sees_parts e n) ∙ s))
 
@@ -117,7 +117,7 @@ looks_at (Own node) true n m l t b =
 looks_at (Own node) false n m l t b = absurd (both_ways false refl l)
 looks_at (Pass w r side) look n m l t b = absurd (both_ways false refl l)
 
-sees_beside : (e : Cause) (n m : ℕ) → (not (is_a_pass e.event) && e.look) ≡ true → cause_touches e n ≡ true → list_any (λ k. k == m) (neighbours n) ≡ true → sees e m ≡ true
+sees_beside : (e : Cause) (n m : ℕ) → (not (is_a_pass e.event) && e.look) ≡ true → cause_touches e n ≡ true → list_any (λ k. k == m) (neighbours n) ≡ true → observes e m ≡ true
 sees_beside e n m l t b = sees_parts e m ∙ or_right _ _ (looks_at e.event e.look n m l t b)
 
 -- ---- one event of a list
@@ -211,7 +211,7 @@ free_from items n held t =
           record {
             first = λ m at s.
                 let here : m ≡ n = own_alone e.event n m own o.touched at in
-                let k = is_seen f n (subst (λ z. sees f z ≡ true) here s) off in
+                let k = is_seen f n (subst (λ z. observes f z ≡ true) here s) off in
                 let looker : IsDrawnOf items by k.from = record { within = q.within; drawn = q.drawn; touched = k.touched } in
                 both_ways _ u.unseen (any_of_one (looking_in items) k.from (looking_of items by k.from looker k.looks) (neighbours n) (beside_back k.from n k.within k.beside));
             second = λ m at s.
@@ -262,7 +262,7 @@ any_alike : (p q : ℕ → Bool) → ((n : ℕ) → p n ≡ q n) → (ns : List 
 any_alike p q e [] = refl
 any_alike p q e (n ∷ ns) = ap (λ z. z || list_any p ns) (e n) ∙ ap (λ z. q n || z) (any_alike p q e ns)
 
-loose_alike : (items : List PictureItem) (tally : Tally) → AreTallied items tally → (n : ℕ)
+loose_alike : (items : List PictureItem) (tally : NodeActivity) → AreTallied items tally → (n : ℕ)
     → is_loose (is_marked tally.touched) (is_marked tally.held) (is_marked tally.looking) n ≡ loose_in items n
 loose_alike items tally a n =
     let on = any_alike (is_marked tally.touched) (touched_in items) a.touched (neighbours n) in
@@ -275,18 +275,18 @@ loose_alike items tally a n =
 touched_small : (items : List PictureItem) (n : ℕ) → IsTouched items n → n < 144
 touched_small items n t = touched_below (at_place items t.place).cause.event n t.touched
 
-joined_not_free : (items : List PictureItem) (tally : Tally) (n : ℕ) → AreTallied items tally → All IsHeld items → works_joined tally n ≡ true → IsTouched items n × (¬ IsFree items n)
+joined_not_free : (items : List PictureItem) (tally : NodeActivity) (n : ℕ) → AreTallied items tally → All IsHeld items → works_joined tally n ≡ true → IsTouched items n × (¬ IsFree items n)
 joined_not_free items tally n a held t =
     let parts = and_parts _ _ t in
     let touched = touched_from items n (sym (a.touched n) ∙ parts.0) in
     (touched, λ free. both_ways _ (not-true _ parts.1) (loose_alike items tally a n ∙ loose_from items n held touched free))
 
-not_free_joined : (items : List PictureItem) (tally : Tally) (n : ℕ) → AreTallied items tally → All IsHeld items → IsTouched items n → (¬ IsFree items n) → works_joined tally n ≡ true
+not_free_joined : (items : List PictureItem) (tally : NodeActivity) (n : ℕ) → AreTallied items tally → All IsHeld items → IsTouched items n → (¬ IsFree items n) → works_joined tally n ≡ true
 not_free_joined items tally n a held touched stays =
     and_from _ _ (a.touched n ∙ into_touched items n touched)
     (not_from_false _ (false_from_ne_true _ (λ t. stays (free_from items n held (sym (loose_alike items tally a n) ∙ t)))))
 
-pub alone_joined : (items : List PictureItem) (tally : Tally) (flags : List Bool) → AreTallied items tally → All IsHeld items → HasJoined tally → length flags ≡ 144
+pub alone_joined : (items : List PictureItem) (tally : NodeActivity) (flags : List Bool) → AreTallied items tally → All IsHeld items → HasJoined tally → length flags ≡ 144
     → ((n : ℕ) → n < 144 → is_marked flags n ≡ works_loose tally n) → (n : ℕ) → IsTrue (is_marked flags n) ↔ IsByItself items n
 alone_joined items tally flags a held j size e n = (
   λ t. ⊎_elim (λ l.
@@ -305,7 +305,7 @@ alone_joined items tally flags a held j size e n = (
       ∙ and_from _ _ (a.touched n ∙ into_touched items n b.works) (loose_alike items tally a n ∙ loose_from items n held b.works b.free),
 )
 
-pub alone_none : (items : List PictureItem) (tally : Tally) (flags : List Bool) → AreTallied items tally → All IsHeld items → ((n : ℕ) → n < 144 → works_joined tally n ≡ false)
+pub alone_none : (items : List PictureItem) (tally : NodeActivity) (flags : List Bool) → AreTallied items tally → All IsHeld items → ((n : ℕ) → n < 144 → works_joined tally n ≡ false)
     → ((n : ℕ) → is_marked flags n ≡ false) → (n : ℕ) → IsTrue (is_marked flags n) ↔ IsByItself items n
 alone_none items tally flags a held none off n = (
   λ t. absurd (both_ways _ (off n) t),
@@ -314,21 +314,21 @@ alone_none items tally flags a held none off n = (
 
 -- ---- what the foot has of them
 
-abbrev told_at : List PictureItem → ℕ → ByItself
+abbrev told_at : List PictureItem → ℕ → IndependentNode
 told_at items n = record { node = node_id n; steps = steps_made items n }
 
 -- of the nodes below a number
-abbrev pub told_below : List PictureItem → (ℕ → Bool) → ℕ → List ByItself
-told_below items alone k = filter (λ (it : ByItself). alone it.node.number) (map (told_at items) (range_with_len 0 k))
+abbrev pub told_below : List PictureItem → (ℕ → Bool) → ℕ → List IndependentNode
+told_below items alone k = filter (λ (it : IndependentNode). alone it.node.number) (map (told_at items) (range_with_len 0 k))
 
 told_next : (items : List PictureItem) (alone : ℕ → Bool) (k : ℕ) → k < 144
     → told_below items alone (k + 1) ≡ told_below items alone k ++ (if alone k then told_at items k ∷ [] else [])
 told_next items alone k l =
     let small : k % 144 ≡ k = omega arith in
-    filter_of_map_range_with_len_more (λ (it : ByItself). alone it.node.number) (told_at items) 0 k k (omega arith)
+    filter_of_map_range_with_len_more (λ (it : IndependentNode). alone it.node.number) (told_at items) 0 k k (omega arith)
     ∙ ap (λ z. told_below items alone k ++ (if alone z then told_at items k ∷ [] else [])) small
 
-pub told_more : (items : List PictureItem) (alone : ℕ → Bool) (told : List ByItself) (k steps : ℕ) (node : NodeId) → k < 144 → node.number ≡ k → steps ≡ steps_made items k → alone k ≡ true
+pub told_more : (items : List PictureItem) (alone : ℕ → Bool) (told : List IndependentNode) (k steps : ℕ) (node : NodeId) → k < 144 → node.number ≡ k → steps ≡ steps_made items k → alone k ≡ true
     → told ≡ told_below items alone k → told ++ record { node = node; steps = steps } ∷ [] ≡ told_below items alone (k + 1)
 told_more items alone told k steps node l is many t e =
     let named : node ≡ node_id k = sym (node_id-number node) ∙ ap node_id is in
@@ -336,9 +336,9 @@ told_more items alone told k steps node l is many t e =
     ∙ ap (λ z. told_below items alone k ++ record { node = node_id k; steps = z } ∷ []) many
     ∙ ap (λ b. told_below items alone k ++ (if b then told_at items k ∷ [] else [])) (sym t) ∙ sym (told_next items alone k l)
 
-pub told_same : (items : List PictureItem) (alone : ℕ → Bool) (told : List ByItself) (k : ℕ) → k < 144 → alone k ≡ false → told ≡ told_below items alone k → told ≡ told_below items alone (k + 1)
+pub told_same : (items : List PictureItem) (alone : ℕ → Bool) (told : List IndependentNode) (k : ℕ) → k < 144 → alone k ≡ false → told ≡ told_below items alone k → told ≡ told_below items alone (k + 1)
 told_same items alone told k l f e =
     e ∙ sym (append_none (told_below items alone k)) ∙ ap (λ b. told_below items alone k ++ (if b then told_at items k ∷ [] else [])) (sym f) ∙ sym (told_next items alone k l) where
-      append_none : (xs : List ByItself) → xs ++ [] ≡ xs
+      append_none : (xs : List IndependentNode) → xs ++ [] ≡ xs
       append_none [] = refl
       append_none (x ∷ xs) = ap (λ z. x ∷ z) (append_none xs)

@@ -9,7 +9,7 @@ use Rattle.ga_event.specs.declared.event.Event.TheVariants.{Own, Pass}
 use Rattle.ga_event.specs.declared.event.Cause.{Cause}
 use Rattle.ga_event.specs.Touches.{seen_by}
 use Rattle.ga_causal.specs.Dependence.{cause_touches, is_a_pass}
-use Rattle.ga_causal.specs.Equivalence.{sees}
+use Rattle.ga_causal.specs.Equivalence.{observes}
 use Rattle.ga_picture.specs.declared.shade.Shade.{Shade}
 use Rattle.ga_picture.specs.declared.shade.Shade.TheVariants.{Black, Grey, Red}
 use Rattle.ga_picture.specs.declared.item.PictureItem.{PictureItem}
@@ -112,7 +112,7 @@ touches_alone : (event : Event) (n : ℕ) → is_a_pass event ≡ false → caus
 touches_alone (Own node) n e = or_false (node.number == n)
 touches_alone (Pass writer reader side) n e = absurd (true≢false e)
 
-sees_alone : (event : Event) (n : ℕ) → is_a_pass event ≡ false → sees (record { event = event; look = false }) n ≡ (actor event == n)
+sees_alone : (event : Event) (n : ℕ) → is_a_pass event ≡ false → observes (record { event = event; look = false }) n ≡ (actor event == n)
 unfolding seen_by
 sees_alone (Own node) n e = or_false (node.number == n)
 sees_alone (Pass writer reader side) n e = absurd (true≢false e)
@@ -123,8 +123,8 @@ cause_alone e h = ap (λ (b : Bool). let cause : Cause = record { event = e.even
 simple_touches : (item : PictureItem) (n : ℕ) → is_a_pass item.cause.event ≡ false → item.cause.look ≡ false → cause_touches item.cause n ≡ (actor item.cause.event == n)
 simple_touches item n p l = ap (λ (e : Cause). cause_touches e n) (cause_alone item.cause l) ∙ touches_alone item.cause.event n p
 
-simple_sees : (item : PictureItem) (n : ℕ) → is_a_pass item.cause.event ≡ false → item.cause.look ≡ false → sees item.cause n ≡ (actor item.cause.event == n)
-simple_sees item n p l = ap (λ (e : Cause). sees e n) (cause_alone item.cause l) ∙ sees_alone item.cause.event n p
+simple_sees : (item : PictureItem) (n : ℕ) → is_a_pass item.cause.event ≡ false → item.cause.look ≡ false → observes item.cause n ≡ (actor item.cause.event == n)
+simple_sees item n p l = ap (λ (e : Cause). observes e n) (cause_alone item.cause l) ∙ sees_alone item.cause.event n p
 
 same_shade : (s t : Shade) → is_same_run s t ≡ true → s ≡ t
 same_shade Black Black e = refl
@@ -151,10 +151,10 @@ pub with_added : (runs more : Runs) (item : PictureItem) (m n : ℕ) (shade : Sh
 with_added runs more item m n shade sizes l k at simple plain counts shades =
     let alone = simple plain in
     let touches : cause_touches item.cause n ≡ (m == n) = simple_touches item n alone.0 alone.1 ∙ ap (λ (z : ℕ). z == n) (sym at) in
-    let seen : sees item.cause n ≡ (m == n) = simple_sees item n alone.0 alone.1 ∙ ap (λ (z : ℕ). z == n) (sym at) in
+    let seen : observes item.cause n ≡ (m == n) = simple_sees item n alone.0 alone.1 ∙ ap (λ (z : ℕ). z == n) (sym at) in
     let asked : run_with n shade item (count_in runs n shade) ≡ step_by true (m == n) (is_same_run item.shade shade) (m == n) (count_in runs n shade) =
-    ap (λ (b : Bool). step_by b (cause_touches item.cause n) (is_same_run item.shade shade) (sees item.cause n) (count_in runs n shade)) plain
-    ∙ ap (λ (b : Bool). step_by true b (is_same_run item.shade shade) (sees item.cause n) (count_in runs n shade)) touches
+    ap (λ (b : Bool). step_by b (cause_touches item.cause n) (is_same_run item.shade shade) (observes item.cause n) (count_in runs n shade)) plain
+    ∙ ap (λ (b : Bool). step_by true b (is_same_run item.shade shade) (observes item.cause n) (count_in runs n shade)) touches
     ∙ ap (λ (b : Bool). step_by true (m == n) (is_same_run item.shade shade) b (count_in runs n shade)) seen in
     let wide : length runs.counts ≡ 144 = sizes.0 in
     let long : length runs.shades ≡ 144 = sizes.1 in
@@ -194,12 +194,12 @@ both_ended false false k = refl
 
 -- runs end
 pub with_ended : (runs more : Runs) (item : PictureItem) (n : ℕ) (shade : Shade) → item.plain ≡ false → more.shades ≡ runs.shades
-    → get_or more.counts n 0 ≡ (if sees item.cause n then 0 else get_or runs.counts n 0) → count_in more n shade ≡ run_with n shade item (count_in runs n shade)
+    → get_or more.counts n 0 ≡ (if observes item.cause n then 0 else get_or runs.counts n 0) → count_in more n shade ≡ run_with n shade item (count_in runs n shade)
 with_ended runs more item n shade plain shades counts =
     ap (λ (z : List Shade). if is_same_run (get_or z n Black) shade then get_or more.counts n 0 else 0) shades
     ∙ ap (λ (z : ℕ). if is_same_run (get_or runs.shades n Black) shade then z else 0) counts
-    ∙ both_ended (is_same_run (get_or runs.shades n Black) shade) (sees item.cause n) (get_or runs.counts n 0)
-    ∙ sym (ap (λ (b : Bool). step_by b (cause_touches item.cause n) (is_same_run item.shade shade) (sees item.cause n) (count_in runs n shade)) plain)
+    ∙ both_ended (is_same_run (get_or runs.shades n Black) shade) (observes item.cause n) (get_or runs.counts n 0)
+    ∙ sym (ap (λ (b : Bool). step_by b (cause_touches item.cause n) (is_same_run item.shade shade) (observes item.cause n) (count_in runs n shade)) plain)
 
 none_past : (n : ℕ) → 144 ≤ n → get_or (replicate 144 0) n 0 ≤ 0
 none_past n g =
@@ -237,13 +237,13 @@ within_added runs more m shade bound sizes l h e = λ n.
 pub record AreEnded (old now : Runs) (e : Cause) (number : ℕ) : Type 0 where
   pub sizes : HasNodes now
   pub shades : now.shades ≡ old.shades
-  pub done : (n : ℕ) → n < number → get_or now.counts n 0 ≡ (if sees e n then 0 else get_or old.counts n 0)
+  pub done : (n : ℕ) → n < number → get_or now.counts n 0 ≡ (if observes e n then 0 else get_or old.counts n 0)
   pub left : (n : ℕ) → number ≤ n → get_or now.counts n 0 ≡ get_or old.counts n 0
 
 pub ended_none : (runs : Runs) (e : Cause) → HasNodes runs → AreEnded runs runs e 0
 ended_none runs e sizes = record { sizes = sizes; shades = refl; done = λ n l. absurd (omega (arith, l)); left = λ n l. refl }
 
-pub ended_one : (old now more : Runs) (e : Cause) (number : ℕ) → number < 144 → AreEnded old now e number → sees e number ≡ true → more.counts ≡ set now.counts number 0
+pub ended_one : (old now more : Runs) (e : Cause) (number : ℕ) → number < 144 → AreEnded old now e number → observes e number ≡ true → more.counts ≡ set now.counts number 0
     → more.shades ≡ now.shades → AreEnded old more e (number + 1)
 ended_one old now more e number l a seen counts shades =
     let wide : length now.counts ≡ 144 = a.sizes.0 in
@@ -251,21 +251,21 @@ ended_one old now more e number l a seen counts shades =
     record {
       sizes = (ap (λ (z : List ℕ). length z) counts ∙ set_size ∙ wide, ap (λ (z : List Shade). length z) shades ∙ a.sizes.1);
       shades = shades ∙ a.shades;
-      done = λ n k. ap (λ (z : List ℕ). get_or z n 0) counts ∙ elim (cases_eq n number) as (λ z. get_or (set now.counts number 0) n 0 ≡ (if sees e n then 0 else get_or old.counts n 0)) [
+      done = λ n k. ap (λ (z : List ℕ). get_or z n 0) counts ∙ elim (cases_eq n number) as (λ z. get_or (set now.counts number 0) n 0 ≡ (if observes e n then 0 else get_or old.counts n 0)) [
         | inl q ↦ get_or-set_at now.counts number n 0 0 q (omega arith)
-            ∙ sym (ap (λ (b : Bool). if b then 0 else get_or old.counts n 0) (ap (sees e) q ∙ seen))
+            ∙ sym (ap (λ (b : Bool). if b then 0 else get_or old.counts n 0) (ap (observes e) q ∙ seen))
         | inr ne ↦ get_or-set_other now.counts number n 0 0 ne ∙ a.done n (omega (arith, k, ne))
       ];
       left = λ n k. let ne : n ≡ number → ⊥ = λ q. absurd (omega (arith, q, k)) in ap (λ (z : List ℕ). get_or z n 0) counts ∙ get_or-set_other now.counts number n 0 0 ne
           ∙ a.left n (omega (arith, k));
     }
 
-pub ended_same : (old now : Runs) (e : Cause) (number : ℕ) → AreEnded old now e number → sees e number ≡ false → AreEnded old now e (number + 1)
+pub ended_same : (old now : Runs) (e : Cause) (number : ℕ) → AreEnded old now e number → observes e number ≡ false → AreEnded old now e (number + 1)
 ended_same old now e number a seen = record {
   sizes = a.sizes;
   shades = a.shades;
-  done = λ n k. elim (cases_eq n number) as (λ z. get_or now.counts n 0 ≡ (if sees e n then 0 else get_or old.counts n 0)) [
-    | inl q ↦ a.left n (omega (arith, q)) ∙ sym (ap (λ (b : Bool). if b then 0 else get_or old.counts n 0) (ap (sees e) q ∙ seen))
+  done = λ n k. elim (cases_eq n number) as (λ z. get_or now.counts n 0 ≡ (if observes e n then 0 else get_or old.counts n 0)) [
+    | inl q ↦ a.left n (omega (arith, q)) ∙ sym (ap (λ (b : Bool). if b then 0 else get_or old.counts n 0) (ap (observes e) q ∙ seen))
     | inr ne ↦ a.done n (omega (arith, k, ne))
   ];
   left = λ n k. a.left n (omega (arith, k));
@@ -276,7 +276,7 @@ ended_within old now e number bound a h = λ n. ⊎_elim
     (λ l. subst (λ (z : ℕ). z ≤ bound) (sym (a.done n l)) (⊎_elim
     (λ t. subst (λ (b : Bool). (if b then 0 else get_or old.counts n 0) ≤ bound) (sym t) (omega arith))
     (λ f. subst (λ (b : Bool). (if b then 0 else get_or old.counts n 0) ≤ bound) (sym f) (h n))
-    (cases_Bool (sees e n))))
+    (cases_Bool (observes e n))))
     (λ g. subst (λ (z : ℕ). z ≤ bound) (sym (a.left n g)) (h n))
     (cases_lt n number)
 

@@ -7,7 +7,7 @@ use Rattle.std.proofs.lemmas.List.{length-replicate}
 use Rattle.ga_event.specs.declared.event.Cause.{Cause}
 use Rattle.ga_event.specs.Touches.{seen_by}
 use Rattle.ga_causal.specs.Dependence.{cause_nodes, cause_touches, event_at, IsDirect, DependsOn, itself, through}
-use Rattle.ga_causal.specs.Equivalence.{sees}
+use Rattle.ga_causal.specs.Equivalence.{observes}
 use Rattle.ga_causal.proofs.Oldest.{none_marked, DependsOn-order as ordered}
 use Rattle.std.proofs.lemmas.Option.{same_Some, slice_get_within}
 use Rattle.std.proofs.lemmas.Grind.{get_or-set_at}
@@ -54,7 +54,7 @@ pub record IsWanted (es : List Cause) (last at n : ℕ) : Type 0 where
   pub middle : ℕ
   pub behind : at ≤ middle
   pub depends : DependsOn es middle last
-  pub seen : sees (event_at es middle) n ≡ true
+  pub seen : observes (event_at es middle) n ≡ true
 
 -- what holds once the events from a place on are looked at
 pub record AreGrounds (es : List Cause) (last at : ℕ) (flags : List Bool) (marks : ℕ → Bool) : Type 0 where
@@ -89,7 +89,7 @@ depends_met es last at flags marks under g d = ⊎_elim
     (first_link es at last d)
 
 -- the last one is a ground of itself
-pub grounds_first : (es : List Cause) (last : ℕ) (marks : ℕ → Bool) → last < length es → ((n : ℕ) → marks n ≡ sees (event_at es last) n) → AreGrounds es last last (set (replicate (length es) false) last true) marks
+pub grounds_first : (es : List Cause) (last : ℕ) (marks : ℕ → Bool) → last < length es → ((n : ℕ) → marks n ≡ observes (event_at es last) n) → AreGrounds es last last (set (replicate (length es) false) last true) marks
 grounds_first es last marks l m =
     let size : length (replicate (length es) false) ≡ length es = length-replicate (length es) false in
     let within : last < length (replicate (length es) false) = omega arith in
@@ -105,11 +105,11 @@ grounds_first es last marks l m =
       ahead = λ j u. get_or-set_other (replicate (length es) false) last j true false (λ e. omega (arith, e)) ∙ none_marked (length es) j;
       into = λ n t. record { middle = last; behind = omega arith; depends = itself; seen = sym (m n) ∙ t };
       back = λ n w. let same : w.middle ≡ last = omega (arith, w.behind, ordered es w.middle last w.depends) in
-          m n ∙ subst (λ z. sees (event_at es z) n ≡ true) same w.seen;
+          m n ∙ subst (λ z. observes (event_at es z) n ≡ true) same w.seen;
     }
 
 -- one event more, which touches a wanted node
-pub grounds_met : (es : List Cause) (last at : ℕ) (flags : List Bool) (marks more : ℕ → Bool) → last < length es → at < last → AreGrounds es last (at + 1) flags marks → list_any marks (cause_nodes (event_at es at)) ≡ true → ((n : ℕ) → more n ≡ (marks n || sees (event_at es at) n)) → AreGrounds es last at (set flags at true) more
+pub grounds_met : (es : List Cause) (last at : ℕ) (flags : List Bool) (marks more : ℕ → Bool) → last < length es → at < last → AreGrounds es last (at + 1) flags marks → list_any marks (cause_nodes (event_at es at)) ≡ true → ((n : ℕ) → more n ≡ (marks n || observes (event_at es at) n)) → AreGrounds es last at (set flags at true) more
 grounds_met es last at flags marks more l u g t m =
     let here : DependsOn es at last = met_depends es last at flags marks l g t in
     let size : length flags ≡ length es = g.size in
@@ -124,10 +124,10 @@ grounds_met es last at flags marks more l u g t m =
       into = λ n s. ⊎_elim
           (λ v. let w = g.into n v in record { middle = w.middle; behind = omega (arith, w.behind); depends = w.depends; seen = w.seen })
           (λ v. record { middle = at; behind = omega arith; depends = here; seen = v })
-          (or_cases (marks n) (sees (event_at es at) n) (sym (m n) ∙ s));
+          (or_cases (marks n) (observes (event_at es at) n) (sym (m n) ∙ s));
       back = λ n w. m n ∙ elim (cases_eq w.middle at) [
-        | inl e ↦ or_right (marks n) (sees (event_at es at) n) (subst (λ z. sees (event_at es z) n ≡ true) e w.seen)
-        | inr ne ↦ or_left (marks n) (sees (event_at es at) n) (g.back n (record { middle = w.middle; behind = omega (arith, w.behind, ne); depends = w.depends; seen = w.seen }))
+        | inl e ↦ or_right (marks n) (observes (event_at es at) n) (subst (λ z. observes (event_at es z) n ≡ true) e w.seen)
+        | inr ne ↦ or_left (marks n) (observes (event_at es at) n) (g.back n (record { middle = w.middle; behind = omega (arith, w.behind, ne); depends = w.depends; seen = w.seen }))
       ];
     }
 

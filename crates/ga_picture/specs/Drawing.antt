@@ -15,8 +15,8 @@ use Rattle.ga_picture.specs.declared.placing.Drawing.{Drawing}
 use Rattle.ga_picture.specs.declared.item.PictureItem.{PictureItem}
 use Rattle.ga_picture.specs.Items.{at_place, steps_at, rows_in, actor}
 use Rattle.ga_grid.specs.Grid.{node_id}
-use Rattle.ga_causal.specs.Equivalence.{AreApart}
-use Rattle.ga_picture.specs.declared.by_itself.ByItself.{ByItself}
+use Rattle.ga_causal.specs.Equivalence.{AreIndependent}
+use Rattle.ga_picture.specs.declared.independent.IndependentNode.{IndependentNode}
 
 -- ---- what is drawn
 
@@ -113,7 +113,7 @@ pub record IsDrawnOf (items : List PictureItem) (place node : ℕ) : Type 0 wher
 pub record IsFree (items : List PictureItem) (node : ℕ) : Type 0 where
   pub loose : (place : ℕ) → IsDrawnOf items place node → (at_place items place).holds ≡ false
   pub apart : (place by other : ℕ) → IsDrawnOf items place node → IsDrawnOf items by other → other ≢ node
-      → AreApart (at_place items place).cause (at_place items by).cause
+      → AreIndependent (at_place items place).cause (at_place items by).cause
 
 -- The node is independent, and not all nodes are.
 pub record IsByItself (items : List PictureItem) (node : ℕ) : Type 0 where
@@ -133,6 +133,6 @@ abbrev pub steps_made : List PictureItem → ℕ → ℕ
 steps_made items n = count_by (λ (item : PictureItem). not item.out && (actor item.cause.event == n)) items
 
 -- these nodes, each with how many events it makes that aren't left out
-abbrev pub told_nodes : List PictureItem → (ℕ → Bool) → List ByItself
+abbrev pub told_nodes : List PictureItem → (ℕ → Bool) → List IndependentNode
 told_nodes items alone =
-    filter (λ (it : ByItself). alone it.node.number) (map (λ n. record { node = node_id n; steps = steps_made items n }) (range_with_len 0 144))
+    filter (λ (it : IndependentNode). alone it.node.number) (map (λ n. record { node = node_id n; steps = steps_made items n }) (range_with_len 0 144))

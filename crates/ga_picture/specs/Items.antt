@@ -10,7 +10,7 @@ use Rattle.ga_picture.specs.declared.shade.Shade.{Shade}
 use Rattle.ga_picture.specs.declared.shade.Shade.TheVariants.{Black, Grey, Red}
 use Rattle.ga_picture.specs.declared.view.View.{View}
 use Rattle.ga_picture.specs.declared.item.PictureItem.{PictureItem}
-use Rattle.ga_causal.specs.Equivalence.{sees}
+use Rattle.ga_causal.specs.Equivalence.{observes}
 
 -- ---- which events are left out, which may be drawn with others as one mark, and for which their nodes have to be drawn
 
@@ -107,7 +107,7 @@ at_place items place = slice_index_or items place no_item
 abbrev pub run_with : ℕ → Shade → PictureItem → ℕ → ℕ
 run_with n shade item count =
     if item.plain && (cause_touches item.cause n && is_same_run item.shade shade) then count + 1
-    else if sees item.cause n then 0
+    else if observes item.cause n then 0
     else count
 
 -- how many events of a run come right before a place, and how many are the first of these

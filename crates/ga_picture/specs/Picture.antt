@@ -7,16 +7,16 @@ use Rattle.ga_picture.specs.declared.shade.Shade.TheVariants.{Black, Grey, Red}
 use Rattle.ga_picture.specs.Drawing.{shade_of, AreShades, IsDrawing, IsByItself, without_nodes, told_nodes}
 use Rattle.ga_grid.specs.declared.node_id.NodeId.{NodeId}
 use Rattle.ga_event.specs.declared.event.Cause.{Cause}
-use Rattle.ga_causal.specs.Dependence.{place_of}
+use Rattle.ga_causal.specs.Dependence.{position_of_step}
 use Rattle.ga_race_detector.specs.declared.races.Race.{Race}
-use Rattle.ga_race_detector.specs.declared.readings.Reading.{Reading}
-use Rattle.ga_picture.specs.declared.race_marks.Otherwise.{Otherwise}
-use Rattle.ga_picture.specs.declared.race_marks.Otherwise.TheVariants.{Pass, Look}
+use Rattle.ga_race_detector.specs.declared.readings.LookRace.{LookRace}
+use Rattle.ga_picture.specs.declared.race_marks.RacingStep.{RacingStep}
+use Rattle.ga_picture.specs.declared.race_marks.RacingStep.TheVariants.{Pass, Look}
 use Rattle.std.specs.List.{All}
 use Rattle.ga_node.specs.Record.{NodeRecord}
 use Rattle.ga_node.specs.Table.{refusal}
 use Rattle.ga_grid.specs.Chip.{record_at}
-use Rattle.ga_lab.specs.Machine.{State, chip_of, causes_of, stands}
+use Rattle.ga_lab.specs.Machine.{State, chip_of, causes_of, has_step}
 use Rattle.ga_scheduler.specs.Idle.{MarksIdle}
 use Rattle.ga_race_detector.specs.Races.{races_asked}
 use Rattle.ga_race_detector.specs.Readings.{IsTold, NoneMissed}
@@ -66,7 +66,7 @@ pub record IsSvg (rows : List PictureRow) (marks : List RaceMark) (text : List �
 -- ---- the marks of steps that could have come out otherwise
 
 -- the step that could have come out otherwise
-abbrev pub step_of : Otherwise → NodeId × ℕ
+abbrev pub step_of : RacingStep → NodeId × ℕ
 step_of (Pass race) = (race.reader, race.step)
 step_of (Look reading) = (reading.node, reading.step)
 
@@ -77,27 +77,27 @@ row_from [] start place before = None
 row_from (row ∷ rows) start place before = if row.place + start == place then Some before else row_from rows start place (before + 1)
 
 -- a mark at a row
-abbrev pub mark_at : Otherwise → Option ℕ → List RaceMark
+abbrev pub mark_at : RacingStep → Option ℕ → List RaceMark
 mark_at what None = []
 mark_at what (Some row) = record { row = row; what = what } ∷ []
 
 -- the mark at the row of the event at a place
-abbrev pub mark_in : List PictureRow → ℕ → Otherwise → Option ℕ → List RaceMark
+abbrev pub mark_in : List PictureRow → ℕ → RacingStep → Option ℕ → List RaceMark
 mark_in rows start what None = []
 mark_in rows start what (Some place) = mark_at what (row_from rows start place 0)
 
 -- the mark of a step that could have come out otherwise, at the row of its event
-abbrev pub mark_of_race : List Cause → ℕ → List PictureRow → Otherwise → List RaceMark
-mark_of_race events start rows what = mark_in rows start what (place_of events (step_of what).0.number (step_of what).1)
+abbrev pub mark_of_race : List Cause → ℕ → List PictureRow → RacingStep → List RaceMark
+mark_of_race events start rows what = mark_in rows start what (position_of_step events (step_of what).0.number (step_of what).1)
 
 abbrev pub marks_of_passes : List Cause → ℕ → List PictureRow → List Race → List RaceMark
 marks_of_passes events start rows races = flat_map (λ (race : Race). mark_of_race events start rows (Pass race)) races
 
-abbrev pub marks_of_looks : List Cause → ℕ → List PictureRow → List Reading → List RaceMark
-marks_of_looks events start rows readings = flat_map (λ (reading : Reading). mark_of_race events start rows (Look reading)) readings
+abbrev pub marks_of_looks : List Cause → ℕ → List PictureRow → List LookRace → List RaceMark
+marks_of_looks events start rows readings = flat_map (λ (reading : LookRace). mark_of_race events start rows (Look reading)) readings
 
 -- one mark for each pass and each look that could have come out otherwise, and whose event has a row
-abbrev pub marks_of : List Cause → ℕ → List PictureRow → List Race → List Reading → List RaceMark
+abbrev pub marks_of : List Cause → ℕ → List PictureRow → List Race → List LookRace → List RaceMark
 marks_of events start rows races readings = marks_of_passes events start rows races ++ marks_of_looks events start rows readings
 
 -- ---- what a picture shows of a machine's kept events
@@ -105,7 +105,7 @@ marks_of events start rows races readings = marks_of_passes events start rows ra
 -- the step exists, if one is given
 abbrev pub stands_for : State → Option (NodeId × ℕ) → Bool
 stands_for s None = true
-stands_for s (Some step) = stands s step.0.number step.1
+stands_for s (Some step) = has_step s step.0.number step.1
 
 -- both steps that are asked for stand, where they are given
 abbrev pub all_stand : State → View → Bool
@@ -114,7 +114,7 @@ all_stand s view = stands_for s view.cause && stands_for s view.rewind
 -- the place of the step, where one is given
 abbrev pub place_for : List Cause → Option (NodeId × ℕ) → Option ℕ
 place_for events None = None
-place_for events (Some step) = place_of events step.0.number step.1
+place_for events (Some step) = position_of_step events step.0.number step.1
 
 -- the events after the last one that is in view are left out
 abbrev pub end_in : List Cause → View → ℕ
@@ -157,7 +157,7 @@ pub record IsPicture (s : State) (view : View) (drawing : Drawing) : Type 0 wher
 
 -- if requested, the marks of the passes and looks that `races` prints: of the looks all that a near change leads to
 pub record AreRaceMarks (s : State) (view : View) (rows : List PictureRow) (marks : List RaceMark) : Type 0 where
-  pub readings : List Reading
+  pub readings : List LookRace
   pub told : All (IsTold s None) readings
   pub found : view.races ≡ true → NoneMissed s None readings
   pub are : marks ≡ (if view.races then marks_of (causes_of s) (start_in (causes_of s) view) rows (races_asked s None) readings else [])

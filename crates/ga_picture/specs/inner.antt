@@ -4,22 +4,22 @@ use Rattle.std.specs.List.{list_any}
 use Rattle.ga_event.specs.Touches.{neighbours}
 use Rattle.ga_causal.specs.Dependence.{cause_touches, is_a_pass, is_marked}
 use Rattle.ga_picture.specs.declared.item.PictureItem.{PictureItem}
-use Rattle.ga_picture.specs.declared.by_itself.Tally.{Tally}
+use Rattle.ga_picture.specs.declared.independent.NodeActivity.{NodeActivity}
 use Rattle.ga_picture.specs.Drawing.{steps_made, IsByItself, without_nodes, told_nodes}
 use Rattle.ga_text.specs.Lines.{Bytes, Text, Line}
-use Rattle.ga_explorer.specs.Opening.{Exploring}
+use Rattle.ga_explorer.specs.Opening.{ExplorerState}
 use Rattle.ga_lab.specs.declared.fault.LabFault.TheVariants.{Memory}
 use Rattle.ga_console.specs.Run.{status_of}
 use Rattle.ga_console.specs.Session.{Serves, Written}
-use Rattle.ga_console.specs.declared.commands.Ending.{Ending}
-use Rattle.ga_text.specs.declared.output.WriteFailed.{WriteFailed}
+use Rattle.ga_console.specs.declared.commands.CommandsEnd.{CommandsEnd}
+use Rattle.ga_text.specs.declared.output.WriteError.{WriteError}
 use Rattle.ga_console.specs.declared.run.Status.{Status}
 use Rattle.ga_console.specs.declared.run.Status.TheVariants.{Done, StreamFault}
 use Rattle.ga_explorer.specs.Answers.{Explores}
 use Rattle.ga_picture.specs.Following.{IsShort, Hears, Follows, Declines}
 use Rattle.ga_event.specs.declared.event.Cause.{Cause}
-use Rattle.ga_picture.specs.declared.by_itself.ByItself.{ByItself}
-use Rattle.ga_picture.specs.declared.item.Facts.{Facts}
+use Rattle.ga_picture.specs.declared.independent.IndependentNode.{IndependentNode}
+use Rattle.ga_picture.specs.declared.item.EventFacts.{EventFacts}
 use Rattle.ga_picture.specs.declared.shade.Shade.{Shade}
 use Rattle.ga_picture.specs.declared.view.View.{View}
 use Rattle.ga_picture.specs.Drawing.{AreShades, IsLineOf}
@@ -53,14 +53,14 @@ abbrev pub looking_in : List PictureItem → ℕ → Bool
 looking_in items n = list_any (λ item. is_on item n && is_look item) items
 
 -- what was taken in of these events
-pub record AreTallied (items : List PictureItem) (tally : Tally) : Type 0 where
+pub record AreTallied (items : List PictureItem) (tally : NodeActivity) : Type 0 where
   pub steps : (n : ℕ) → n < 144 → slice_index tally.steps n ≡ steps_made items n
   pub touched : (n : ℕ) → is_marked tally.touched n ≡ touched_in items n
   pub held : (n : ℕ) → is_marked tally.held n ≡ held_in items n
   pub looking : (n : ℕ) → is_marked tally.looking n ≡ looking_in items n
 
 -- no node has more steps than the bound
-pub record HasFew (tally : Tally) (bound : ℕ) : Type 0 where
+pub record HasFew (tally : NodeActivity) (bound : ℕ) : Type 0 where
   pub size : length tally.steps ≡ 144
   pub few : (n : ℕ) → slice_index tally.steps n ≤ bound
 
@@ -69,17 +69,17 @@ abbrev pub is_loose : (ℕ → Bool) → (ℕ → Bool) → (ℕ → Bool) → �
 is_loose touched held looking n =
     not (held n) && (not (looking n && list_any touched (neighbours n)) && not (list_any looking (neighbours n)))
 
-abbrev pub is_loose_by : Tally → ℕ → Bool
+abbrev pub is_loose_by : NodeActivity → ℕ → Bool
 is_loose_by tally n = is_loose (is_marked tally.touched) (is_marked tally.held) (is_marked tally.looking) n
 
-abbrev pub works_loose : Tally → ℕ → Bool
+abbrev pub works_loose : NodeActivity → ℕ → Bool
 works_loose tally n = is_marked tally.touched n && is_loose_by tally n
 
-abbrev pub works_joined : Tally → ℕ → Bool
+abbrev pub works_joined : NodeActivity → ℕ → Bool
 works_joined tally n = is_marked tally.touched n && not (is_loose_by tally n)
 
 -- something holds a node that works, or joins it to another
-pub record HasJoined (tally : Tally) : Type 0 where
+pub record HasJoined (tally : NodeActivity) : Type 0 where
   pub node : ℕ
   pub joined : works_joined tally node ≡ true
 
@@ -90,19 +90,19 @@ abbrev pub Notes : Bool → Text → Bool → Type 0
 Notes before answer after = after ≡ false → (before ≡ false) × (¬ IsShort answer)
 
 -- exploring may answer the line so, nothing is written here, and it is noted whether an allocation failed
-abbrev pub HearsLine : Exploring → Bool → Line → Text → Exploring → Bool → Type 0
+abbrev pub HearsLine : ExplorerState → Bool → Line → Text → ExplorerState → Bool → Type 0
 HearsLine s before line said new after = (said ≡ []) × (answer : Text) × Explores s line answer new × Notes before answer after
 
 -- From this machine the commands are executed, up to `room` bytes of them.
-abbrev pub Goes : ℕ → Exploring → Bytes → Bytes → Text → Result Exploring Status → Type 0
+abbrev pub Goes : ℕ → ExplorerState → Bytes → Bytes → Text → Result ExplorerState Status → Type 0
 Goes room s read rest text (Ok last) =
-    (text ≡ []) × (ending : Result Ending WriteFailed) × (status_of ending ≡ Done) × Serves Follows room s read rest [] last ending
-Goes room s read rest text (Err status) = (last : Exploring) × (ending : Result Ending WriteFailed)
+    (text ≡ []) × (ending : Result CommandsEnd WriteError) × (status_of ending ≡ Done) × Serves Follows room s read rest [] last ending
+Goes room s read rest text (Err status) = (last : ExplorerState) × (ending : Result CommandsEnd WriteError)
     × (((status_of ending ≡ StreamFault) × (status ≡ StreamFault) × (said : Text) × Serves Hears room s read rest said last ending × Written ending said text)
     ⊎ ((status_of ending ≡ Done) × Serves Hears room s read rest [] last ending × Declines Memory text status))
 
 -- What comes of a machine that was reached.
-abbrev pub Ends : Exploring → Bool → Text → Result Exploring Status → Type 0
+abbrev pub Ends : ExplorerState → Bool → Text → Result ExplorerState Status → Type 0
 Ends s short text (Ok last) = (last ≡ s) × (short ≡ false) × (text ≡ [])
 Ends s short text (Err status) = Declines Memory text status
 
@@ -112,11 +112,11 @@ abbrev pub known_by : List Cause → List Shade → (ℕ → Bool) → (ℕ → 
 known_by events shades ready idle cause rewind =
     record { events = events; shades = shades; ready = ready; idle = idle; cause = cause; rewind = rewind }
 
-abbrev pub known_in : Facts → (ℕ → Bool) → Known
+abbrev pub known_in : EventFacts → (ℕ → Bool) → Known
 known_in facts ready = known_by facts.events.now facts.shades.now ready (is_marked facts.idle.now) facts.cause facts.rewind
 
 -- There are few events, each with its colour and whether it is plain; `from` is not after `to`, and `to` not past them all.
-pub record AreKnownBetween (facts : Facts) (from to : ℕ) : Type 0 where
+pub record AreKnownBetween (facts : EventFacts) (from to : ℕ) : Type 0 where
   pub order : from ≤ to
   pub within : to ≤ length facts.events.now
   pub few : length facts.events.now < 2 ^ 32
@@ -124,19 +124,19 @@ pub record AreKnownBetween (facts : Facts) (from to : ℕ) : Type 0 where
   pub plain : length facts.plain.now ≡ length facts.events.now
 
 -- the events that are plain are those that are so if these nodes are ready after the events
-abbrev pub ArePlainAs : (ℕ → Bool) → Facts → Type 0
+abbrev pub ArePlainAs : (ℕ → Bool) → EventFacts → Type 0
 ArePlainAs ready facts =
     (place : ℕ) → place < length facts.events.now → slice_index_or facts.plain.now place false ≡ is_plain_at ready facts.events.now place
 
 -- what is drawn of events in view, and which nodes are listed at the foot
-pub record AreListed (looked items : List PictureItem) (told : List ByItself) : Type 0 where
+pub record AreListed (looked items : List PictureItem) (told : List IndependentNode) : Type 0 where
   pub alone : ℕ → Bool
   pub are_alone : (n : ℕ) → IsTrue (alone n) ↔ IsByItself looked n
   pub tells : told ≡ told_nodes looked alone
   pub are : items ≡ map (without_nodes alone) looked
 
 -- the events that are looked at, as the picture takes them
-pub record AreItemsOf (events : List Cause) (ready idle : ℕ → Bool) (view : View) (items : List PictureItem) (told : List ByItself) : Type 0 where
+pub record AreItemsOf (events : List Cause) (ready idle : ℕ → Bool) (view : View) (items : List PictureItem) (told : List IndependentNode) : Type 0 where
   pub shades : List Shade
   pub shaded : AreShades events (place_for events view.cause) (place_for events view.rewind) shades
   pub listed : AreListed (items_in events ready idle view shades) items told

@@ -6,10 +6,10 @@ ghost use Rattle.ga_explorer.specs.Opening.{image_of};
 ghost use Rattle.ga_picture.specs.Following.{FollowsTo, Declines};
 ghost use Rattle.ga_picture.specs.inner.{Goes, Ends};
 
-use super::silent::Silent;
+use super::silent::SilentSession;
 use ga_console::{Status, serve, status_of};
 use ga_display::refusal_text;
-use ga_explorer::{Explorer, begin};
+use ga_explorer::{Explorer, open_lab};
 use ga_lab::LabFault;
 use ga_text::{Input, Writer, write_all};
 use std::alloc::Global;
@@ -22,7 +22,7 @@ use std::io::{Read, Write};
 ///
 /// # Errors
 /// The status of a session that ends so.
-pub fn follow_session<R: Read, W: Write, E: Write>(
+pub fn run_silent_session<R: Read, W: Write, E: Write>(
     alloc: Global,
     reader: &mut R,
     writer: &mut W,
@@ -34,7 +34,7 @@ pub fn follow_session<R: Read, W: Write, E: Write>(
         (R.remaining reader.old) (R.remaining reader.new) (W.contents writer.old) (W.contents writer.new) }
 {
     let mut input = Input::new();
-    match begin(alloc, &mut input, reader, writer, errors, chip, limit) {
+    match open_lab(alloc, &mut input, reader, writer, errors, chip, limit) {
         Ok(begun) => follow(alloc, &mut input, reader, writer, begun),
         Err(status) => Err(status),
     }
@@ -52,7 +52,7 @@ fn follow<R: Read, W: Write>(
     ensures { ReadsOnAndWrites input.old.bytes (λ read rest text. Goes (input_limit - input.old.taken) explorer read rest text result)
         (R.remaining reader.old) (R.remaining reader.new) (W.contents writer.old) (W.contents writer.new) }
 {
-    let mut session = Silent {
+    let mut session = SilentSession {
         explorer,
         short: false,
     };
@@ -65,17 +65,17 @@ fn follow<R: Read, W: Write>(
 }
 
 /// What was reached, or the refusal for want of memory.
-fn reached<W: Write>(writer: &mut W, session: Silent) -> Result<Explorer, Status>
+fn reached<W: Write>(writer: &mut W, session: SilentSession) -> Result<Explorer, Status>
     ensures { WritesText (λ text. Ends session.explorer session.short text result) (W.contents writer.old) (W.contents writer.new) }
 {
     if session.short {
-        return Err(decline(writer, LabFault::Memory));
+        return Err(write_refusal(writer, LabFault::Memory));
     }
     Ok(session.explorer)
 }
 
 /// Writes a refusal.
-pub(crate) fn decline<W: Write>(writer: &mut W, fault: LabFault) -> Status
+pub(crate) fn write_refusal<W: Write>(writer: &mut W, fault: LabFault) -> Status
     ensures { WritesText (λ text. Declines fault text result) (W.contents writer.old) (W.contents writer.new) }
 {
     match write_all(writer, refusal_text(fault)) {

@@ -31,7 +31,7 @@ pub struct PictureItem {
 
 /// What is known of the kept events, each list by their places.
 #[derive(Clone, Copy)]
-pub(crate) struct Facts<'k> {
+pub(crate) struct EventFacts<'k> {
     /// The events.
     pub(crate) events: &'k [Cause],
     /// The colours of the events.
@@ -48,7 +48,7 @@ pub(crate) struct Facts<'k> {
 /// The events from one place on and up to another. Those of some nodes are left out.
 pub(crate) fn items(
     alloc: Global,
-    facts: Facts<'_>,
+    facts: EventFacts<'_>,
     alone: &[bool; 144],
     view: View,
     from: usize,
@@ -85,7 +85,7 @@ fn without_nodes(alone: &[bool; 144], item: PictureItem) -> PictureItem
 
 /// The event at a place.
 #[inline(always)]
-pub(crate) fn item_at(facts: Facts<'_>, view: View, place: usize) -> PictureItem
+pub(crate) fn item_at(facts: EventFacts<'_>, view: View, place: usize) -> PictureItem
     requires within { place < length facts.events.now }
     requires shades { length facts.shades.now ≡ length facts.events.now }
     requires plain { length facts.plain.now ≡ length facts.events.now }

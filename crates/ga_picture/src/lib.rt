@@ -3,8 +3,8 @@
 //! picture.
 #![tactic(auto)]
 
-mod by_itself;
 mod follow;
+mod independent;
 mod item;
 mod lines;
 mod marks;
@@ -17,13 +17,13 @@ mod silent;
 mod text;
 mod view;
 
-pub use by_itself::ByItself;
-pub use follow::follow_session;
+pub use follow::run_silent_session;
+pub use independent::IndependentNode;
 pub use item::PictureItem;
 pub use placing::{Drawing, PictureRow, Shape, layout};
-pub use race_marks::{Otherwise, RaceMark};
+pub use race_marks::{RaceMark, RacingStep};
 pub use run::draw_session;
-pub use shade::{Shade, grounds, shades};
-pub use silent::Silent;
+pub use shade::{Shade, find_causes, shades};
+pub use silent::SilentSession;
 pub use text::svg;
 pub use view::{Step, View, draw, picture};

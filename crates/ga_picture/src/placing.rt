@@ -7,7 +7,7 @@ ghost use Rattle.ga_picture.specs.Drawing.{IsDrawing, IsShape, IsLineOf, shade_o
 ghost use Rattle.ga_picture.specs.Items.{drawn_with, IsSimple};
 ghost use Rattle.ga_causal.specs.Dependence.{cause_touches, is_a_pass};
 
-use crate::by_itself::ByItself;
+use crate::independent::IndependentNode;
 use crate::item::{PictureItem, actor};
 use crate::lines::{Lines, lines_of, touched_by};
 use crate::runs::{Runs, runs_behind};
@@ -65,7 +65,7 @@ pub struct Drawing {
     /// What is drawn, from top to bottom.
     pub rows: Vec<PictureRow>,
     /// The nodes that work by themselves, which have no lines.
-    pub by_itself: Vec<ByItself>,
+    pub by_itself: Vec<IndependentNode>,
 }
 
 /// Lays out the events that are not left out: each has a row, but a run of at least `fold` events of a node has one together,
@@ -76,7 +76,7 @@ pub struct Drawing {
 pub fn layout(
     alloc: Global,
     items: &[PictureItem],
-    by_itself: Vec<ByItself>,
+    by_itself: Vec<IndependentNode>,
     fold: u32,
 ) -> Result<Drawing, Memory>
     requires simple { All IsSimple items.now }

@@ -5,19 +5,19 @@ ghost use Rattle.ga_picture.specs.Picture.{step_of, row_from, mark_at, mark_of_r
 
 use crate::placing::{Drawing, PictureRow, Shape};
 use crate::text::{x_of, y_of};
-use ga_causal::{Cause, Memory, place_of};
+use ga_causal::{Cause, Memory, position_of_step};
 use ga_grid::NodeId;
-use ga_race_detector::{Race, Reading};
+use ga_race_detector::{LookRace, Race};
 use ga_word::Word18;
 use std::alloc::{AllocError, Global};
 
 /// A step that could have come out otherwise.
 #[derive(Clone, Copy, PartialEq, Eq)]
-pub enum Otherwise {
+pub enum RacingStep {
     /// A pass whose reader could have taken another word.
     Pass(Race),
     /// A look that could have read another word.
-    Look(Reading),
+    Look(LookRace),
 }
 
 /// The mark of a step that could have come out otherwise.
@@ -26,12 +26,12 @@ pub struct RaceMark {
     /// The index of the mark's row.
     pub row: usize,
     /// The step, and how it could have come out.
-    pub what: Otherwise,
+    pub what: RacingStep,
 }
 
 /// The rows of a picture of some events, of which `start` of the oldest are left out.
 #[derive(Clone, Copy)]
-pub(crate) struct Shown<'k> {
+pub(crate) struct VisibleRows<'k> {
     pub(crate) events: &'k [Cause],
     pub(crate) start: u32,
     pub(crate) rows: &'k [PictureRow],
@@ -41,38 +41,38 @@ pub(crate) struct Shown<'k> {
 #[tactic(auto, using(crate::proofs::Laid::marked_next, crate::proofs::Laid::marked_all))]
 pub(crate) fn marks_of(
     alloc: Global,
-    shown: Shown<'_>,
+    shown: VisibleRows<'_>,
     races: &[Race],
-    readings: &[Reading],
+    readings: &[LookRace],
 ) -> Result<Vec<RaceMark>, Memory>
     requires { length shown.events.now < 2 ^ 32 }
     ensures { IfOk result (λ marks. marks.items ≡ marks_of shown.entry.events.now shown.entry.start shown.entry.rows.now races.now readings.now) }
 {
     let mut marks = Vec::new(alloc);
     'races: for race in races {
-        add(&mut marks, shown, Otherwise::Pass(*race))?;
+        add(&mut marks, shown, RacingStep::Pass(*race))?;
     }
     'readings: for reading in readings {
-        add(&mut marks, shown, Otherwise::Look(*reading))?;
+        add(&mut marks, shown, RacingStep::Look(*reading))?;
     }
     Ok(marks)
 }
 
 /// Adds the mark of a step, where its event has a row.
-fn add(marks: &mut Vec<RaceMark>, shown: Shown<'_>, what: Otherwise) -> Result<(), Memory>
+fn add(marks: &mut Vec<RaceMark>, shown: VisibleRows<'_>, what: RacingStep) -> Result<(), Memory>
     requires { length shown.events.now < 2 ^ 32 }
     ensures { OnOk result (marks.new.items ≡ marks.old.items
         ++ mark_of_race shown.entry.events.now shown.entry.start shown.entry.rows.now what) }
 {
     let (node, step) = step_of(&what);
-    match place_of(shown.events, node, step) {
+    match position_of_step(shown.events, node, step) {
         Some(place) => add_at(marks, what, row_of(shown.rows, shown.start, place)),
         None => Ok(()),
     }
 }
 
 /// Adds the mark of a step at a row, where there is one.
-fn add_at(marks: &mut Vec<RaceMark>, what: Otherwise, row: Option<usize>) -> Result<(), Memory>
+fn add_at(marks: &mut Vec<RaceMark>, what: RacingStep, row: Option<usize>) -> Result<(), Memory>
     ensures { OnOk result (marks.new.items ≡ marks.old.items ++ mark_at what row) }
 {
     if let Some(row) = row {
@@ -82,12 +82,12 @@ fn add_at(marks: &mut Vec<RaceMark>, what: Otherwise, row: Option<usize>) -> Res
 }
 
 /// The step that could have come out otherwise.
-fn step_of(what: &Otherwise) -> (NodeId, u32)
+fn step_of(what: &RacingStep) -> (NodeId, u32)
     ensures { result ≡ step_of what.now }
 {
     match what {
-        Otherwise::Pass(race) => (race.reader, race.step),
-        Otherwise::Look(reading) => (reading.node, reading.step),
+        RacingStep::Pass(race) => (race.reader, race.step),
+        RacingStep::Look(reading) => (reading.node, reading.step),
     }
 }
 
@@ -133,18 +133,18 @@ pub(crate) fn push_race(
 }
 
 /// Adds what `races` prints of a race.
-fn push_title(text: &mut String, what: &Otherwise) -> Result<(), AllocError> {
+fn push_title(text: &mut String, what: &RacingStep) -> Result<(), AllocError> {
     match what {
-        Otherwise::Pass(race) => push_pass_title(text, race),
-        Otherwise::Look(reading) => push_look_title(text, reading),
+        RacingStep::Pass(race) => push_pass_title(text, race),
+        RacingStep::Look(reading) => push_look_title(text, reading),
     }
 }
 
 /// Adds the other word.
-fn push_label(text: &mut String, at: (u32, u64), what: &Otherwise) -> Result<(), AllocError> {
+fn push_label(text: &mut String, at: (u32, u64), what: &RacingStep) -> Result<(), AllocError> {
     match what {
-        Otherwise::Pass(race) => push_word(text, at, race.reader, race.other, race.offered),
-        Otherwise::Look(reading) => {
+        RacingStep::Pass(race) => push_word(text, at, race.reader, race.other, race.offered),
+        RacingStep::Look(reading) => {
             push_word(text, at, reading.node, reading.neighbour, reading.other)
         }
     }
@@ -213,7 +213,7 @@ fn push_pass_title(text: &mut String, race: &Race) -> Result<(), AllocError> {
 }
 
 /// Adds what `races` prints of a look.
-fn push_look_title(text: &mut String, reading: &Reading) -> Result<(), AllocError> {
+fn push_look_title(text: &mut String, reading: &LookRace) -> Result<(), AllocError> {
     let (word, other, name) = (reading.word.get(), reading.other.get(), reading.node.yxx());
     text.push_str("<title>")?;
     push_step(text, reading.node, reading.step)?;

@@ -3,7 +3,7 @@ ghost use Rattle.ga_text.specs.Output.{WritesText, ReadsAndWrites};
 ghost use Rattle.ga_explorer.specs.Opening.{image_of};
 ghost use Rattle.ga_picture.specs.Following.{Draws, Pictures, IsOut};
 
-use super::follow::{decline, follow_session};
+use super::follow::{run_silent_session, write_refusal};
 use super::view::{View, picture};
 use ga_console::Status;
 use ga_lab::Lab;
@@ -28,7 +28,7 @@ pub fn draw_session<R: Read, W: Write, E: Write>(
     ensures { ReadsAndWrites (λ read rest text. Draws (image_of chip) limit view read rest text result)
         (R.remaining reader.old) (R.remaining reader.new) (W.contents writer.old) (W.contents writer.new) }
 {
-    match follow_session(alloc, reader, writer, errors, chip, limit) {
+    match run_silent_session(alloc, reader, writer, errors, chip, limit) {
         Ok(explorer) => write_picture(writer, &mut explorer.into_lab(), view),
         Err(status) => status,
     }
@@ -40,7 +40,7 @@ fn write_picture<W: Write>(writer: &mut W, lab: &mut Lab, view: View) -> Status
 {
     match picture(lab, view) {
         Ok(text) => write_out(writer, text.as_bytes()),
-        Err(fault) => decline(writer, fault),
+        Err(fault) => write_refusal(writer, fault),
     }
 }
 

@@ -2,7 +2,7 @@
 
 ghost use Rattle.std.specs.Prelude.{◌≡◌, ◌<◌, ◌+◌, ◌^◌, ℕ, if◌then◌else◌, length, slice_index, slice_set, IfOk};
 ghost use Rattle.std.specs.List.{All};
-ghost use Rattle.ga_causal.specs.Equivalence.{sees};
+ghost use Rattle.ga_causal.specs.Equivalence.{observes};
 ghost use Rattle.ga_picture.specs.declared.shade.Shade.{Shade};
 ghost use Rattle.ga_picture.specs.Items.{run_with, behind_at, is_same_run, IsSimple};
 ghost use Rattle.ga_picture.specs.inner.{count_in, HasNodes, AreWithin};
@@ -79,7 +79,7 @@ impl Runs {
         requires { HasNodes self.old }
         ensures sizes { HasNodes self.new }
         ensures counts { (n : ℕ) → n < 144 →
-            slice_index self.new.counts n ≡ (if sees item.now.cause n then 0 else slice_index self.old.counts n) }
+            slice_index self.new.counts n ≡ (if observes item.now.cause n then 0 else slice_index self.old.counts n) }
         ensures shades { self.new.shades ≡ self.old.shades }
         ensures within { (bound : ℕ) → AreWithin self.old bound → AreWithin self.new bound }
     {

@@ -47,7 +47,7 @@ fn leading(alloc: Global, events: &[Cause], cause: Option<u32>) -> Result<Vec<bo
         (j : ℕ) → j < length events.now → (IsTrue (slice_index_or flags.items j false) ↔ DependsOnPlace events.now cause j)) }
 {
     match cause {
-        Some(place) => grounds(alloc, events, place),
+        Some(place) => find_causes(alloc, events, place),
         None => Ok(vec![in alloc; true; events.len()]?),
     }
 }
@@ -82,7 +82,7 @@ fn shade_for(goes: bool, leads: bool) -> Shade
 
 /// Of each event of the list, whether the one at the place depends on it. Places count from 0. Walks once back over the events
 /// before the place.
-pub fn grounds(alloc: Global, events: &[Cause], place: u32) -> Result<Vec<bool>, Memory>
+pub fn find_causes(alloc: Global, events: &[Cause], place: u32) -> Result<Vec<bool>, Memory>
     requires { place < length events.now }
     ensures size { IfOk result (λ flags. length flags.items ≡ length events.now) }
     ensures exact { IfOk result (λ flags.
@@ -96,7 +96,7 @@ pub fn grounds(alloc: Global, events: &[Cause], place: u32) -> Result<Vec<bool>,
     'events: for back in 0..last {
         let at = last - 1 - back;
         let event = &events[at];
-        if wanted.met_by(event) {
+        if wanted.is_touched_by(event) {
             flags[at] = true;
             wanted.add_seen(event);
         }

@@ -1,34 +1,34 @@
 //! A session that says nothing.
 ghost use Rattle.std.specs.Prelude.{◌≡◌, ◌↔◌, [], Some, Ok, IsTrue};
 ghost use Rattle.ga_text.specs.Lines.{Bytes};
-ghost use Rattle.ga_text.specs.Output.{IsSaid};
-ghost use Rattle.ga_console.specs.declared.responder.Turn.TheVariants.{Quit};
+ghost use Rattle.ga_text.specs.Output.{IsWritten};
+ghost use Rattle.ga_console.specs.declared.responder.LineAction.TheVariants.{Quit};
 ghost use Rattle.ga_console.specs.Session.{Turns};
 ghost use Rattle.ga_console.specs.inner.Run.{AnswersCommand};
 ghost use Rattle.ga_picture.specs.Following.{IsShort};
 ghost use Rattle.ga_picture.specs.inner.{Notes};
 ghost use Rattle.ga_explorer.specs.Answers.{Explores};
 
-use ga_console::{Command, Responder, Turn};
+use ga_console::{Command, LineAction, Responder};
 use ga_display::advised_text;
 use ga_explorer::Explorer;
 use ga_lab::{Lab, LabFault};
-use ga_text::{Spoken, WriteFailed, Writer};
+use ga_text::{WriteError, WriteResult, Writer};
 use std::alloc::Global;
 use std::io::Write;
 
 /// A session that carries out what exploring would, and says none of its answers.
 #[derive(Drop)]
-pub struct Silent {
+pub struct SilentSession {
     /// What answers.
     pub explorer: Explorer,
     /// An allocation failed for an answer, or for what it reports.
     pub short: bool,
 }
 
-impl Silent {
+impl SilentSession {
     /// Answers a line, of which at least the first 201 bytes are here, and says nothing.
-    fn hear(&mut self, alloc: Global, line: &[u8]) -> Turn
+    fn hear(&mut self, alloc: Global, line: &[u8]) -> LineAction
         ensures heard { (answer : Bytes) × Turns Explores self.old.explorer line.now self.new.explorer (Ok result) answer
             × Notes self.old.short answer self.new.short }
         ensures ends { result ≡ Quit → self.new.short ≡ self.old.short }
@@ -36,14 +36,14 @@ impl Silent {
         let mut answer = Vec::new(alloc);
         let mut said = Writer::new(&mut answer);
         match self.explorer.answer(alloc, line, &mut said) {
-            Ok(Turn::Answered) => {
+            Ok(LineAction::Answered) => {
                 self.note(&mut said);
-                Turn::Answered
+                LineAction::Answered
             }
-            Ok(Turn::Quit) => Turn::Quit,
-            Err(WriteFailed) => {
+            Ok(LineAction::Quit) => LineAction::Quit,
+            Err(WriteError) => {
                 self.short = true;
-                Turn::Answered
+                LineAction::Answered
             }
         }
     }
@@ -57,18 +57,18 @@ impl Silent {
         let mut said = Writer::new(&mut answer);
         match self.explorer.obey(alloc, command, &mut said) {
             Ok(()) => self.note(&mut said),
-            Err(WriteFailed) => self.short = true,
+            Err(WriteError) => self.short = true,
         }
     }
 
     /// Notes an answer that reports out of memory.
     fn note(&mut self, said: &mut Writer<'_, Vec<u8>>)
         ensures same { self.new.explorer ≡ self.old.explorer }
-        ensures noted { (answer : Bytes) → IsSaid (Some said.old.stream.now.items) [] answer said.old.pending.items → Notes self.old.short answer self.new.short }
+        ensures noted { (answer : Bytes) → IsWritten (Some said.old.stream.now.items) [] answer said.old.pending.items → Notes self.old.short answer self.new.short }
     {
-        match said.send() {
+        match said.flush() {
             Ok(()) => self.short = self.short || is_short(said.stream.as_slice()),
-            Err(WriteFailed) => self.short = true,
+            Err(WriteError) => self.short = true,
         }
     }
 }
@@ -84,17 +84,17 @@ fn is_short(answer: &[u8]) -> bool
     front == b"memory ".as_slice() || answer == advised_text(LabFault::Memory)
 }
 
-impl Responder for Silent {
+impl Responder for SilentSession {
     ghost use Rattle.std.specs.Prelude.{false, None};
-    ghost use Rattle.ga_explorer.specs.inner.{exploring};
+    ghost use Rattle.ga_explorer.specs.inner.{explorer_state};
     ghost use Rattle.ga_picture.specs.inner.{HearsLine};
 
     ghost answers = { λ m line said new. HearsLine m.explorer m.short line said new.explorer new.short };
 
-    ghost begin = { λ s. record { explorer = exploring s None; short = false } };
+    ghost begin = { λ s. record { explorer = explorer_state s None; short = false } };
 
     fn open(lab: Lab) -> Self {
-        Silent {
+        SilentSession {
             explorer: Explorer::open(lab),
             short: false,
         }
@@ -105,7 +105,7 @@ impl Responder for Silent {
         alloc: Global,
         line: &[u8],
         _writer: &mut Writer<'_, W>,
-    ) -> Result<Turn, WriteFailed> {
+    ) -> Result<LineAction, WriteError> {
         Ok(self.hear(alloc, line))
     }
 
@@ -114,7 +114,7 @@ impl Responder for Silent {
         alloc: Global,
         command: Command,
         _writer: &mut Writer<'_, W>,
-    ) -> Spoken {
+    ) -> WriteResult {
         self.hear_command(alloc, command);
         Ok(())
     }

@@ -11,13 +11,13 @@ ghost use Rattle.ga_picture.specs.Picture.{IsPicture, IsPictureText, AreRaceMark
 ghost use Rattle.ga_picture.specs.Items.{items_of};
 ghost use Rattle.ga_picture.specs.inner.{AreItemsOf, AreKnownBetween, AreListed, ArePlainAs, known_in};
 
-use crate::by_itself::{ByItself, tally_of};
-use crate::item::{Facts, PictureItem, items, plain_events};
+use crate::independent::{IndependentNode, tally_of};
+use crate::item::{EventFacts, PictureItem, items, plain_events};
 use crate::placing::{Drawing, PictureRow, layout};
-use crate::race_marks::{RaceMark, Shown, marks_of};
+use crate::race_marks::{RaceMark, VisibleRows, marks_of};
 use crate::shade::shades;
 use crate::text::svg;
-use ga_causal::{Cause, Memory, place_of};
+use ga_causal::{Cause, Memory, position_of_step};
 use ga_event::Event;
 use ga_grid::{Chip, NODES, NodeId};
 use ga_lab::{Lab, LabFault, Made};
@@ -98,7 +98,7 @@ fn stands(lab: &Lab, step: Option<Step>) -> bool
     ensures { result ≡ stands_for lab.now step }
 {
     match step {
-        Some(step) => lab.stands(step),
+        Some(step) => lab.has_step(step),
         None => true,
     }
 }
@@ -169,7 +169,7 @@ fn race_marks(lab: &mut Lab, rows: &[PictureRow], view: View) -> Result<Vec<Race
         return Ok(Vec::new(alloc));
     }
     let races = found_races(alloc, lab)?;
-    let shown = Shown {
+    let shown = VisibleRows {
         events: causes.as_slice(),
         start: span(causes.len(), view).0 as u32,
         rows,
@@ -199,7 +199,7 @@ fn found_races(alloc: Global, lab: &mut Lab) -> Result<Races, Memory>
 #[derive(Drop)]
 struct Listed {
     items: Vec<PictureItem>,
-    by_itself: Vec<ByItself>,
+    by_itself: Vec<IndependentNode>,
 }
 
 /// These events as the picture takes them.
@@ -217,7 +217,7 @@ fn items_of(
     let rewind = place(events, view.rewind);
     let shades = shades(alloc, events, cause, rewind)?;
     let plain = plain_events(alloc, events, ready)?;
-    let facts = Facts {
+    let facts = EventFacts {
         events,
         shades: shades.as_slice(),
         plain: plain.as_slice(),
@@ -232,7 +232,7 @@ fn items_of(
 /// The events from one place on and up to another.
 fn listed_between(
     alloc: Global,
-    facts: Facts<'_>,
+    facts: EventFacts<'_>,
     view: View,
     from: usize,
     to: usize,
@@ -266,7 +266,7 @@ fn place(events: &[Cause], step: Option<Step>) -> Option<u32>
     ensures within { IfSome result (λ place. place < length events.now) }
 {
     match step {
-        Some((node, number)) => place_of(events, node, number),
+        Some((node, number)) => position_of_step(events, node, number),
         None => None,
     }
 }

@@ -13,36 +13,36 @@ use Rattle.ga_event.specs.declared.event.Event.TheVariants as event
 use Rattle.ga_event.specs.declared.event.Cause.{Cause}
 use Rattle.ga_event.specs.declared.made.Made.{Made}
 use Rattle.ga_event.specs.declared.made.Made.TheVariants as made
-use Rattle.ga_event.specs.Apply.{Told, Did, Carried, after, refusal_of, cause_of, unless, run}
+use Rattle.ga_event.specs.Apply.{EventOutcome, Did, Carried, after, refusal_of, cause_of, when_allowed, run}
 use Rattle.ga_event.specs.Touches.{touches}
 use Rattle.ga_event.specs.Told.{causes_told, steps_of, made_after, mades_after}
-use Rattle.ga_causal.specs.Dependence.{cause_touches, place_of, DependsOn, itself, through}
-use Rattle.ga_causal.proofs.Accounts.{place-first, place-touched, place-other}
-use Rattle.ga_lab.specs.Machine.{State, told_by, told_of_kept, causes_of, history_of}
+use Rattle.ga_causal.specs.Dependence.{cause_touches, position_of_step, DependsOn, itself, through}
+use Rattle.ga_causal.proofs.LocalHistories.{place-first, place-touched, place-other}
+use Rattle.ga_lab.specs.Machine.{State, told_by, outcomes_of_kept, causes_of, history_of}
 use Rattle.ga_provenance.proofs.Ran.{empty_some}
-use Rattle.ga_provenance.specs.declared.asked.Asked.{Asked}
-use Rattle.ga_provenance.specs.declared.asked.Asked.TheVariants.{Behind, Before, Nothing}
+use Rattle.ga_provenance.specs.declared.asked.QueriedPart.{QueriedPart}
+use Rattle.ga_provenance.specs.declared.asked.QueriedPart.TheVariants.{Behind, Before, Nothing}
 use Rattle.ga_provenance.specs.declared.value.Value.{Value}
 use Rattle.ga_provenance.specs.Origins.{node_after, value_of_step, flow_at, moved_at, told_part, origin_from, origin_of}
-use Rattle.ga_provenance.specs.Asked.{told_asked, value_asked, asked_of}
+use Rattle.ga_provenance.specs.Asked.{told_asked, value_asked, queried_value}
 use Rattle.std.proofs.lemmas.List.Elements.{All-nil, All-cons, All-append, All-map, All-head, All-tail}
 use Rattle.ga_causal.proofs.Places.{stands_exact, older_step}
 use Rattle.ga_event.specs.declared.flow.part.Part.{Part}
 use Rattle.ga_event.specs.declared.flow.part.Part.TheVariants.{Data, Return, Ram, Rom, A, B, P, I, Io, Carry, Slot, Wait, Stop, Outside}
 use Rattle.ga_event.specs.Flow.{Flow, Same, From, top}
-use Rattle.ga_provenance.specs.declared.listing.Row.{Row}
+use Rattle.ga_provenance.specs.declared.listing.ProvenanceRow.{ProvenanceRow}
 use Rattle.ga_provenance.specs.Rows.{sender_in, source_values, sources_from, sources_of, row_at, made_row, below, AreRows, all, again, next, cut, IsCause, IsNamedFor}
 
 -- ---- a node's step that is a pass is a step of the writer too
 
 -- the outcome of an event is of its kind
-is_fit : Event → Told → Bool
+is_fit : Event → EventOutcome → Bool
 is_fit (event.Own node) (Did kind) = true
 is_fit (event.Own node) (Carried word) = false
 is_fit (event.Pass w r side) (Did kind) = false
 is_fit (event.Pass w r side) (Carried word) = true
 
-abbrev AreFit : List (Cause × Told) → Type 0
+abbrev AreFit : List (Cause × EventOutcome) → Type 0
 AreFit [] = Unit {0}
 AreFit (x ∷ xs) = (is_fit x.0.event x.1 ≡ true) × AreFit xs
 
@@ -52,25 +52,25 @@ fits chip (event.Own node) = refl
 fits chip (event.Pass w r side) = refl
 
 -- of all events of a list that can be made
-run_fits : (chip : List NodeRecord) (events : List Event) (done : List NodeRecord × List (Cause × Told)) → run chip events ≡ Some done → AreFit done.1
-run_fits chip [] done e = subst AreFit (ap (λ (z : List NodeRecord × List (Cause × Told)). z.1) (same_Some _ _ e)) tt
+run_fits : (chip : List NodeRecord) (events : List Event) (done : List NodeRecord × List (Cause × EventOutcome)) → run chip events ≡ Some done → AreFit done.1
+run_fits chip [] done e = subst AreFit (ap (λ (z : List NodeRecord × List (Cause × EventOutcome)). z.1) (same_Some _ _ e)) tt
 run_fits chip (x ∷ xs) done e = at_first (refusal_of chip x) (λ rest is. run_fits (after chip x).0 xs rest is) (fits chip x) e
   where
-    at_rest : (r : Option (List NodeRecord × List (Cause × Told))) → ((rest : List NodeRecord × List (Cause × Told)) → r ≡ Some rest → AreFit rest.1) → is_fit x (after chip x).1 ≡ true
-        → option_map {U = List NodeRecord × List (Cause × Told)} (λ rest. (rest.0, (cause_of chip x, (after chip x).1) ∷ rest.1)) r ≡ Some done → AreFit done.1
+    at_rest : (r : Option (List NodeRecord × List (Cause × EventOutcome))) → ((rest : List NodeRecord × List (Cause × EventOutcome)) → r ≡ Some rest → AreFit rest.1) → is_fit x (after chip x).1 ≡ true
+        → option_map {U = List NodeRecord × List (Cause × EventOutcome)} (λ rest. (rest.0, (cause_of chip x, (after chip x).1) ∷ rest.1)) r ≡ Some done → AreFit done.1
     at_rest None f fit h = absurd (cc)
-    at_rest (Some rest) f fit h = subst AreFit (ap (λ (z : List NodeRecord × List (Cause × Told)). z.1) (same_Some _ _ h)) (fit, f rest refl)
+    at_rest (Some rest) f fit h = subst AreFit (ap (λ (z : List NodeRecord × List (Cause × EventOutcome)). z.1) (same_Some _ _ h)) (fit, f rest refl)
 
-    at_first : (why : Option NotReady) → ((rest : List NodeRecord × List (Cause × Told)) → run (after chip x).0 xs ≡ Some rest → AreFit rest.1) → is_fit x (after chip x).1 ≡ true
-        → option_and_then {U = List NodeRecord × List (Cause × Told)} (λ first. option_map {U = List NodeRecord × List (Cause × Told)} (λ rest. (rest.0, (cause_of chip x, first.1) ∷ rest.1)) (run first.0 xs)) (unless why (after chip x)) ≡ Some done
+    at_first : (why : Option NotReady) → ((rest : List NodeRecord × List (Cause × EventOutcome)) → run (after chip x).0 xs ≡ Some rest → AreFit rest.1) → is_fit x (after chip x).1 ≡ true
+        → option_and_then {U = List NodeRecord × List (Cause × EventOutcome)} (λ first. option_map {U = List NodeRecord × List (Cause × EventOutcome)} (λ rest. (rest.0, (cause_of chip x, first.1) ∷ rest.1)) (run first.0 xs)) (when_allowed why (after chip x)) ≡ Some done
         → AreFit done.1
     at_first None f fit h = at_rest (run (after chip x).0 xs) f fit h
     at_first (Some why) f fit h = absurd (cc)
 
-told_fits : (s : State) → AreFit (told_of_kept s)
+told_fits : (s : State) → AreFit (outcomes_of_kept s)
 told_fits s = go (run s.load s.kept) (λ done is. run_fits s.load s.kept done is)
   where
-    go : (o : Option (List NodeRecord × List (Cause × Told))) → ((done : List NodeRecord × List (Cause × Told)) → o ≡ Some done → AreFit done.1) → AreFit (told_by o)
+    go : (o : Option (List NodeRecord × List (Cause × EventOutcome))) → ((done : List NodeRecord × List (Cause × EventOutcome)) → o ≡ Some done → AreFit done.1) → AreFit (told_by o)
     go None f = tt
     go (Some done) f = f done refl
 
@@ -81,14 +81,14 @@ record IsSent (causes : List Cause) (before : List Event) (n k w i : ℕ) : Type
   place : ℕ
   steps : ℕ
   number : i ≡ steps_of w before + suc steps
-  own : place_of causes n (suc k) ≡ Some place
-  writers : place_of causes w (suc steps) ≡ Some place
+  own : position_of_step causes n (suc k) ≡ Some place
+  writers : position_of_step causes w (suc steps) ≡ Some place
 
 -- a step of a node after one more event
-own_later : (c : Cause) (cs : List Cause) (n k place : ℕ) → cause_touches c n ≡ true → place_of cs n (suc k) ≡ Some place → place_of (c ∷ cs) n (suc (suc k)) ≡ Some (suc place)
+own_later : (c : Cause) (cs : List Cause) (n k place : ℕ) → cause_touches c n ≡ true → position_of_step cs n (suc k) ≡ Some place → position_of_step (c ∷ cs) n (suc (suc k)) ≡ Some (suc place)
 own_later c cs n k place touched is = place-touched c cs n k touched ∙ ap (option_map suc) is
 
-own_past : (c : Cause) (cs : List Cause) (n k place : ℕ) → cause_touches c n ≡ false → place_of cs n (suc k) ≡ Some place → place_of (c ∷ cs) n (suc k) ≡ Some (suc place)
+own_past : (c : Cause) (cs : List Cause) (n k place : ℕ) → cause_touches c n ≡ false → position_of_step cs n (suc k) ≡ Some place → position_of_step (c ∷ cs) n (suc k) ≡ Some (suc place)
 own_past c cs n k place other is = place-other c cs n k other ∙ ap (option_map suc) is
 
 one_more : (before : List Event) (e : Event) (w : ℕ) → steps_of w (before ++ e ∷ []) ≡ steps_of w before + (0 + cond (touches e w) 1 0)
@@ -96,7 +96,7 @@ one_more before e w = sum_by-append (λ (x : Event). cond (touches x w) 1 0) bef
 
 -- of the writer, whose steps may be one more
 later : (before : List Event) (c : Cause) (cs : List Cause) (n k j w i : ℕ) → IsSent cs (before ++ c.event ∷ []) n k w i
-    → ((place : ℕ) → place_of cs n (suc k) ≡ Some place → place_of (c ∷ cs) n (suc j) ≡ Some (suc place)) → IsSent (c ∷ cs) before n j w i
+    → ((place : ℕ) → position_of_step cs n (suc k) ≡ Some place → position_of_step (c ∷ cs) n (suc j) ≡ Some (suc place)) → IsSent (c ∷ cs) before n j w i
 later before c cs n k j w i sent on = go (cause_touches c w) refl (one_more before c.event w)
   where
     go : (b : Bool) → cause_touches c w ≡ b → steps_of w (before ++ c.event ∷ []) ≡ steps_of w before + (0 + cond b 1 0) → IsSent (c ∷ cs) before n j w i
@@ -119,7 +119,7 @@ touches_writer : (w r : ℕ) → ((w == w) || ((r == w) || false)) ≡ true
 touches_writer w r = ap (λ b. b || ((r == w) || false)) (eq-eqb w w refl)
 
 -- the first of some events, and those after it
-first_told : (before : List Event) (c : Cause) (cs : List Cause) (t : Told) (rest : List Made) (n k : ℕ) (w r : NodeId) (i j word : ℕ) (b : Bool) → cause_touches c n ≡ b → is_fit c.event t ≡ true
+first_told : (before : List Event) (c : Cause) (cs : List Cause) (t : EventOutcome) (rest : List Made) (n k : ℕ) (w r : NodeId) (i j word : ℕ) (b : Bool) → cause_touches c n ≡ b → is_fit c.event t ≡ true
     → ((h : ℕ) → slice_get rest h ≡ Some (made.Pass w i r j word) → IsSent cs (before ++ c.event ∷ []) n h w.number i)
     → slice_get ((cond b (option_to_list (made_after before c.event t)) []) ++ rest) k ≡ Some (made.Pass w i r j word) → IsSent (c ∷ cs) before n k w.number i
 unfolding is_fit
@@ -127,7 +127,7 @@ first_told before c cs t rest n k w r i j word false other fit after h =
     later before c cs n k k w.number i (after k h) (λ place is. own_past c cs n k place other is)
 first_told before c cs t rest n k w r i j word true touched fit after h = go c.event refl t fit k h
   where
-    go : (e : Event) → c.event ≡ e → (t : Told) → is_fit e t ≡ true → (k : ℕ) → slice_get (option_to_list (made_after before e t) ++ rest) k ≡ Some (made.Pass w i r j word) → IsSent (c ∷ cs) before n k w.number i
+    go : (e : Event) → c.event ≡ e → (t : EventOutcome) → is_fit e t ≡ true → (k : ℕ) → slice_get (option_to_list (made_after before e t) ++ rest) k ≡ Some (made.Pass w i r j word) → IsSent (c ∷ cs) before n k w.number i
     go (event.Own node) is (Did kind) fit zero h = absurd (cc)
     go (event.Own node) is (Did kind) fit (suc k) h = later before c cs n k (suc k) w.number i (after k h) (λ place at. own_later c cs n k place touched at)
     go (event.Own node) is (Carried other) fit k h = absurd (cc)
@@ -144,7 +144,7 @@ first_told before c cs t rest n k w r i j word true touched fit after h = go c.e
         }
     go (event.Pass from to side) is (Carried other) fit (suc k) h = later before c cs n k (suc k) w.number i (after k h) (λ place at. own_later c cs n k place touched at)
 
-sent_behind : (before : List Event) (xs : List (Cause × Told)) (n k : ℕ) (w r : NodeId) (i j word : ℕ) → AreFit xs → slice_get (mades_after before xs n) k ≡ Some (made.Pass w i r j word)
+sent_behind : (before : List Event) (xs : List (Cause × EventOutcome)) (n k : ℕ) (w r : NodeId) (i j word : ℕ) → AreFit xs → slice_get (mades_after before xs n) k ≡ Some (made.Pass w i r j word)
     → IsSent (causes_told xs) before n k w.number i
 sent_behind before [] n k w r i j word fit h = absurd (empty_some k (made.Pass w i r j word) h)
 sent_behind before (x ∷ xs) n k w r i j word fit h =
@@ -156,30 +156,30 @@ pub record IsOne (s : State) (n k w i : ℕ) : Type 0 where
   pub place : ℕ
   pub before : ℕ
   pub number : i ≡ suc before
-  pub own : place_of (causes_of s) n (suc k) ≡ Some place
-  pub writers : place_of (causes_of s) w i ≡ Some place
+  pub own : position_of_step (causes_of s) n (suc k) ≡ Some place
+  pub writers : position_of_step (causes_of s) w i ≡ Some place
 
 pub sent_is : (s : State) (n k : ℕ) (w r : NodeId) (i j word : ℕ) → slice_get (history_of s n) k ≡ Some (made.Pass w i r j word) → IsOne s n k w.number i
 sent_is s n k w r i j word h =
-    let sent : IsSent (causes_of s) [] n k w.number i = sent_behind [] (told_of_kept s) n k w r i j word (told_fits s) h in
+    let sent : IsSent (causes_of s) [] n k w.number i = sent_behind [] (outcomes_of_kept s) n k w r i j word (told_fits s) h in
     let is : i ≡ suc sent.steps = (let q = sent.number in omega (arith, q)) in
-    record { place = sent.place; before = sent.steps; number = is; own = sent.own; writers = ap (place_of (causes_of s) w.number) is ∙ sent.writers }
+    record { place = sent.place; before = sent.steps; number = is; own = sent.own; writers = ap (position_of_step (causes_of s) w.number) is ∙ sent.writers }
 
 -- ---- each listed step is a cause of the queried one
 
 -- ---- the value that a step selects
 
-pub asked_here : (s : State) (node : NodeId) (step k : ℕ) (told : Made) (before : NodeRecord) (asked : Asked) (value : Option Value) → suc k ≡ step
+pub asked_here : (s : State) (node : NodeId) (step k : ℕ) (told : Made) (before : NodeRecord) (asked : QueriedPart) (value : Option Value) → suc k ≡ step
     → Some told ≡ slice_get (history_of s node.number) k → before ≡ node_after s node.number k → asked ≡ told_asked told before node.number → value ≡ value_asked node k asked
-    → value ≡ asked_of s node step
+    → value ≡ queried_value s node step
 asked_here s node step k told before asked value is tells stood means e =
     e
     ∙ ap (value_asked node k) (means ∙ ap (λ (n : NodeRecord). told_asked told n node.number) stood)
     ∙ ap (option_and_then (λ (t : Made). value_asked node k (told_asked t (node_after s node.number k) node.number))) tells
-    ∙ ap (asked_of s node) is
+    ∙ ap (queried_value s node) is
 
 -- it was in the node, after the step or before it
-at_or_before : (node : NodeId) (k : ℕ) (asked : Asked) (value : Value) → value_asked node k asked ≡ Some value → (value.node ≡ node) × (value.step ≤ suc k)
+at_or_before : (node : NodeId) (k : ℕ) (asked : QueriedPart) (value : Value) → value_asked node k asked ≡ Some value → (value.node ≡ node) × (value.step ≤ suc k)
 at_or_before node k (Behind at) value e =
     let is = same_Some (value_of_step node (suc k) at) value e in
     (sym (ap (λ (z : Value). z.node) is), let t : suc k ≡ value.step = ap (λ (z : Value). z.step) is in omega (arith, t))
@@ -188,7 +188,7 @@ at_or_before node k (Before at) value e =
     (sym (ap (λ (z : Value). z.node) is), let t : k ≡ value.step = ap (λ (z : Value). z.step) is in omega (arith, t))
 at_or_before node k Nothing value e = absurd (cc)
 
-pub asked_near : (s : State) (node : NodeId) (step : ℕ) (value : Value) → asked_of s node step ≡ Some value → (value.node ≡ node) × (value.step ≤ step)
+pub asked_near : (s : State) (node : NodeId) (step : ℕ) (value : Value) → queried_value s node step ≡ Some value → (value.node ≡ node) × (value.step ≤ step)
 asked_near s node zero value e = absurd (cc)
 asked_near s node (suc k) value e = go (slice_get (history_of s node.number) k) e
   where
@@ -209,12 +209,12 @@ found (Some q) is = (q, refl)
 pub earlier_step : (s : State) (asked value other : Value) (k : ℕ) → other.step ≡ suc k → other.node ≡ value.node → other.step ≤ value.step → IsCause s value asked → IsCause s other asked
 earlier_step s asked value other k is node less cause =
     let stands = (stands_exact (causes_of s) value.node.number value.step).0 (subst IsSome (sym cause.cause_place) refl) in
-    let at : (q : ℕ) × (place_of (causes_of s) value.node.number other.step ≡ Some q) =
-    found (place_of (causes_of s) value.node.number other.step) ((stands_exact (causes_of s) value.node.number other.step).1 (omega (arith, is), omega (arith, less, stands.1))) in
+    let at : (q : ℕ) × (position_of_step (causes_of s) value.node.number other.step ≡ Some q) =
+    found (position_of_step (causes_of s) value.node.number other.step) ((stands_exact (causes_of s) value.node.number other.step).1 (omega (arith, is), omega (arith, less, stands.1))) in
     record {
       cause = at.0;
       effect = cause.effect;
-      cause_place = ap (λ (z : NodeId). place_of (causes_of s) z.number other.step) node ∙ at.1;
+      cause_place = ap (λ (z : NodeId). position_of_step (causes_of s) z.number other.step) node ∙ at.1;
       effect_place = cause.effect_place;
       depends = joined (causes_of s) at.0 cause.cause cause.effect (older_step (causes_of s) value.node.number other.step value.step at.0 cause.cause at.1 cause.cause_place less) cause.depends;
     }
@@ -260,7 +260,7 @@ named_sender s asked value k is named (Some (made.Pass w i r j word)) h =
     at_writer one (inl none) = absurd (omega (arith, is, none))
     at_writer one (inr cause) =
         let q = one.number in
-        let same : one.place ≡ cause.cause = (let a : Some one.place ≡ Some cause.cause = sym one.own ∙ ap (place_of (causes_of s) value.node.number) (sym is) ∙ cause.cause_place in cc) in
+        let same : one.place ≡ cause.cause = (let a : Some one.place ≡ Some cause.cause = sym one.own ∙ ap (position_of_step (causes_of s) value.node.number) (sym is) ∙ cause.cause_place in cc) in
         earlier s asked (value_of_step w i top) (value_of_step w (i - 1) top) refl (omega (arith, q))
         (inr (record { cause = one.place; effect = cause.effect; cause_place = one.writers; effect_place = cause.effect_place; depends = subst (λ (z : ℕ). DependsOn (causes_of s) z cause.effect) (sym same) cause.depends }))
 
@@ -289,17 +289,17 @@ named_sources s asked value named = go value.step refl
     go zero is = All-nil (IsNamedFor s asked)
     go (suc k) is = named_by s asked value k is named (slice_get (history_of s value.node.number) k) refl (flow_at s value.node.number k value.part)
 
-named_below : (s : State) (asked : Value) (row : Row) → IsNamedFor s asked row.value → All (λ (x : Row). IsNamedFor s asked x.value) (below s row)
-named_below s asked row named = All-map (λ (x : Row). IsNamedFor s asked x.value) (row_at (row.depth + 1)) (sources_of s row.value) (named_sources s asked row.value named)
+named_below : (s : State) (asked : Value) (row : ProvenanceRow) → IsNamedFor s asked row.value → All (λ (x : ProvenanceRow). IsNamedFor s asked x.value) (below s row)
+named_below s asked row named = All-map (λ (x : ProvenanceRow). IsNamedFor s asked x.value) (row_at (row.depth + 1)) (sources_of s row.value) (named_sources s asked row.value named)
 
-pub rows_named : (s : State) (asked : Value) (named todo rows : List Row) (whole : Bool) → AreRows s named todo rows whole
-    → All (λ (x : Row). IsNamedFor s asked x.value) todo → All (λ (x : Row). IsNamedFor s asked x.value) rows
-rows_named s asked named todo rows whole all ready = All-nil (λ (x : Row). IsNamedFor s asked x.value)
+pub rows_named : (s : State) (asked : Value) (named todo rows : List ProvenanceRow) (whole : Bool) → AreRows s named todo rows whole
+    → All (λ (x : ProvenanceRow). IsNamedFor s asked x.value) todo → All (λ (x : ProvenanceRow). IsNamedFor s asked x.value) rows
+rows_named s asked named todo rows whole all ready = All-nil (λ (x : ProvenanceRow). IsNamedFor s asked x.value)
 rows_named s asked named todo rows whole (again {named = n} {todo = t} row is rest) ready =
-    rows_named s asked n t rows whole rest (All-tail (λ (x : Row). IsNamedFor s asked x.value) row t ready)
+    rows_named s asked n t rows whole rest (All-tail (λ (x : ProvenanceRow). IsNamedFor s asked x.value) row t ready)
 rows_named s asked named todo rows whole (next {named = n} {todo = t} {rows = r} row is rest) ready =
-    let here = named_origin s asked row.value (All-head (λ (x : Row). IsNamedFor s asked x.value) row t ready) in
-    All-cons (λ (x : Row). IsNamedFor s asked x.value) (made_row s row) r here
+    let here = named_origin s asked row.value (All-head (λ (x : ProvenanceRow). IsNamedFor s asked x.value) row t ready) in
+    All-cons (λ (x : ProvenanceRow). IsNamedFor s asked x.value) (made_row s row) r here
     (rows_named s asked (n ++ made_row s row ∷ []) (below s (made_row s row) ++ t) r whole rest
-    (All-append (λ (x : Row). IsNamedFor s asked x.value) (below s (made_row s row)) t (named_below s asked (made_row s row) here) (All-tail (λ (x : Row). IsNamedFor s asked x.value) row t ready)))
-rows_named s asked named todo rows whole (cut row is) ready = All-nil (λ (x : Row). IsNamedFor s asked x.value)
+    (All-append (λ (x : ProvenanceRow). IsNamedFor s asked x.value) (below s (made_row s row)) t (named_below s asked (made_row s row) here) (All-tail (λ (x : ProvenanceRow). IsNamedFor s asked x.value) row t ready)))
+rows_named s asked named todo rows whole (cut row is) ready = All-nil (λ (x : ProvenanceRow). IsNamedFor s asked x.value)

@@ -8,7 +8,7 @@ use Rattle.ga_node.specs.declared.kind.Kind.{Kind}
 use Rattle.ga_grid.specs.declared.node_id.NodeId.{NodeId}
 use Rattle.ga_event.specs.declared.made.Made.{Made}
 use Rattle.ga_event.specs.declared.made.Made.TheVariants.{Own, Pass}
-use Rattle.ga_causal.specs.Dependence.{itself, place_of}
+use Rattle.ga_causal.specs.Dependence.{itself, position_of_step}
 use Rattle.ga_lab.specs.Machine.{State, causes_of, history_of}
 use Rattle.ga_event.specs.declared.flow.part.Part.{Part}
 use Rattle.ga_event.specs.declared.flow.part.Part.TheVariants as part
@@ -70,14 +70,14 @@ code_sent told (Same part.Stop) value h = absurd (none-some _ h)
 code_sent told (From parts) value h = absurd (none-some _ h)
 
 -- the step itself, and the value before it
-step_named : (s : State) (node : NodeId) (step k place : ℕ) (at : Part) → place_of (causes_of s) node.number step ≡ Some place → k ≤ step
+step_named : (s : State) (node : NodeId) (step k place : ℕ) (at : Part) → position_of_step (causes_of s) node.number step ≡ Some place → k ≤ step
     → IsNamedFor s (value_of_step node step top) (value_of_step node k at)
 step_named s node step k place at is less =
     let asked = value_of_step node step top in
     earlier s asked asked (value_of_step node k at) refl less (inr (record { cause = place; effect = place; cause_place = is; effect_place = is; depends = itself }))
 
 -- the value by which it was decided
-tested_named : (s : State) (node : NodeId) (step k place : ℕ) (told : Made) (value : Value) → place_of (causes_of s) node.number step ≡ Some place → suc k ≤ step
+tested_named : (s : State) (node : NodeId) (step k place : ℕ) (told : Made) (value : Value) → position_of_step (causes_of s) node.number step ≡ Some place → suc k ≤ step
     → slice_get (history_of s node.number) k ≡ Some told → tested_at s node k told ≡ Some value → IsNamedFor s (value_of_step node step top) value
 tested_named s node step k place (Own other j kind) value is less at h = go (kind_tested s node k kind) h
   where
@@ -111,7 +111,7 @@ told_decided s node k d h = go (slice_get (history_of s node.number) k) refl h
     go None at e = absurd (none-some _ e)
     go (Some told) at e = told_so s node k d told at (tested_at s node k told) refl e
 
-pub step_cause : (s : State) (node : NodeId) (step k place : ℕ) (d : Decision) → place_of (causes_of s) node.number step ≡ Some place → k < step → decided_at s node k ≡ Some d
+pub step_cause : (s : State) (node : NodeId) (step k place : ℕ) (d : Decision) → position_of_step (causes_of s) node.number step ≡ Some place → k < step → decided_at s node k ≡ Some d
     → IsCause s (value_of_step node d.step top) (value_of_step node step top)
 step_cause s node step k place d is less h =
     let asked = value_of_step node step top in
@@ -119,7 +119,7 @@ step_cause s node step k place d is less h =
     let cause = earlier_step s asked asked (value_of_step node (suc k) top) k refl refl (omega (arith, less)) (record { cause = place; effect = place; cause_place = is; effect_place = is; depends = itself }) in
     subst (λ (x : Decision). IsCause s (value_of_step node x.step top) asked) told.same cause
 
-pub source_cause : (s : State) (node : NodeId) (step k place : ℕ) (d : Decision) → place_of (causes_of s) node.number step ≡ Some place → k < step → decided_at s node k ≡ Some d
+pub source_cause : (s : State) (node : NodeId) (step k place : ℕ) (d : Decision) → position_of_step (causes_of s) node.number step ≡ Some place → k < step → decided_at s node k ≡ Some d
     → IsNamedFor s (value_of_step node step top) d.source
 source_cause s node step k place d is less h =
     let asked = value_of_step node step top in

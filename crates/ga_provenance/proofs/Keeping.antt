@@ -3,7 +3,7 @@ use Rattle.std.proofs.Common.{◌≡◌, ◌<◌, Bool, false, List, [], ◌∷�
 use Rattle.std.specs.List.{slice_get}
 use Rattle.ga_lab.specs.Machine.{State, history_of}
 use Rattle.ga_provenance.specs.declared.value.Value.{Value}
-use Rattle.ga_provenance.specs.declared.listing.Row.{Row}
+use Rattle.ga_provenance.specs.declared.listing.ProvenanceRow.{ProvenanceRow}
 use Rattle.ga_provenance.specs.Origins.{origin_of, node_after, flow_at, flow_told, moved_from, moved_at}
 use Rattle.ga_provenance.specs.Rows.{has_value, row_at, made_row, AreRows, all, again, next, cut}
 use Rattle.std.specs.Prelude.{Option, option_map, slice_index}
@@ -19,12 +19,12 @@ use Rattle.ga_ports.specs.declared.address.Target.{Target}
 use Rattle.ga_ports.specs.declared.address.Target.TheVariants as target
 use Rattle.ga_node.specs.Record.{NodeRecord}
 use Rattle.ga_node.specs.Changes.{Change}
-use Rattle.ga_node.specs.Table.{t, r, is_extended, due_of, stored, followed, with_kind, done_by, own_event, own}
+use Rattle.ga_node.specs.Table.{t, r, is_extended, next_action_of, stored, followed, with_kind, done_by, own_event, own}
 use Rattle.ga_node.specs.declared.kind.Kind.{Kind}
 use Rattle.ga_node.specs.declared.kind.Kind.TheVariants as kind
 use Rattle.ga_node.specs.declared.seen.Seen.{Seen}
-use Rattle.ga_node.specs.declared.due.Due.{Due}
-use Rattle.ga_node.specs.declared.due.Due.TheVariants as due
+use Rattle.ga_node.specs.declared.due.NextAction.{NextAction}
+use Rattle.ga_node.specs.declared.due.NextAction.TheVariants as due
 use Rattle.ga_node.specs.declared.wait.Wait.{Wait}
 use Rattle.ga_node.specs.declared.wait.Wait.TheVariants as wait
 use Rattle.ga_grid.specs.declared.node_id.NodeId.{NodeId}
@@ -42,18 +42,18 @@ use Rattle.ga_provenance.specs.declared.kept.Registers.{Registers}
 -- ---- the first row of a listing is the step that made the value
 
 -- if the next value wasn't listed, and a listing that is cut has some row, the next value's row is the first
-FirstIs : State → List Row → List Row → List Row → Bool → Type 0
+FirstIs : State → List ProvenanceRow → List ProvenanceRow → List ProvenanceRow → Bool → Type 0
 FirstIs s named [] rows whole = Unit {0}
 FirstIs s named (row ∷ todo) rows whole = has_value named (origin_of s row.value) ≡ false → (whole ≡ false → 0 < length rows) → slice_get rows 0 ≡ Some (made_row s row)
 
-first_is : (s : State) (named todo rows : List Row) (whole : Bool) → AreRows s named todo rows whole → FirstIs s named todo rows whole
+first_is : (s : State) (named todo rows : List ProvenanceRow) (whole : Bool) → AreRows s named todo rows whole → FirstIs s named todo rows whole
 unfolding FirstIs
 first_is s named todo rows whole all = tt
 first_is s named todo rows whole (again row is rest) = λ other some. absurd (cc)
 first_is s named todo rows whole (next row is rest) = λ other some. refl
 first_is s named todo rows whole (cut row is) = λ other some. absurd (let l = some refl in omega (arith, l))
 
-pub first_told : (s : State) (value : Value) (rows : List Row) (whole : Bool) → AreRows s [] (row_at 0 value ∷ []) rows whole → (whole ≡ false → 0 < length rows)
+pub first_told : (s : State) (value : Value) (rows : List ProvenanceRow) (whole : Bool) → AreRows s [] (row_at 0 value ∷ []) rows whole → (whole ≡ false → 0 < length rows)
     → slice_get rows 0 ≡ Some (made_row s (row_at 0 value))
 unfolding FirstIs
 first_told s value rows whole told some = first_is s [] (row_at 0 value ∷ []) rows whole told refl some
@@ -146,13 +146,13 @@ op_keeps op.Push seen n k is = refl
 op_keeps op.BStore seen n k is = refl
 op_keeps op.AStore seen n k is = refl
 
-due_keeps : (what : Due) (seen : Seen) (n : NodeRecord) (k : ℕ) → is_store (done_by what seen n).0 ≡ false → Keep k (moves_by what n)
+due_keeps : (what : NextAction) (seen : Seen) (n : NodeRecord) (k : ℕ) → is_store (done_by what seen n).0 ≡ false → Keep k (moves_by what n)
 due_keeps due.Fetch seen n k is = by_read k (classified n.p) (λ word. SetI word ∷ SetP (from P) ∷ StartAgain ∷ []) (λ word. refl)
 due_keeps (due.Run o) seen n k is = op_keeps o seen n k is
 
 own_keeps : (seen : Seen) (n : NodeRecord) (k : ℕ) → is_store (own seen n).0 ≡ false → own_flow n (Ram k) ≡ Same (Ram k)
 unfolding own_flow own own_event
-own_keeps seen n k is = due_keeps (due_of n) seen n k is
+own_keeps seen n k is = due_keeps (next_action_of n) seen n k is
 
 send_keeps : (k : ℕ) → send_flow (Ram k) ≡ Same (Ram k)
 unfolding send_flow
@@ -224,17 +224,17 @@ plus target.Bad cell h = refl
 abbrev Stays : NodeRecord → ℕ → Type 0
 Stays n cell = own_flow n (Ram cell) ≡ Same (Ram cell)
 
-by_due : (n : NodeRecord) (cell : ℕ) (what : Due) → due_of n ≡ what → Keeps (moves_by what n) cell → Stays n cell
+by_due : (n : NodeRecord) (cell : ℕ) (what : NextAction) → next_action_of n ≡ what → Keeps (moves_by what n) cell → Stays n cell
 unfolding own_flow
-by_due n cell what is keeps = ap (λ (d : Due). moved_all (moves_by d n) Same (Ram cell)) is ∙ keeps
+by_due n cell what is keeps = ap (λ (d : NextAction). moved_all (moves_by d n) Same (Ram cell)) is ∙ keeps
 
 named_so : (address other cell : ℕ) → address ≡ other → misses_at (Some (classified other)) cell ≡ true → misses_at (Some (classified address)) cell ≡ true
 named_so address other cell is h = ap (λ (z : ℕ). misses_at (Some (classified z)) cell) is ∙ h
 
-own_misses : (n : NodeRecord) (code cell : ℕ) (before : Registers) → n.a ≡ before.a → n.b ≡ before.b → due_of n ≡ due.Run (op_of code) → misses_at (stored_at code before) cell ≡ true → Stays n cell
+own_misses : (n : NodeRecord) (code cell : ℕ) (before : Registers) → n.a ≡ before.a → n.b ≡ before.b → next_action_of n ≡ due.Run (op_of code) → misses_at (stored_at code before) cell ≡ true → Stays n cell
 own_misses n code cell before a b comes h = go (code == 13) (code == 15) (code == 14) refl refl refl h
   where
-    so : (k : ℕ) → (code == k) ≡ true → due_of n ≡ due.Run (op_of k)
+    so : (k : ℕ) → (code == k) ≡ true → next_action_of n ≡ due.Run (op_of k)
     so k is = comes ∙ ap (λ (z : ℕ). due.Run (op_of z)) (eqb-true code k is)
 
     go : (x y z : Bool) → (code == 13) ≡ x → (code == 15) ≡ y → (code == 14) ≡ z

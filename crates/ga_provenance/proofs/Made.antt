@@ -10,7 +10,7 @@ use Rattle.ga_event.specs.declared.made.Made.{Made}
 use Rattle.ga_event.specs.Touches.{touches}
 use Rattle.ga_event.specs.Told.{steps_of}
 use Rattle.ga_grid.specs.Chip.{record_at}
-use Rattle.ga_lab.specs.Machine.{State, Standing, standing, chip_of, earlier, history_of}
+use Rattle.ga_lab.specs.Machine.{State, NodeAtStep, node_at_step, chip_of, earlier, history_of}
 use Rattle.ga_event.specs.declared.flow.part.Part.{Part}
 use Rattle.ga_event.specs.declared.flow.part.Part.TheVariants.{Data, Return, Ram, Rom, A, B, P, I, Io, Carry, Slot, Wait, Stop, Outside}
 use Rattle.ga_event.specs.Flow.{Flow, Same, IsPart, IsSource}
@@ -106,33 +106,33 @@ told_so s node value told made is same e there =
     ap (λ (m : NodeId). origin_from s m told.step told.part) (sym (same ∙ is)) ∙ e ∙ ap (λ (m : NodeId). origin_from s m value.step value.part) is ∙ there
 
 -- a node that is walked back to a number of its steps
-pub stands_so : (s : State) (node : NodeId) (step : ℕ) (walk : Standing) → walk ≡ standing s node step → walk ≡ standing s node walk.step
-stands_so s node step walk e = e ∙ ap (standing s node) (sym (ap (λ (z : Standing). z.step) e))
+pub has_step_so : (s : State) (node : NodeId) (step : ℕ) (walk : NodeAtStep) → walk ≡ node_at_step s node step → walk ≡ node_at_step s node walk.step
+has_step_so s node step walk e = e ∙ ap (node_at_step s node) (sym (ap (λ (z : NodeAtStep). z.step) e))
 
 -- and one that was not walked on
-pub stays_so : (s : State) (node : NodeId) (old new : Standing) → old ≡ standing s node old.step → new ≡ old → new ≡ standing s node new.step
-stays_so s node old new e same = same ∙ e ∙ ap (λ (z : Standing). standing s node z.step) (sym same)
+pub stays_so : (s : State) (node : NodeId) (old new : NodeAtStep) → old ≡ node_at_step s node old.step → new ≡ old → new ≡ node_at_step s node new.step
+stays_so s node old new e same = same ∙ e ∙ ap (λ (z : NodeAtStep). node_at_step s node z.step) (sym same)
 
-pub within_so : (s : State) (node : NodeId) (walk : Standing) (k : ℕ) → walk ≡ standing s node walk.step → k ≤ steps_of walk.node.number walk.machine.kept
+pub within_so : (s : State) (node : NodeId) (walk : NodeAtStep) (k : ℕ) → walk ≡ node_at_step s node walk.step → k ≤ steps_of walk.node.number walk.machine.kept
     → k ≤ steps_of node.number s.kept
-within_so s node walk k e within = subst (λ (z : Standing). k ≤ steps_of z.node.number z.machine.kept) e within
+within_so s node walk k e within = subst (λ (z : NodeAtStep). k ≤ steps_of z.node.number z.machine.kept) e within
 
-pub back_so : (s : State) (node : NodeId) (old new : Standing) → old ≡ standing s node old.step → new ≡ record old { step = old.step - 1 } → new ≡ standing s node (old.step - 1)
-back_so s node old new e f = f ∙ ap (λ (z : Standing). record z { step = old.step - 1 }) e
+pub back_so : (s : State) (node : NodeId) (old new : NodeAtStep) → old ≡ node_at_step s node old.step → new ≡ record old { step = old.step - 1 } → new ≡ node_at_step s node (old.step - 1)
+back_so s node old new e f = f ∙ ap (λ (z : NodeAtStep). record z { step = old.step - 1 }) e
 
-pub then_of : (s : State) (node : NodeId) (walk : Standing) (behind : NodeRecord) → walk ≡ standing s node walk.step → walk.step ≤ steps_of walk.node.number walk.machine.kept
+pub then_of : (s : State) (node : NodeId) (walk : NodeAtStep) (behind : NodeRecord) → walk ≡ node_at_step s node walk.step → walk.step ≤ steps_of walk.node.number walk.machine.kept
     → ((place : ℕ) → steps_of walk.node.number (take place walk.machine.kept) ≡ walk.step → behind ≡ record_at (chip_of (earlier walk.machine place)) walk.node.number)
     → behind ≡ node_after s node.number walk.step
 then_of s node walk behind e within h =
     h (place_after walk.machine.kept walk.node.number walk.step) (place_holds walk.machine.kept walk.node.number walk.step within)
-    ∙ ap (λ (z : Standing). node_after z.machine z.node.number walk.step) e
+    ∙ ap (λ (z : NodeAtStep). node_after z.machine z.node.number walk.step) e
 
 -- the same for a walk at this step
-pub stood_of : (s : State) (node : NodeId) (walk : Standing) (step : ℕ) (behind : NodeRecord) → walk ≡ standing s node step → step ≤ steps_of node.number s.kept
+pub stood_of : (s : State) (node : NodeId) (walk : NodeAtStep) (step : ℕ) (behind : NodeRecord) → walk ≡ node_at_step s node step → step ≤ steps_of node.number s.kept
     → ((place : ℕ) → steps_of walk.node.number (take place walk.machine.kept) ≡ walk.step → behind ≡ record_at (chip_of (earlier walk.machine place)) walk.node.number)
     → behind ≡ node_after s node.number step
 stood_of s node walk step behind e within h =
-    subst (λ (z : Standing). (place : ℕ) → steps_of z.node.number (take place z.machine.kept) ≡ z.step → behind ≡ record_at (chip_of (earlier z.machine place)) z.node.number) e h
+    subst (λ (z : NodeAtStep). (place : ℕ) → steps_of z.node.number (take place z.machine.kept) ≡ z.step → behind ≡ record_at (chip_of (earlier z.machine place)) z.node.number) e h
     (place_after s.kept node.number step) (place_holds s.kept node.number step within)
 
 pub flow_none : (s : State) (n k j : ℕ) (at : Part) → None ≡ slice_get (history_of s n) j → j ≡ k → Same at ≡ flow_at s n k at

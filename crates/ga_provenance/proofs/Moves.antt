@@ -8,12 +8,12 @@ use Rattle.ga_ports.specs.declared.address.Target.{Target}
 use Rattle.ga_ports.specs.declared.address.Target.TheVariants as target
 use Rattle.ga_node.specs.Record.{NodeRecord}
 use Rattle.ga_node.specs.Changes.{Change}
-use Rattle.ga_node.specs.Table.{t, r, is_extended, due_of, found, stored, followed, posts, halts, with_kind, done_by, own_event, own}
+use Rattle.ga_node.specs.Table.{t, r, is_extended, next_action_of, found, stored, followed, posts, stop_effect, with_kind, done_by, own_event, own}
 use Rattle.ga_node.specs.declared.kind.Kind.{Kind}
 use Rattle.ga_node.specs.declared.kind.Kind.TheVariants as kind
 use Rattle.ga_node.specs.declared.seen.Seen.{Seen}
-use Rattle.ga_node.specs.declared.due.Due.{Due}
-use Rattle.ga_node.specs.declared.due.Due.TheVariants as due
+use Rattle.ga_node.specs.declared.due.NextAction.{NextAction}
+use Rattle.ga_node.specs.declared.due.NextAction.TheVariants as due
 use Rattle.ga_node.specs.declared.wait.Wait.TheVariants as wait
 use Rattle.ga_node.specs.declared.wait.Reader.{Reader}
 use Rattle.ga_node.specs.declared.wait.Reader.TheVariants.{Instruction, Stack}
@@ -99,7 +99,7 @@ by_write ran (target.Rom c) n at start more rest wrote h = (wrote h).in_rom
 by_write ran target.Io n at start more rest wrote h = (wrote h).in_io
 by_write ran (target.Ports sides) n at start more rest wrote h = at_port (is_single sides) h
   where
-    at_port : (single : Bool) → by_kind (cond single (posts (wait.Write (side_of sides))) (halts 1)).0 at ≡ Some start
+    at_port : (single : Bool) → by_kind (cond single (posts (wait.Write (side_of sides))) (stop_effect 1)).0 at ≡ Some start
         → Moved (cond single (SetWait ∷ []) (SetStop ∷ [])) at start
     at_port true g = waits at start g
     at_port false g = stops at start g
@@ -184,13 +184,13 @@ fetch_moves : (word : Flow) (at start : Part) → by_fetch at ≡ Some start →
 fetch_moves word (Data k) start h = h
 fetch_moves word at start h = cc
 
-due_moves : (what : Due) (seen : Seen) (n : NodeRecord) (at start : Part) → by_kind (done_by what seen n).0 at ≡ Some start → Moved (moves_by what n) at start
+due_moves : (what : NextAction) (seen : Seen) (n : NodeRecord) (at start : Part) → by_kind (done_by what seen n).0 at ≡ Some start → Moved (moves_by what n) at start
 due_moves due.Fetch seen n at start h = by_read kind.Fetch (classified n.p) Instruction seen n at start _ (λ word. SetI word ∷ SetP (from P) ∷ StartAgain ∷ []) (λ word g. fetch_moves word at start g) h
 due_moves (due.Run o) seen n at start h = op_moves o seen n at start h
 
 own_moves : (seen : Seen) (n : NodeRecord) (at start : Part) → by_kind (own seen n).0 at ≡ Some start → moved_from (own_flow n at) at ≡ Some start
 unfolding own_flow own own_event
-own_moves seen n at start h = due_moves (due_of n) seen n at start h
+own_moves seen n at start h = due_moves (next_action_of n) seen n at start h
 
 told_moves : (told : Option Made) (before : NodeRecord) (n : ℕ) (at start : Part) → ((m : NodeId) (step : ℕ) (ran : Kind) → told ≡ Some (made.Own m step ran) → WasNext before ran)
     → moved_by told at ≡ Some start → moved_from (flow_told told before n at) at ≡ Some start

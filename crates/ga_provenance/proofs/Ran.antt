@@ -5,7 +5,7 @@ use Rattle.std.specs.List.{slice_get}
 use Rattle.std.proofs.lemmas.Option.{same_Some, none-some}
 use Rattle.std.proofs.lemmas.Bool.{eqb-true}
 use Rattle.ga_node.specs.Record.{NodeRecord}
-use Rattle.ga_node.specs.Table.{own, Access, Plain, Reads, Writes, found, stored, followed, carried_out, does, fetches, due_of, posts, halts, with_kind, done_by, own_event}
+use Rattle.ga_node.specs.Table.{own, Access, Plain, Reads, Writes, found, stored, followed, carried_out, opcode_effect, fetches, next_action_of, posts, stop_effect, with_kind, done_by, own_event}
 use Rattle.ga_node.specs.declared.kind.Kind.{Kind}
 use Rattle.ga_node.specs.declared.kind.NotReady.{NotReady}
 use Rattle.ga_node.specs.declared.seen.Seen.{Seen}
@@ -16,7 +16,7 @@ use Rattle.ga_event.specs.declared.event.Event.TheVariants as event
 use Rattle.ga_event.specs.declared.event.Cause.{Cause}
 use Rattle.ga_event.specs.declared.made.Made.{Made}
 use Rattle.ga_event.specs.declared.made.Made.TheVariants as made
-use Rattle.ga_event.specs.Apply.{Told, seen_from, after, refusal_of, cause_of, unless, run, replay, Agree}
+use Rattle.ga_event.specs.Apply.{EventOutcome, neighbour_states, after, refusal_of, cause_of, when_allowed, run, replay, Agree}
 use Rattle.ga_event.specs.Touches.{touches}
 use Rattle.ga_event.specs.Told.{made_after, mades_after}
 use Rattle.ga_event.proofs.Locality.{apply_keeps}
@@ -29,8 +29,8 @@ use Rattle.ga_ports.specs.declared.address.Target.{Target}
 use Rattle.ga_ports.specs.declared.address.Target.TheVariants as target
 use Rattle.ga_node.specs.Changes.{Change}
 use Rattle.ga_node.specs.declared.kind.Kind.TheVariants as kind
-use Rattle.ga_node.specs.declared.due.Due.{Due}
-use Rattle.ga_node.specs.declared.due.Due.TheVariants as due
+use Rattle.ga_node.specs.declared.due.NextAction.{NextAction}
+use Rattle.ga_node.specs.declared.due.NextAction.TheVariants as due
 use Rattle.ga_node.specs.declared.wait.Wait.TheVariants as wait
 use Rattle.ga_node.specs.declared.wait.Reader.{Reader}
 use Rattle.ga_node.specs.declared.wait.Reader.TheVariants.{Instruction, Stack}
@@ -42,7 +42,7 @@ use Rattle.ga_provenance.specs.inner.{IsDueBy}
 -- ---- a step of a node's own, as made, is what its next event was in the node before it
 
 abbrev Ended : Type 0
-Ended = List NodeRecord × List (Cause × Told)
+Ended = List NodeRecord × List (Cause × EventOutcome)
 
 -- the first of some events is enabled, and then the others
 record Begins (chip : List NodeRecord) (e : Event) (es : List Event) (done : Ended) : Type 0 where
@@ -61,27 +61,27 @@ begins chip e es done h = at_first (refusal_of chip e) refl h
     at_rest (Some rest) can runs is = record { rest = rest; can = can; runs = runs; is = sym (ap (λ (z : Ended). z.1) (same_Some _ _ is)); ends = sym (ap (λ (z : Ended). z.0) (same_Some _ _ is)) }
 
     at_first : (why : Option NotReady) → refusal_of chip e ≡ why
-        → option_and_then {U = Ended} (λ first. option_map {U = Ended} (λ rest. (rest.0, (cause_of chip e, first.1) ∷ rest.1)) (run first.0 es)) (unless why (after chip e)) ≡ Some done
+        → option_and_then {U = Ended} (λ first. option_map {U = Ended} (λ rest. (rest.0, (cause_of chip e, first.1) ∷ rest.1)) (run first.0 es)) (when_allowed why (after chip e)) ≡ Some done
         → Begins chip e es done
     at_first None can is = at_rest (run (after chip e).0 es) can refl is
     at_first (Some why) can is = absurd (cc)
 
 -- what they lead to
-front_of : (x : Cause × Told) (r : Option Ended) → option_map (λ (z : Ended). z.0) (option_map {U = Ended} (λ rest. (rest.0, x ∷ rest.1)) r) ≡ option_map (λ (z : Ended). z.0) r
+front_of : (x : Cause × EventOutcome) (r : Option Ended) → option_map (λ (z : Ended). z.0) (option_map {U = Ended} (λ rest. (rest.0, x ∷ rest.1)) r) ≡ option_map (λ (z : Ended). z.0) r
 front_of x None = refl
 front_of x (Some rest) = refl
 
 replay_on : (chip : List NodeRecord) (e : Event) (xs : List Event) → refusal_of chip e ≡ None → replay chip (e ∷ xs) ≡ replay (after chip e).0 xs
 replay_on chip e xs can =
     ap (λ (why : Option NotReady). option_map (λ (z : Ended). z.0)
-    (option_and_then {U = Ended} (λ first. option_map {U = Ended} (λ rest. (rest.0, (cause_of chip e, first.1) ∷ rest.1)) (run first.0 xs)) (unless why (after chip e)))) can
+    (option_and_then {U = Ended} (λ first. option_map {U = Ended} (λ rest. (rest.0, (cause_of chip e, first.1) ∷ rest.1)) (run first.0 xs)) (when_allowed why (after chip e)))) can
     ∙ front_of (cause_of chip e, (after chip e).1) (run (after chip e).0 xs)
 
 -- a node that an event doesn't touch stays
 stays : (chip : List NodeRecord) (e : Event) (n : ℕ) → refusal_of chip e ≡ None → touches e n ≡ false → record_at chip n ≡ record_at (after chip e).0 n
 stays chip e n can other =
     let keeps : Agree (touches e) chip (after chip e).0 =
-    subst (λ (why : Option NotReady). IfSome (unless why (after chip e)) (λ (done : List NodeRecord × Told). Agree (touches e) chip done.0)) can (apply_keeps chip e) in
+    subst (λ (why : Option NotReady). IfSome (when_allowed why (after chip e)) (λ (done : List NodeRecord × EventOutcome). Agree (touches e) chip done.0)) can (apply_keeps chip e) in
     keeps.same n other
 
 none_first : (es : List Event) (n : ℕ) → place_after es n zero ≡ zero
@@ -103,7 +103,7 @@ touched_first : (chip : List NodeRecord) (e : Event) (before : List Event) (rest
     → slice_get (option_to_list (made_after before e (after chip e).1) ++ rest) zero ≡ Some (made.Own m step kind) → Went (length chip) (record_at chip n) (record_at (after chip e).0 n) kind
 touched_first chip (event.Own node) before rest n step m kind touched h =
     let at : node.number ≡ n = number (node.number == n) refl touched in
-    let seen : Seen = seen_from chip node.number in
+    let seen : Seen = neighbour_states chip node.number in
     record {
       seen = seen;
       ran = ap (λ (k : ℕ). (own seen (record_at chip k)).0) (sym at) ∙ cc;
@@ -261,7 +261,7 @@ write_done ran did (target.Rom c) n more done h = h
 write_done ran did target.Io n more done h = h
 write_done ran did (target.Ports sides) n more done h = absurd (at_port (is_single sides) h)
   where
-    at_port : (single : Bool) → (cond single (posts (wait.Write (side_of sides))) (halts 1)).0 ≡ did → ⊥
+    at_port : (single : Bool) → (cond single (posts (wait.Write (side_of sides))) (stop_effect 1)).0 ≡ did → ⊥
     at_port true g = cc
     at_port false g = cc
 write_done ran did target.Bad n more done h = absurd (cc)
@@ -278,41 +278,41 @@ code_in kind.Fetch = 32
 code_in kind.Wait = 32
 code_in (kind.Stop code) = 32
 
-run_is : (what : Due) (seen : Seen) (n : NodeRecord) (code : ℕ) → (done_by what seen n).0 ≡ kind.Run code → what ≡ due.Run (op_of code)
+run_is : (what : NextAction) (seen : Seen) (n : NodeRecord) (code : ℕ) → (done_by what seen n).0 ≡ kind.Run code → what ≡ due.Run (op_of code)
 unfolding is_done code_in
 run_is due.Fetch seen n code h = let is = all_done kind.Fetch (kind.Run code) Instruction (fetches n) seen n refl h in absurd (cc)
 run_is (due.Run o) seen n code h =
-    ap due.Run (sym (op_of-code_of o) ∙ ap op_of (ap code_in (all_done (kind.Run (code_of o)) (kind.Run code) Stack (does o n) seen n refl h)))
+    ap due.Run (sym (op_of-code_of o) ∙ ap op_of (ap code_in (all_done (kind.Run (code_of o)) (kind.Run code) Stack (opcode_effect o n) seen n refl h)))
 
-fetch_is : (what : Due) (seen : Seen) (n : NodeRecord) → (done_by what seen n).0 ≡ kind.Fetch → what ≡ due.Fetch
+fetch_is : (what : NextAction) (seen : Seen) (n : NodeRecord) → (done_by what seen n).0 ≡ kind.Fetch → what ≡ due.Fetch
 unfolding is_done
 fetch_is due.Fetch seen n h = refl
-fetch_is (due.Run o) seen n h = let is = all_done (kind.Run (code_of o)) kind.Fetch Stack (does o n) seen n refl h in absurd (cc)
+fetch_is (due.Run o) seen n h = let is = all_done (kind.Run (code_of o)) kind.Fetch Stack (opcode_effect o n) seen n refl h in absurd (cc)
 
-ran_op : (n : NodeRecord) (code : ℕ) → WasNext n (kind.Run code) → due_of n ≡ due.Run (op_of code)
+ran_op : (n : NodeRecord) (code : ℕ) → WasNext n (kind.Run code) → next_action_of n ≡ due.Run (op_of code)
 unfolding own own_event
-ran_op n code was = run_is (due_of n) was.seen n code was.is
+ran_op n code was = run_is (next_action_of n) was.seen n code was.is
 
-ran_fetch : (n : NodeRecord) → WasNext n kind.Fetch → due_of n ≡ due.Fetch
+ran_fetch : (n : NodeRecord) → WasNext n kind.Fetch → next_action_of n ≡ due.Fetch
 unfolding own own_event
-ran_fetch n was = fetch_is (due_of n) was.seen n was.is
+ran_fetch n was = fetch_is (next_action_of n) was.seen n was.is
 
-due_was : (n : NodeRecord) (ran : Kind) (what : Due) → WasNext n ran → IsDueBy ran what → due_of n ≡ what
+due_was : (n : NodeRecord) (ran : Kind) (what : NextAction) → WasNext n ran → IsDueBy ran what → next_action_of n ≡ what
 due_was n kind.Fetch what was is = ran_fetch n was ∙ sym is
 due_was n (kind.Run code) what was is = ran_op n code was ∙ sym is
 due_was n kind.Wait what was is = absurd is
 due_was n (kind.Stop code) what was is = absurd is
 
 -- of a step of a node
-pub due_told : (s : State) (n k step : ℕ) (m : NodeId) (ran : Kind) (what : Due) → slice_get (history_of s n) k ≡ Some (made.Own m step ran) → IsDueBy ran what → due_of (node_after s n k) ≡ what
+pub due_told : (s : State) (n k step : ℕ) (m : NodeId) (ran : Kind) (what : NextAction) → slice_get (history_of s n) k ≡ Some (made.Own m step ran) → IsDueBy ran what → next_action_of (node_after s n k) ≡ what
 due_told s n k step m ran what told is = due_was (node_after s n k) ran what (ran_so s n k step m ran told) is
 
 -- what decides what came next determines from where its values come
-by_due : (what : Due) (n : NodeRecord) (at : Part) → moved_all (moves_where what (choice what n)) Same at ≡ moved_all (moves_by what n) Same at
+by_due : (what : NextAction) (n : NodeRecord) (at : Part) → moved_all (moves_where what (choice what n)) Same at ≡ moved_all (moves_by what n) Same at
 by_due due.Fetch n at = refl
 by_due (due.Run o) n at = refl
 
-pub own_where : (n : NodeRecord) (what : Due) (known : Choice) (at : Part) → due_of n ≡ what → known ≡ choice what n → flow_where what known at ≡ own_flow n at
+pub own_where : (n : NodeRecord) (what : NextAction) (known : Choice) (at : Part) → next_action_of n ≡ what → known ≡ choice what n → flow_where what known at ≡ own_flow n at
 unfolding flow_where own_flow
 own_where n what known at next is =
-    ap (λ (z : Choice). moved_all (moves_where what z) Same at) is ∙ by_due what n at ∙ ap (λ (d : Due). moved_all (moves_by d n) Same at) (sym next)
+    ap (λ (z : Choice). moved_all (moves_where what z) Same at) is ∙ by_due what n at ∙ ap (λ (d : NextAction). moved_all (moves_by d n) Same at) (sym next)

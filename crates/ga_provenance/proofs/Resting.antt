@@ -6,10 +6,10 @@ use Rattle.ga_grid.specs.Chip.{record_at}
 use Rattle.ga_event.specs.Told.{steps_of}
 use Rattle.ga_lab.specs.Machine.{State, chip_of, earlier, history_of}
 use Rattle.ga_lab.specs.Holding.{Holds}
-use Rattle.ga_provenance.specs.declared.kept.Kept.{Kept}
-use Rattle.ga_provenance.specs.declared.kept.Kept.TheVariants.{A, B, Ram}
+use Rattle.ga_provenance.specs.declared.kept.TrackedPlace.{TrackedPlace}
+use Rattle.ga_provenance.specs.declared.kept.TrackedPlace.TheVariants.{A, B, Ram}
 use Rattle.ga_provenance.specs.Origins.{place_after, node_after}
-use Rattle.ga_provenance.specs.inner.{place_of, word_of, writes, rests_by, rests, IsWhole}
+use Rattle.ga_provenance.specs.inner.{place_of, word_of, writes, rests_by, is_unchanged_by, IsWhole}
 use Rattle.ga_provenance.proofs.Made.{place_holds}
 use Rattle.std.specs.List.{slice_get}
 use Rattle.ga_slots.specs.declared.op.Op.{Op}
@@ -18,12 +18,12 @@ use Rattle.ga_ports.specs.Address.{classified, is_single, side_of}
 use Rattle.ga_ports.specs.declared.address.Target.{Target}
 use Rattle.ga_ports.specs.declared.address.Target.TheVariants as target
 use Rattle.ga_node.specs.Changes.{Change, SetA, SetB, SetRam, SetIo, SetWait, SetStop, changed, after_changes}
-use Rattle.ga_node.specs.Table.{t, r, is_extended, due_of, found, stored, followed, posts, halts, awaited, with_kind, done_by, own_event, own}
+use Rattle.ga_node.specs.Table.{t, r, is_extended, next_action_of, found, stored, followed, posts, stop_effect, awaited, with_kind, done_by, own_event, own}
 use Rattle.ga_node.specs.declared.kind.Kind.{Kind}
 use Rattle.ga_node.specs.declared.kind.Kind.TheVariants as kind
 use Rattle.ga_node.specs.declared.seen.Seen.{Seen}
-use Rattle.ga_node.specs.declared.due.Due.{Due}
-use Rattle.ga_node.specs.declared.due.Due.TheVariants as due
+use Rattle.ga_node.specs.declared.due.NextAction.{NextAction}
+use Rattle.ga_node.specs.declared.due.NextAction.TheVariants as due
 use Rattle.ga_node.specs.declared.wait.Wait.TheVariants as wait
 use Rattle.ga_node.specs.declared.wait.Reader.{Reader}
 use Rattle.ga_node.specs.declared.wait.Reader.TheVariants.{Instruction, Stack}
@@ -47,12 +47,12 @@ held_left s n at value what within left held =
     left (place_after s.kept n at) (place_after s.kept n (at + 1)) value (place_holds s.kept n at (omega (arith, within))) (place_holds s.kept n (at + 1) within) held
 
 -- a tracked word is the value of its place
-pub word_held : (kept : Kept) (node : NodeRecord) (word : ℕ) → Holds node (place_of kept) word → word_of kept node ≡ word
+pub word_held : (kept : TrackedPlace) (node : NodeRecord) (word : ℕ) → Holds node (place_of kept) word → word_of kept node ≡ word
 word_held A node word h = h
 word_held B node word h = h
 word_held (Ram cell) node word h = h
 
-pub held_word : (kept : Kept) (node : NodeRecord) (word : ℕ) → word_of kept node ≡ word → Holds node (place_of kept) word
+pub held_word : (kept : TrackedPlace) (node : NodeRecord) (word : ℕ) → word_of kept node ≡ word → Holds node (place_of kept) word
 held_word A node word h = h
 held_word B node word h = h
 held_word (Ram cell) node word h = h
@@ -60,17 +60,17 @@ held_word (Ram cell) node word h = h
 -- ---- steps that leave a register or a cell as it was
 
 -- a change of something else
-abbrev Spares : Change → Kept → Type 0
+abbrev Spares : Change → TrackedPlace → Type 0
 Spares (SetA word) A = ⊥
 Spares (SetB word) B = ⊥
 Spares (SetRam other word) (Ram cell) = ⊥
 Spares change kept = Unit {0}
 
-abbrev Spare : List Change → Kept → Type 0
+abbrev Spare : List Change → TrackedPlace → Type 0
 Spare [] kept = Unit {0}
 Spare (change ∷ rest) kept = Spares change kept × Spare rest kept
 
-stays : (change : Change) (kept : Kept) (n : NodeRecord) → Spares change kept → word_of kept (changed change n) ≡ word_of kept n
+stays : (change : Change) (kept : TrackedPlace) (n : NodeRecord) → Spares change kept → word_of kept (changed change n) ≡ word_of kept n
 stays (SetA word) A n spares = absurd spares
 stays (SetB word) B n spares = absurd spares
 stays (SetRam other word) (Ram cell) n spares = absurd spares
@@ -79,22 +79,22 @@ stays change B n spares = refl
 stays change (Ram cell) n spares = refl
 
 -- after these changes it holds what it held
-abbrev Rest : Kept → List Change → NodeRecord → Type 0
+abbrev Rest : TrackedPlace → List Change → NodeRecord → Type 0
 Rest kept changes n = word_of kept (after_changes changes n) ≡ word_of kept n
 
-spared : (kept : Kept) (n : NodeRecord) (changes : List Change) → Spare changes kept → Rest kept changes n
+spared : (kept : TrackedPlace) (n : NodeRecord) (changes : List Change) → Spare changes kept → Rest kept changes n
 spared kept n [] spares = refl
 spared kept n (change ∷ rest) spares = spared kept (changed change n) rest spares.1 ∙ stays change kept n spares.0
 
 -- so after an event that came out as this
-abbrev RestBy : Kept → Kind × List Change → NodeRecord → Type 0
+abbrev RestBy : TrackedPlace → Kind × List Change → NodeRecord → Type 0
 RestBy kept event n = rests_by kept event.0 ≡ true → Rest kept event.1 n
 
-by_test : (kept : Kept) (test : Bool) (some others : List Change) (n : NodeRecord) → Spare some kept → Spare others kept → Rest kept (cond test some others) n
+by_test : (kept : TrackedPlace) (test : Bool) (some others : List Change) (n : NodeRecord) → Spare some kept → Spare others kept → Rest kept (cond test some others) n
 by_test kept true some others n first second = spared kept n some first
 by_test kept false some others n first second = spared kept n others second
 
-by_read : (kept : Kept) (ran : Kind) (target : Target) (reader : Reader) (seen : Seen) (n : NodeRecord) (more : ℕ → List Change)
+by_read : (kept : TrackedPlace) (ran : Kind) (target : Target) (reader : Reader) (seen : Seen) (n : NodeRecord) (more : ℕ → List Change)
     → ((word : ℕ) → rests_by kept ran ≡ true → Spare (more word) kept) → RestBy kept (with_kind ran (followed (found target reader seen n) more)) n
 unfolding found followed
 by_read kept ran (target.Ram c) reader seen n more gave h = spared kept n _ (gave _ h)
@@ -103,7 +103,7 @@ by_read kept ran target.Io reader seen n more gave h = spared kept n _ (gave _ h
 by_read kept ran (target.Ports sides) reader seen n more gave h = spared kept n (SetWait (awaited reader sides) ∷ []) (tt, tt)
 by_read kept ran target.Bad reader seen n more gave h = spared kept n (SetStop 2 ∷ []) (tt, tt)
 
-by_write : (kept : Kept) (ran : Kind) (target : Target) (n : NodeRecord) (more : List Change)
+by_write : (kept : TrackedPlace) (ran : Kind) (target : Target) (n : NodeRecord) (more : List Change)
     → ((cell : ℕ) → rests_by kept ran ≡ true → Spares (SetRam cell (t n)) kept) → (rests_by kept ran ≡ true → Spare more kept)
     → RestBy kept (with_kind ran (followed (stored target n) (λ changes. changes ++ more))) n
 unfolding stored followed
@@ -112,28 +112,28 @@ by_write kept ran (target.Rom c) n more ram rest h = spared kept n more (rest h)
 by_write kept ran target.Io n more ram rest h = spared kept n (SetIo (t n) ∷ more) (tt, rest h)
 by_write kept ran (target.Ports sides) n more ram rest h = at_port (is_single sides)
   where
-    at_port : (single : Bool) → Rest kept (cond single (posts (wait.Write (side_of sides))) (halts 1)).1 n
+    at_port : (single : Bool) → Rest kept (cond single (posts (wait.Write (side_of sides))) (stop_effect 1)).1 n
     at_port true = spared kept n (SetWait (wait.Write (side_of sides)) ∷ []) (tt, tt)
     at_port false = spared kept n (SetStop 1 ∷ []) (tt, tt)
 by_write kept ran target.Bad n more ram rest h = spared kept n (SetStop 2 ∷ []) (tt, tt)
 
 -- an opcode that may write there is none that leaves it
-no_a : (kept : Kept) (code : ℕ) → writes A code ≡ true → rests_by kept (kind.Run code) ≡ true → Spares (SetA 0) kept
+no_a : (kept : TrackedPlace) (code : ℕ) → writes A code ≡ true → rests_by kept (kind.Run code) ≡ true → Spares (SetA 0) kept
 no_a A code is h = absurd (cc)
 no_a B code is h = tt
 no_a (Ram cell) code is h = tt
 
-no_b : (kept : Kept) (code : ℕ) → writes B code ≡ true → rests_by kept (kind.Run code) ≡ true → Spares (SetB 0) kept
+no_b : (kept : TrackedPlace) (code : ℕ) → writes B code ≡ true → rests_by kept (kind.Run code) ≡ true → Spares (SetB 0) kept
 no_b A code is h = tt
 no_b B code is h = absurd (cc)
 no_b (Ram cell) code is h = tt
 
-no_ram : (kept : Kept) (code cell : ℕ) → code / 4 ≡ 3 → rests_by kept (kind.Run code) ≡ true → Spares (SetRam cell 0) kept
+no_ram : (kept : TrackedPlace) (code cell : ℕ) → code / 4 ≡ 3 → rests_by kept (kind.Run code) ≡ true → Spares (SetRam cell 0) kept
 no_ram A code cell is h = tt
 no_ram B code cell is h = tt
 no_ram (Ram other) code cell is h = absurd (cc)
 
-op_rests : (o : Op) (seen : Seen) (n : NodeRecord) (kept : Kept) → RestBy kept (done_by (due.Run o) seen n) n
+op_rests : (o : Op) (seen : Seen) (n : NodeRecord) (kept : TrackedPlace) → RestBy kept (done_by (due.Run o) seen n) n
 op_rests op.Return seen n kept h = spared kept n (done_by (due.Run op.Return) seen n).1 (tt, (tt, (tt, tt)))
 op_rests op.Execute seen n kept h = spared kept n (done_by (due.Run op.Execute) seen n).1 (tt, (tt, (tt, tt)))
 op_rests op.Jump seen n kept h = spared kept n (done_by (due.Run op.Jump) seen n).1 (tt, (tt, tt))
@@ -167,17 +167,17 @@ op_rests op.Push seen n kept h = spared kept n (done_by (due.Run op.Push) seen n
 op_rests op.BStore seen n kept h = spared kept n (done_by (due.Run op.BStore) seen n).1 (no_b kept 30 refl h, (tt, (tt, tt)))
 op_rests op.AStore seen n kept h = spared kept n (done_by (due.Run op.AStore) seen n).1 (no_a kept 31 refl h, (tt, (tt, tt)))
 
-due_rests : (what : Due) (seen : Seen) (n : NodeRecord) (kept : Kept) → RestBy kept (done_by what seen n) n
+due_rests : (what : NextAction) (seen : Seen) (n : NodeRecord) (kept : TrackedPlace) → RestBy kept (done_by what seen n) n
 due_rests due.Fetch seen n kept h = by_read kept kind.Fetch (classified n.p) Instruction seen n _ (λ word g. (tt, (tt, (tt, tt)))) h
 due_rests (due.Run o) seen n kept h = op_rests o seen n kept h
 
-own_rests : (seen : Seen) (n : NodeRecord) (kept : Kept) → rests_by kept (own seen n).0 ≡ true → word_of kept (own seen n).1 ≡ word_of kept n
+own_rests : (seen : Seen) (n : NodeRecord) (kept : TrackedPlace) → rests_by kept (own seen n).0 ≡ true → word_of kept (own seen n).1 ≡ word_of kept n
 unfolding own own_event
-own_rests seen n kept h = due_rests (due_of n) seen n kept h
+own_rests seen n kept h = due_rests (next_action_of n) seen n kept h
 
 -- ---- of a step of a node
 
-told_rests : (s : State) (n k : ℕ) (kept : Kept) (told : Option Made) → IsWhole s → slice_get (history_of s n) k ≡ told → rests kept told ≡ true
+told_rests : (s : State) (n k : ℕ) (kept : TrackedPlace) (told : Option Made) → IsWhole s → slice_get (history_of s n) k ≡ told → is_unchanged_by kept told ≡ true
     → word_of kept (node_after s n (k + 1)) ≡ word_of kept (node_after s n k)
 told_rests s n k kept None whole is h = absurd (cc)
 told_rests s n k kept (Some (made.Own m step ran)) whole is h =
@@ -185,6 +185,6 @@ told_rests s n k kept (Some (made.Own m step ran)) whole is h =
     ap (word_of kept) became.next ∙ own_rests became.seen (node_after s n k) kept (ap (rests_by kept) became.ran ∙ h)
 told_rests s n k kept (Some (made.Pass writer i reader j word)) whole is h = absurd (cc)
 
-pub word_rests : (s : State) (n k word : ℕ) (kept : Kept) (told : Option Made) → IsWhole s → told ≡ slice_get (history_of s n) k → rests kept told ≡ true
+pub word_rests : (s : State) (n k word : ℕ) (kept : TrackedPlace) (told : Option Made) → IsWhole s → told ≡ slice_get (history_of s n) k → is_unchanged_by kept told ≡ true
     → word_of kept (node_after s n (k + 1)) ≡ word → word_of kept (node_after s n k) ≡ word
 word_rests s n k word kept told whole tells h behind = sym (told_rests s n k kept told whole (sym tells) h) ∙ behind

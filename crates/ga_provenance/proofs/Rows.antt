@@ -12,9 +12,9 @@ use Rattle.ga_event.specs.declared.flow.part.Part.{Part}
 use Rattle.ga_event.specs.declared.flow.part.Part.TheVariants.{Data, Return, Ram, Rom, A, B, P, I, Io, Carry, Slot, Wait, Stop, Outside}
 use Rattle.ga_event.specs.Flow.{Flow, Same, From, IsPart, top, kind_of, index_of, is_same, AreParts, AreSources}
 use Rattle.ga_provenance.specs.declared.value.Value.{Value}
-use Rattle.ga_provenance.specs.declared.listing.Row.{Row}
+use Rattle.ga_provenance.specs.declared.listing.ProvenanceRow.{ProvenanceRow}
 use Rattle.ga_provenance.specs.Origins.{flow_at, value_of_step, origin_of}
-use Rattle.ga_provenance.specs.Rows.{sender_in, source_values, sources_from, row_at, below, has_value, made_row, AreRows, all, again, next, cut, is_one, sources_of, IsToldIn}
+use Rattle.ga_provenance.specs.Rows.{sender_in, source_values, sources_from, row_at, below, has_value, made_row, AreRows, all, again, next, cut, is_one, sources_of, IsInTree}
 use Rattle.ga_provenance.specs.inner.{IsOpen}
 use Rattle.std.proofs.lemmas.Bool.{eq-eqb}
 use Rattle.std.proofs.lemmas.List.Folds.{list_any-append}
@@ -26,7 +26,7 @@ no_parts [] none = refl
 no_parts (x ∷ xs) none = absurd (none (omega arith))
 
 -- the last part moves to the stack
-pub gone_over : (g : Value → Row) (h : Part → Value) (parts left : List Part) (part : Part) (todo more : List Row) → parts ≡ left ++ part ∷ [] → more ≡ todo ++ g (h part) ∷ []
+pub gone_over : (g : Value → ProvenanceRow) (h : Part → Value) (parts left : List Part) (part : Part) (todo more : List ProvenanceRow) → parts ≡ left ++ part ∷ [] → more ≡ todo ++ g (h part) ∷ []
     → map g (map h left) ++ reverse more ≡ map g (map h parts) ++ reverse todo
 gone_over g h parts left part todo more is pushed =
     let both : map g (map h parts) ≡ map g (map h left) ++ g (h part) ∷ [] =
@@ -35,7 +35,7 @@ gone_over g h parts left part todo more is pushed =
     ∙ sym (append_assoc (map g (map h left)) (g (h part) ∷ []) (reverse todo))
     ∙ ap (λ z. z ++ reverse todo) (sym both)
 
-pub few_more : (g : Value → Row) (h : Part → Value) (parts : List Part) (todo more : List Row) → reverse more ≡ map g (map h parts) ++ reverse todo → length parts ≤ 3 → length more ≤ length todo + 3
+pub few_more : (g : Value → ProvenanceRow) (h : Part → Value) (parts : List Part) (todo more : List ProvenanceRow) → reverse more ≡ map g (map h parts) ++ reverse todo → length parts ≤ 3 → length more ≤ length todo + 3
 few_more g h parts todo more is few =
     let a = length-reverse more in
     let b = ap length is in
@@ -46,10 +46,10 @@ few_more g h parts todo more is few =
     omega (arith, a, b, c, d, e, f, few)
 
 -- what comes below a value at load, and below one that a step made
-pub below_load : (s : State) (row : Row) → row.value.step ≡ 0 → below s row ≡ []
+pub below_load : (s : State) (row : ProvenanceRow) → row.value.step ≡ 0 → below s row ≡ []
 below_load s row is = ap (λ (k : ℕ). map (row_at (row.depth + 1)) (sources_from s row.value.node k row.value.part)) is
 
-pub below_made : (s : State) (row : Row) (k : ℕ) (told : Option Made) (flow : Flow) → suc k ≡ row.value.step → told ≡ slice_get (history_of s row.value.node.number) k → flow ≡ flow_at s row.value.node.number k row.value.part
+pub below_made : (s : State) (row : ProvenanceRow) (k : ℕ) (told : Option Made) (flow : Flow) → suc k ≡ row.value.step → told ≡ slice_get (history_of s row.value.node.number) k → flow ≡ flow_at s row.value.node.number k row.value.part
     → map (row_at (row.depth + 1)) (source_values row.value.node k told flow) ≡ below s row
 below_made s row k told flow is told_is flow_is =
     ap (λ (z : Flow). map (row_at (row.depth + 1)) (source_values row.value.node k told z)) flow_is
@@ -89,35 +89,35 @@ sources_stand node k told (From parts) is = parts_stand node k parts is
 rows_open : (depth : ℕ) (values : List Value) → All stands_in values → All (IsOpen depth) (map (row_at depth) values)
 rows_open depth values stand = All-map (IsOpen depth) (row_at depth) values (All-weaker stands_in (λ (v : Value). IsOpen depth (row_at depth v)) (λ v is. (is, omega arith)) values stand)
 
-pub below_open : (s : State) (row : Row) (k : ℕ) (told : Option Made) (flow : Flow) → suc k ≡ row.value.step → told ≡ slice_get (history_of s row.value.node.number) k → flow ≡ flow_at s row.value.node.number k row.value.part
+pub below_open : (s : State) (row : ProvenanceRow) (k : ℕ) (told : Option Made) (flow : Flow) → suc k ≡ row.value.step → told ≡ slice_get (history_of s row.value.node.number) k → flow ≡ flow_at s row.value.node.number k row.value.part
     → AreSources flow → All (IsOpen (row.depth + 1)) (below s row)
 below_open s row k told flow is told_is flow_is are =
     subst (All (IsOpen (row.depth + 1))) (below_made s row k told flow is told_is flow_is) (rows_open (row.depth + 1) (source_values row.value.node k told flow) (sources_stand row.value.node k told flow are))
 
-pub load_open : (s : State) (row : Row) → row.value.step ≡ 0 → All (IsOpen (row.depth + 1)) (below s row)
+pub load_open : (s : State) (row : ProvenanceRow) → row.value.step ≡ 0 → All (IsOpen (row.depth + 1)) (below s row)
 load_open s row is = subst (All (IsOpen (row.depth + 1))) (sym (below_load s row is)) (All-nil (IsOpen (row.depth + 1)))
 
 -- ---- rows listed one after another
 
 -- with these rows listed and those still to come, the later rows complete the rows of the first
-abbrev pub Tells : State → Row → List Row → List Row → Type 0
-Tells s first named todo = (later : List Row) (whole : Bool) → AreRows s named todo later whole → AreRows s [] (first ∷ []) (named ++ later) whole
+abbrev pub Tells : State → ProvenanceRow → List ProvenanceRow → List ProvenanceRow → Type 0
+Tells s first named todo = (later : List ProvenanceRow) (whole : Bool) → AreRows s named todo later whole → AreRows s [] (first ∷ []) (named ++ later) whole
 
-told_next : (s : State) (first : Row) (named todo : List Row) (row : Row) → has_value named (origin_of s row.value) ≡ false
+told_next : (s : State) (first : ProvenanceRow) (named todo : List ProvenanceRow) (row : ProvenanceRow) → has_value named (origin_of s row.value) ≡ false
     → Tells s first named (row ∷ todo) → Tells s first (named ++ made_row s row ∷ []) (below s (made_row s row) ++ todo)
 told_next s first named todo row is tells later whole rows =
     subst (λ z. AreRows s [] (first ∷ []) z whole) (sym (append_assoc named (made_row s row ∷ []) later)) (tells (made_row s row ∷ later) whole (next row is rows))
 
 -- the newest of a stack comes first
-pub top_first : (todo left : List Row) (row : Row) → todo ≡ left ++ row ∷ [] → reverse todo ≡ row ∷ reverse left
+pub top_first : (todo left : List ProvenanceRow) (row : ProvenanceRow) → todo ≡ left ++ row ∷ [] → reverse todo ≡ row ∷ reverse left
 top_first todo left row is = ap reverse is ∙ reverse-append left (row ∷ [])
 
-pub told_again : (s : State) (first : Row) (named todo left : List Row) (row : Row) (value : Value) → todo ≡ left ++ row ∷ [] → value ≡ origin_of s row.value → has_value named value ≡ true
+pub told_again : (s : State) (first : ProvenanceRow) (named todo left : List ProvenanceRow) (row : ProvenanceRow) (value : Value) → todo ≡ left ++ row ∷ [] → value ≡ origin_of s row.value → has_value named value ≡ true
     → Tells s first named (reverse todo) → Tells s first named (reverse left)
 told_again s first named todo left row value is e named_is tells later whole rows =
     subst (Tells s first named) (top_first todo left row is) tells later whole (again row (ap (has_value named) (sym e) ∙ named_is) rows)
 
-pub told_on : (s : State) (first : Row) (named grown todo left more : List Row) (row : Row) (value : Value) → todo ≡ left ++ row ∷ [] → value ≡ origin_of s row.value → has_value named value ≡ false
+pub told_on : (s : State) (first : ProvenanceRow) (named grown todo left more : List ProvenanceRow) (row : ProvenanceRow) (value : Value) → todo ≡ left ++ row ∷ [] → value ≡ origin_of s row.value → has_value named value ≡ false
     → grown ≡ named ++ row_at row.depth value ∷ [] → reverse more ≡ below s (row_at row.depth value) ++ reverse left
     → Tells s first named (reverse todo) → Tells s first grown (reverse more)
 told_on s first named grown todo left more row value is e named_is rows below_is tells =
@@ -127,35 +127,35 @@ told_on s first named grown todo left more row value is e named_is rows below_is
     subst (λ (z : Value). Tells s first (named ++ row_at row.depth z ∷ []) (below s (row_at row.depth z) ++ reverse left)) (sym e) on in
     subst (λ z. Tells s first z (reverse more)) (sym rows) (subst (Tells s first (named ++ row_at row.depth value ∷ [])) (sym below_is) here)
 
-pub told_cut : (s : State) (first : Row) (named todo left : List Row) (row : Row) (value : Value) → todo ≡ left ++ row ∷ [] → value ≡ origin_of s row.value → has_value named value ≡ false
+pub told_cut : (s : State) (first : ProvenanceRow) (named todo left : List ProvenanceRow) (row : ProvenanceRow) (value : Value) → todo ≡ left ++ row ∷ [] → value ≡ origin_of s row.value → has_value named value ≡ false
     → Tells s first named (reverse todo) → AreRows s [] (first ∷ []) named false
 told_cut s first named todo left row value is e named_is tells =
     subst (λ z. AreRows s [] (first ∷ []) z false) (append-nil named)
     (subst (Tells s first named) (top_first todo left row is) tells [] false (cut row (ap (has_value named) (sym e) ∙ named_is)))
 
-pub no_items : (xs : List Row) (n : ℕ) → n ≡ length xs → (0 < n → ⊥) → xs ≡ []
+pub no_items : (xs : List ProvenanceRow) (n : ℕ) → n ≡ length xs → (0 < n → ⊥) → xs ≡ []
 no_items [] n long none = refl
 no_items (x ∷ xs) n long none = absurd (none (omega (arith, long)))
 
-pub grown_by : (rows grown : List Row) (row : Row) → grown ≡ rows ++ row ∷ [] → length grown ≡ length rows + 1
+pub grown_by : (rows grown : List ProvenanceRow) (row : ProvenanceRow) → grown ≡ rows ++ row ∷ [] → length grown ≡ length rows + 1
 grown_by rows grown row is = let a = ap length is in let b = length-append rows (row ∷ []) in omega (arith, a, b)
 
-pub told_all : (s : State) (first : Row) (named todo : List Row) → todo ≡ [] → Tells s first named (reverse todo) → AreRows s [] (first ∷ []) named true
+pub told_all : (s : State) (first : ProvenanceRow) (named todo : List ProvenanceRow) → todo ≡ [] → Tells s first named (reverse todo) → AreRows s [] (first ∷ []) named true
 told_all s first named todo none tells =
-    subst (λ z. AreRows s [] (first ∷ []) z true) (append-nil named) (subst (λ (z : List Row). Tells s first named (reverse z)) none tells [] true all)
+    subst (λ z. AreRows s [] (first ∷ []) z true) (append-nil named) (subst (λ (z : List ProvenanceRow). Tells s first named (reverse z)) none tells [] true all)
 
 -- ---- what is still to be listed
 
-pub open_top : (m : ℕ) (todo left : List Row) (row : Row) → todo ≡ left ++ row ∷ [] → All (IsOpen m) (reverse todo) → IsOpen m row
+pub open_top : (m : ℕ) (todo left : List ProvenanceRow) (row : ProvenanceRow) → todo ≡ left ++ row ∷ [] → All (IsOpen m) (reverse todo) → IsOpen m row
 open_top m todo left row is ready = All-head (IsOpen m) row (reverse left) (subst (All (IsOpen m)) (top_first todo left row is) ready)
 
-pub open_left : (m : ℕ) (todo left : List Row) (row : Row) → todo ≡ left ++ row ∷ [] → All (IsOpen m) (reverse todo) → All (IsOpen m) (reverse left)
+pub open_left : (m : ℕ) (todo left : List ProvenanceRow) (row : ProvenanceRow) → todo ≡ left ++ row ∷ [] → All (IsOpen m) (reverse todo) → All (IsOpen m) (reverse left)
 open_left m todo left row is ready = All-tail (IsOpen m) row (reverse left) (subst (All (IsOpen m)) (top_first todo left row is) ready)
 
-deeper : (m k : ℕ) → m ≤ k → (xs : List Row) → All (IsOpen m) xs → All (IsOpen k) xs
+deeper : (m k : ℕ) → m ≤ k → (xs : List ProvenanceRow) → All (IsOpen m) xs → All (IsOpen k) xs
 deeper m k less xs ready = All-weaker (IsOpen m) (IsOpen k) (λ x is. (is.0, (let d = is.1 in omega (arith, d, less)))) xs ready
 
-pub open_on : (m k depth : ℕ) (todo left more new : List Row) (row : Row) → todo ≡ left ++ row ∷ [] → m ≤ k → depth ≤ k → All (IsOpen m) (reverse todo) → All (IsOpen depth) new → reverse more ≡ new ++ reverse left
+pub open_on : (m k depth : ℕ) (todo left more new : List ProvenanceRow) (row : ProvenanceRow) → todo ≡ left ++ row ∷ [] → m ≤ k → depth ≤ k → All (IsOpen m) (reverse todo) → All (IsOpen depth) new → reverse more ≡ new ++ reverse left
     → All (IsOpen k) (reverse more)
 open_on m k depth todo left more new row is less deep ready below_open below_is =
     subst (All (IsOpen k)) (sym below_is) (All-append (IsOpen k) new (reverse left) (deeper depth k deep new below_open) (deeper m k less (reverse left) (open_left m todo left row is ready)))
@@ -184,17 +184,17 @@ right_true true b p = refl
 right_true false b p = p
 
 -- a value among some rows is among more, and so is one of a row in their middle
-named_more : (rows more : List Row) (value : Value) → has_value rows value ≡ true → has_value (rows ++ more) value ≡ true
+named_more : (rows more : List ProvenanceRow) (value : Value) → has_value rows value ≡ true → has_value (rows ++ more) value ≡ true
 named_more rows more value is =
-    list_any-append (λ (row : Row). is_one row.value value) rows more ∙ left_true (has_value rows value) (has_value more value) is
+    list_any-append (λ (row : ProvenanceRow). is_one row.value value) rows more ∙ left_true (has_value rows value) (has_value more value) is
 
-named_middle : (rows more : List Row) (row : Row) → has_value (rows ++ row ∷ more) row.value ≡ true
+named_middle : (rows more : List ProvenanceRow) (row : ProvenanceRow) → has_value (rows ++ row ∷ more) row.value ≡ true
 named_middle rows more row =
-    list_any-append (λ (x : Row). is_one x.value row.value) rows (row ∷ more)
+    list_any-append (λ (x : ProvenanceRow). is_one x.value row.value) rows (row ∷ more)
     ∙ right_true (has_value rows row.value) (has_value (row ∷ more) row.value)
-    (list_any-append (λ (x : Row). is_one x.value row.value) (row ∷ []) more ∙ left_true (has_value (row ∷ []) row.value) (has_value more row.value) (only row))
+    (list_any-append (λ (x : ProvenanceRow). is_one x.value row.value) (row ∷ []) more ∙ left_true (has_value (row ∷ []) row.value) (has_value more row.value) (only row))
   where
-    only : (row : Row) → has_value (row ∷ []) row.value ≡ true
+    only : (row : ProvenanceRow) → has_value (row ∷ []) row.value ≡ true
     only row = left_true (is_one row.value row.value) false (one_itself row.value)
 
 -- both halves of a list
@@ -202,23 +202,23 @@ halves : {X : Type 0} (Q : X → Type 0) (xs ys : List X) → All Q (xs ++ ys) �
 halves Q [] ys hold = (All-nil Q, hold)
 halves Q (x ∷ xs) ys hold = let rest = halves Q xs ys (All-tail Q x (xs ++ ys) hold) in (All-cons Q x xs (All-head Q x (xs ++ ys) hold) rest.0, rest.1)
 
-unmapped : (Q : Value → Type 0) (depth : ℕ) (values : List Value) → All (λ (row : Row). Q row.value) (map (row_at depth) values) → All Q values
+unmapped : (Q : Value → Type 0) (depth : ℕ) (values : List Value) → All (λ (row : ProvenanceRow). Q row.value) (map (row_at depth) values) → All Q values
 unmapped Q depth [] hold = All-nil Q
 unmapped Q depth (v ∷ vs) hold =
-    All-cons Q v vs (All-head (λ (row : Row). Q row.value) (row_at depth v) (map (row_at depth) vs) hold)
-    (unmapped Q depth vs (All-tail (λ (row : Row). Q row.value) (row_at depth v) (map (row_at depth) vs) hold))
+    All-cons Q v vs (All-head (λ (row : ProvenanceRow). Q row.value) (row_at depth v) (map (row_at depth) vs) hold)
+    (unmapped Q depth vs (All-tail (λ (row : ProvenanceRow). Q row.value) (row_at depth v) (map (row_at depth) vs) hold))
 
 -- the values still to be listed are listed in the end, and those from which each row's came
-record AreClosed (s : State) (named todo rows : List Row) : Type 0 where
-  told : All (λ (row : Row). IsToldIn s (named ++ rows) row.value) todo
-  below : All (λ (row : Row). All (IsToldIn s (named ++ rows)) (sources_of s row.value)) rows
+record AreClosed (s : State) (named todo rows : List ProvenanceRow) : Type 0 where
+  told : All (λ (row : ProvenanceRow). IsInTree s (named ++ rows) row.value) todo
+  below : All (λ (row : ProvenanceRow). All (IsInTree s (named ++ rows)) (sources_of s row.value)) rows
 
-closed : (s : State) (named todo rows : List Row) (whole : Bool) → AreRows s named todo rows whole → whole ≡ true → AreClosed s named todo rows
-closed s named todo rows whole (all {named = n}) is = record { told = All-nil (λ (row : Row). IsToldIn s (n ++ []) row.value); below = All-nil (λ (row : Row). All (IsToldIn s (n ++ [])) (sources_of s row.value)) }
+closed : (s : State) (named todo rows : List ProvenanceRow) (whole : Bool) → AreRows s named todo rows whole → whole ≡ true → AreClosed s named todo rows
+closed s named todo rows whole (all {named = n}) is = record { told = All-nil (λ (row : ProvenanceRow). IsInTree s (n ++ []) row.value); below = All-nil (λ (row : ProvenanceRow). All (IsInTree s (n ++ [])) (sources_of s row.value)) }
 closed s named todo rows whole (again {named = n} {todo = t} {rows = r} row h rest) is =
     let on = closed s n t r whole rest is in
     record {
-      told = All-cons (λ (row : Row). IsToldIn s (n ++ r) row.value) row t (named_more n r (origin_of s row.value) h) on.told;
+      told = All-cons (λ (row : ProvenanceRow). IsInTree s (n ++ r) row.value) row t (named_more n r (origin_of s row.value) h) on.told;
       below = on.below;
     }
 closed s named todo rows whole (next {named = n} {todo = t} {rows = r} row h rest) is =
@@ -227,20 +227,20 @@ closed s named todo rows whole (next {named = n} {todo = t} {rows = r} row h res
     with_next : AreClosed s (n ++ made_row s row ∷ []) (below s (made_row s row) ++ t) r → AreClosed s n (row ∷ t) (made_row s row ∷ r)
     with_next on =
         let same : (n ++ made_row s row ∷ []) ++ r ≡ n ++ made_row s row ∷ r = append_assoc n (made_row s row ∷ []) r in
-        let told : All (λ (x : Row). IsToldIn s (n ++ made_row s row ∷ r) x.value) (below s (made_row s row) ++ t) =
-        subst (λ z. All (λ (x : Row). IsToldIn s z x.value) (below s (made_row s row) ++ t)) same on.told in
-        let parts = halves (λ (x : Row). IsToldIn s (n ++ made_row s row ∷ r) x.value) (below s (made_row s row)) t told in
+        let told : All (λ (x : ProvenanceRow). IsInTree s (n ++ made_row s row ∷ r) x.value) (below s (made_row s row) ++ t) =
+        subst (λ z. All (λ (x : ProvenanceRow). IsInTree s z x.value) (below s (made_row s row) ++ t)) same on.told in
+        let parts = halves (λ (x : ProvenanceRow). IsInTree s (n ++ made_row s row ∷ r) x.value) (below s (made_row s row)) t told in
         record {
-          told = All-cons (λ (x : Row). IsToldIn s (n ++ made_row s row ∷ r) x.value) row t (named_middle n r (made_row s row)) parts.1;
-          below = All-cons (λ (x : Row). All (IsToldIn s (n ++ made_row s row ∷ r)) (sources_of s x.value)) (made_row s row) r
-              (unmapped (IsToldIn s (n ++ made_row s row ∷ r)) (row.depth + 1) (sources_of s (made_row s row).value) parts.0)
-              (subst (λ z. All (λ (x : Row). All (IsToldIn s z) (sources_of s x.value)) r) same on.below);
+          told = All-cons (λ (x : ProvenanceRow). IsInTree s (n ++ made_row s row ∷ r) x.value) row t (named_middle n r (made_row s row)) parts.1;
+          below = All-cons (λ (x : ProvenanceRow). All (IsInTree s (n ++ made_row s row ∷ r)) (sources_of s x.value)) (made_row s row) r
+              (unmapped (IsInTree s (n ++ made_row s row ∷ r)) (row.depth + 1) (sources_of s (made_row s row).value) parts.0)
+              (subst (λ z. All (λ (x : ProvenanceRow). All (IsInTree s z) (sources_of s x.value)) r) same on.below);
         }
 closed s named todo rows whole (cut row h) is = absurd (cc)
 
-pub asked_told : (s : State) (value : Value) (rows : List Row) → AreRows s [] (row_at 0 value ∷ []) rows true → IsToldIn s rows value
+pub asked_told : (s : State) (value : Value) (rows : List ProvenanceRow) → AreRows s [] (row_at 0 value ∷ []) rows true → IsInTree s rows value
 asked_told s value rows told =
-    All-head (λ (row : Row). IsToldIn s rows row.value) (row_at 0 value) [] (closed s [] (row_at 0 value ∷ []) rows true told refl).told
+    All-head (λ (row : ProvenanceRow). IsInTree s rows row.value) (row_at 0 value) [] (closed s [] (row_at 0 value ∷ []) rows true told refl).told
 
-pub sources_told : (s : State) (value : Value) (rows : List Row) → AreRows s [] (row_at 0 value ∷ []) rows true → All (λ (row : Row). All (IsToldIn s rows) (sources_of s row.value)) rows
+pub sources_told : (s : State) (value : Value) (rows : List ProvenanceRow) → AreRows s [] (row_at 0 value ∷ []) rows true → All (λ (row : ProvenanceRow). All (IsInTree s rows) (sources_of s row.value)) rows
 sources_told s value rows told = (closed s [] (row_at 0 value ∷ []) rows true told refl).below

@@ -9,9 +9,9 @@ use Rattle.ga_ports.specs.Address.{classified}
 use Rattle.ga_ports.specs.declared.address.Target.{Target}
 use Rattle.ga_ports.specs.declared.address.Target.TheVariants as target
 use Rattle.ga_node.specs.Record.{NodeRecord}
-use Rattle.ga_node.specs.Table.{due_of}
-use Rattle.ga_node.specs.declared.due.Due.{Due}
-use Rattle.ga_node.specs.declared.due.Due.TheVariants as due
+use Rattle.ga_node.specs.Table.{next_action_of}
+use Rattle.ga_node.specs.declared.due.NextAction.{NextAction}
+use Rattle.ga_node.specs.declared.due.NextAction.TheVariants as due
 use Rattle.ga_node.specs.declared.wait.Wait.{Wait}
 use Rattle.ga_node.specs.declared.wait.Wait.TheVariants as wait
 use Rattle.ga_grid.specs.declared.node_id.NodeId.{NodeId}
@@ -21,14 +21,14 @@ use Rattle.ga_lab.specs.Machine.{State, history_of}
 use Rattle.ga_event.specs.declared.flow.part.Part.{Part}
 use Rattle.ga_event.specs.declared.flow.part.Part.TheVariants as part
 use Rattle.ga_event.specs.Flow.{top, top_return}
-use Rattle.ga_provenance.specs.declared.asked.Asked.{Asked}
-use Rattle.ga_provenance.specs.declared.asked.Asked.TheVariants.{Behind, Before, Nothing}
+use Rattle.ga_provenance.specs.declared.asked.QueriedPart.{QueriedPart}
+use Rattle.ga_provenance.specs.declared.asked.QueriedPart.TheVariants.{Behind, Before, Nothing}
 use Rattle.ga_provenance.specs.declared.value.Value.{Value}
 use Rattle.ga_provenance.specs.Origins.{value_of_step, node_after}
 
 -- The selected value of a read: the word that it left in a part. A read at a port or at no address becomes a wait or a stop,
 -- decided by the address.
-abbrev pub read_asked : Part → Part → Target → Asked
+abbrev pub read_asked : Part → Part → Target → QueriedPart
 read_asked address there (target.Ram k) = Behind there
 read_asked address there (target.Rom k) = Behind there
 read_asked address there target.Io = Behind there
@@ -37,7 +37,7 @@ read_asked address there target.Bad = Before address
 
 -- The selected value of a write: it leaves T in a cell or in `io`, and nothing in ROM; a wait or a stop is decided by the
 -- address.
-abbrev pub write_asked : Part → Target → Asked
+abbrev pub write_asked : Part → Target → QueriedPart
 write_asked address (target.Ram k) = Behind (part.Ram k)
 write_asked address (target.Rom k) = Nothing
 write_asked address target.Io = Behind part.Io
@@ -45,7 +45,7 @@ write_asked address (target.Ports sides) = Before address
 write_asked address target.Bad = Before address
 
 -- the selected value of each opcode, by its node before
-abbrev pub op_asked : Op → NodeRecord → Asked
+abbrev pub op_asked : Op → NodeRecord → QueriedPart
 op_asked Return n = Behind part.P  -- 00 ;
 op_asked Execute n = Behind part.P  -- 01 ex
 op_asked Jump n = Before part.I  -- 02 jump: its word names where to
@@ -80,24 +80,24 @@ op_asked BStore n = Behind part.B  -- 1e b!
 op_asked AStore n = Behind part.A  -- 1f a!
 
 -- the selected value of what comes next in a node
-abbrev pub due_asked : Due → NodeRecord → Asked
+abbrev pub due_asked : NextAction → NodeRecord → QueriedPart
 due_asked due.Fetch n = read_asked part.P part.I (classified n.p)
 due_asked (due.Run op) n = op_asked op n
 
 -- the selected value of a word that was taken, by what its node waited for
-abbrev pub take_asked : Wait → Asked
+abbrev pub take_asked : Wait → QueriedPart
 take_asked (wait.Fetch sides) = Behind part.I
 take_asked (wait.Read sides) = Behind top
 take_asked wait.Nothing = Nothing
 take_asked (wait.Write side) = Nothing
 
 -- the selected value of an event as made, by its node before; the writer of a pass sends T
-abbrev pub told_asked : Made → NodeRecord → ℕ → Asked
-told_asked (made.Own node step kind) before n = due_asked (due_of before) before
+abbrev pub told_asked : Made → NodeRecord → ℕ → QueriedPart
+told_asked (made.Own node step kind) before n = due_asked (next_action_of before) before
 told_asked (made.Pass writer i reader j word) before n = if n == reader.number then take_asked before.wait else Before top
 
 -- the selected value of the step after k steps of a node
-abbrev pub value_asked : NodeId → ℕ → Asked → Option Value
+abbrev pub value_asked : NodeId → ℕ → QueriedPart → Option Value
 value_asked node k (Behind at) = Some (value_of_step node (suc k) at)
 value_asked node k (Before at) = Some (value_of_step node k at)
 value_asked node k Nothing = None
@@ -107,6 +107,6 @@ place_asked s node k =
     option_and_then (λ told. value_asked node k (told_asked told (node_after s node.number k) node.number)) (slice_get (history_of s node.number) k)
 
 -- the value that a step of a node selects, by the step's number, if the step exists
-abbrev pub asked_of : State → NodeId → ℕ → Option Value
-asked_of s node zero = None
-asked_of s node (suc k) = place_asked s node k
+abbrev pub queried_value : State → NodeId → ℕ → Option Value
+queried_value s node zero = None
+queried_value s node (suc k) = place_asked s node k

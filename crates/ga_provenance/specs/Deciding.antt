@@ -40,16 +40,16 @@ code_at s n k = code_by (slice_get (history_of s n) k) (flow_at s n k part.I)
 
 -- whether a step, as made, brought an instruction word over a port: false for a fetch, which brought another; none if it left
 -- the word that was there
-abbrev pub brought : Option Made → Option Value → Option Bool
-brought None code = None
-brought (Some (made.Own other step kind.Fetch)) code = Some false
-brought (Some (made.Own other step (kind.Run number))) code = None
-brought (Some (made.Own other step kind.Wait)) code = None
-brought (Some (made.Own other step (kind.Stop number))) code = None
-brought (Some (made.Pass writer i reader j word)) code = option_map (λ value. true) code
+abbrev pub is_incoming_code : Option Made → Option Value → Option Bool
+is_incoming_code None code = None
+is_incoming_code (Some (made.Own other step kind.Fetch)) code = Some false
+is_incoming_code (Some (made.Own other step (kind.Run number))) code = None
+is_incoming_code (Some (made.Own other step kind.Wait)) code = None
+is_incoming_code (Some (made.Own other step (kind.Stop number))) code = None
+is_incoming_code (Some (made.Pass writer i reader j word)) code = option_map (λ value. true) code
 
 abbrev pub brought_at : State → ℕ → ℕ → Option Bool
-brought_at s n k = brought (slice_get (history_of s n) k) (code_at s n k)
+brought_at s n k = is_incoming_code (slice_get (history_of s n) k) (code_at s n k)
 
 -- whether the word in I after a number of steps came over a port, by the newest step that brought one
 abbrev pub came_over : State → ℕ → ℕ → Bool

@@ -2,7 +2,7 @@
 use Rattle.ga_event.specs.declared.made.Made.TheVariants as made
 use Rattle.ga_event.specs.declared.flow.part.Part.TheVariants as part
 use Rattle.std.specs.Prelude.{◌≡◌, ℕ, ◌⊎◌, Some, zero, suc, ◌+◌, ◌-◌, ◌==◌, Bool, true, false, ◌&&◌, List, [], ◌∷◌, ◌++◌, map, Option, None, option_to_list}
-use Rattle.ga_causal.specs.Dependence.{DependsOn, place_of}
+use Rattle.ga_causal.specs.Dependence.{DependsOn, position_of_step}
 use Rattle.ga_lab.specs.Machine.{State, causes_of, history_of}
 use Rattle.ga_provenance.specs.declared.value.Value.{Value}
 use Rattle.std.specs.List.{list_any, slice_get}
@@ -10,7 +10,7 @@ use Rattle.ga_grid.specs.declared.node_id.NodeId.{NodeId}
 use Rattle.ga_event.specs.declared.made.Made.{Made}
 use Rattle.ga_event.specs.declared.flow.part.Part.{Part}
 use Rattle.ga_event.specs.Flow.{Flow, Same, From, top, is_same}
-use Rattle.ga_provenance.specs.declared.listing.Row.{Row}
+use Rattle.ga_provenance.specs.declared.listing.ProvenanceRow.{ProvenanceRow}
 use Rattle.ga_provenance.specs.Origins.{value_of_step, flow_at, origin_of}
 
 -- ---- values whose steps are causes of another's (Danos and Krivine, "Reversible Communicating Systems", 2004)
@@ -19,8 +19,8 @@ use Rattle.ga_provenance.specs.Origins.{value_of_step, flow_at, origin_of}
 pub record IsCause (s : State) (earlier later : Value) : Type 0 where
   pub cause : ℕ
   pub effect : ℕ
-  pub cause_place : place_of (causes_of s) earlier.node.number earlier.step ≡ Some cause
-  pub effect_place : place_of (causes_of s) later.node.number later.step ≡ Some effect
+  pub cause_place : position_of_step (causes_of s) earlier.node.number earlier.step ≡ Some cause
+  pub effect_place : position_of_step (causes_of s) later.node.number later.step ≡ Some effect
   pub depends : DependsOn (causes_of s) cause effect
 
 -- a value that was loaded, or whose step is a cause of the queried one's
@@ -31,8 +31,8 @@ IsNamedFor s asked value = (value.step ≡ 0) ⊎ IsCause s value asked
 abbrev pub is_one : Value → Value → Bool
 is_one value other = (value.node.number == other.node.number) && ((value.step == other.step) && is_same value.part other.part)
 
-abbrev pub has_value : List Row → Value → Bool
-has_value rows value = list_any (λ (row : Row). is_one row.value value) rows
+abbrev pub has_value : List ProvenanceRow → Value → Bool
+has_value rows value = list_any (λ (row : ProvenanceRow). is_one row.value value) rows
 
 -- what a word came from that an event carried: T of the writer before
 abbrev pub sender_in : Option Made → Option Value
@@ -57,27 +57,27 @@ abbrev pub sources_of : State → Value → List Value
 sources_of s value = sources_from s value.node value.step value.part
 
 -- the row of a value at a depth, and a row by the step that made its value
-abbrev pub row_at : ℕ → Value → Row
+abbrev pub row_at : ℕ → Value → ProvenanceRow
 row_at depth value = record { depth = depth; value = value }
 
-abbrev pub made_row : State → Row → Row
+abbrev pub made_row : State → ProvenanceRow → ProvenanceRow
 made_row s row = row_at row.depth (origin_of s row.value)
 
-abbrev pub below : State → Row → List Row
+abbrev pub below : State → ProvenanceRow → List ProvenanceRow
 below s row = map (row_at (row.depth + 1)) (sources_of s row.value)
 
 -- the step that made a value is among the rows
-abbrev pub IsToldIn : State → List Row → Value → Type 0
-IsToldIn s rows value = has_value rows (origin_of s value) ≡ true
+abbrev pub IsInTree : State → List ProvenanceRow → Value → Type 0
+IsInTree s rows value = has_value rows (origin_of s value) ≡ true
 
 -- With these rows listed already, and the values still to be listed, the next one first, these rows come; all, or cut
 -- somewhere. Each value is listed as the step that made it, unless that was listed before, and then what the step read comes,
 -- one deeper.
-pub data AreRows (s : State) : List Row → List Row → List Row → Bool → Type 0 where
-  all : {named : List Row} → AreRows s named [] [] true
-  again : {named todo rows : List Row} {whole : Bool} (row : Row) → has_value named (origin_of s row.value) ≡ true
+pub data AreRows (s : State) : List ProvenanceRow → List ProvenanceRow → List ProvenanceRow → Bool → Type 0 where
+  all : {named : List ProvenanceRow} → AreRows s named [] [] true
+  again : {named todo rows : List ProvenanceRow} {whole : Bool} (row : ProvenanceRow) → has_value named (origin_of s row.value) ≡ true
       → AreRows s named todo rows whole → AreRows s named (row ∷ todo) rows whole
-  next : {named todo rows : List Row} {whole : Bool} (row : Row) → has_value named (origin_of s row.value) ≡ false
+  next : {named todo rows : List ProvenanceRow} {whole : Bool} (row : ProvenanceRow) → has_value named (origin_of s row.value) ≡ false
       → AreRows s (named ++ made_row s row ∷ []) (below s (made_row s row) ++ todo) rows whole
       → AreRows s named (row ∷ todo) (made_row s row ∷ rows) whole
-  cut : {named todo : List Row} (row : Row) → has_value named (origin_of s row.value) ≡ false → AreRows s named (row ∷ todo) [] false
+  cut : {named todo : List ProvenanceRow} (row : ProvenanceRow) → has_value named (origin_of s row.value) ≡ false → AreRows s named (row ∷ todo) [] false

@@ -14,33 +14,33 @@ use Rattle.ga_event.specs.declared.flow.part.Part.{Part}
 use Rattle.ga_event.specs.declared.flow.part.Part.TheVariants.{Data, Return, Ram, Rom, A, B, P, I, Io, Carry, Slot, Wait, Stop, Outside}
 use Rattle.ga_event.specs.Flow.{top, second, top_return, IsPart}
 use Rattle.ga_provenance.specs.declared.kept.Registers.{Registers}
-use Rattle.ga_provenance.specs.declared.moving.Shift.{Shift}
-use Rattle.ga_provenance.specs.declared.moving.Shift.TheVariants.{Stays, Replaces, Pushes, Pops, Combines, Unsure}
+use Rattle.ga_provenance.specs.declared.moving.StackEffect.{StackEffect}
+use Rattle.ga_provenance.specs.declared.moving.StackEffect.TheVariants.{Stays, Replaces, Pushes, Pops, Combines, Unsure}
 use Rattle.ga_node.specs.declared.place.Place.TheVariants as place
-use Rattle.ga_node.specs.declared.due.Due.TheVariants as due
+use Rattle.ga_node.specs.declared.due.NextAction.TheVariants as due
 use Rattle.ga_node.specs.declared.place.Place.{Place}
 use Rattle.ga_node.specs.Record.{NodeRecord}
 use Rattle.ga_event.specs.Told.{steps_of}
-use Rattle.ga_lab.specs.Machine.{State, Standing, standing, history_of}
-use Rattle.ga_provenance.specs.declared.kept.Kept.{Kept}
-use Rattle.ga_provenance.specs.declared.kept.Kept.TheVariants as hand
+use Rattle.ga_lab.specs.Machine.{State, NodeAtStep, node_at_step, history_of}
+use Rattle.ga_provenance.specs.declared.kept.TrackedPlace.{TrackedPlace}
+use Rattle.ga_provenance.specs.declared.kept.TrackedPlace.TheVariants as hand
 use Rattle.ga_provenance.specs.Origins.{node_after, origin_of}
 use Rattle.ga_provenance.specs.declared.value.Value.{Value}
 use Rattle.std.specs.List.{slice_get}
 use Rattle.ga_grid.specs.declared.node_id.NodeId.{NodeId}
 use Rattle.ga_provenance.specs.declared.writes.Reached.{Reached}
 use Rattle.ga_provenance.specs.Writes.{newest_written}
-use Rattle.ga_node.specs.declared.due.Due.{Due}
-use Rattle.ga_provenance.specs.declared.asked.Asked.{Asked}
-use Rattle.ga_provenance.specs.declared.asked.Asked.TheVariants.{Behind, Before, Nothing}
-use Rattle.ga_provenance.specs.declared.listing.Row.{Row}
+use Rattle.ga_node.specs.declared.due.NextAction.{NextAction}
+use Rattle.ga_provenance.specs.declared.asked.QueriedPart.{QueriedPart}
+use Rattle.ga_provenance.specs.declared.asked.QueriedPart.TheVariants.{Behind, Before, Nothing}
+use Rattle.ga_provenance.specs.declared.listing.ProvenanceRow.{ProvenanceRow}
 
 -- ---- the part from which a step moved a value to another part of the node, if the step as made determines it, whatever the
 -- node's values were (F18A Technology Reference DB001, opcodes, by their codes; Flow.antt of ga_event has each row in full). If
 -- it doesn't, there is none.
 
 -- what an opcode does to the data stack
-abbrev pub on_data : Op → Shift
+abbrev pub on_data : Op → StackEffect
 on_data op.FetchP = Pushes  -- 08 @p
 on_data op.FetchPlus = Pushes  -- 09 @+
 on_data op.FetchB = Pushes  -- 0a @b
@@ -67,7 +67,7 @@ on_data op.AStore = Pops  -- 1f a!
 on_data _ = Stays
 
 -- what an opcode does to the return stack
-abbrev pub on_return : Op → Shift
+abbrev pub on_return : Op → StackEffect
 on_return op.Return = Pops  -- 00 ;
 on_return op.Execute = Replaces  -- 01 ex
 on_return op.Call = Pushes  -- 03 call
@@ -95,7 +95,7 @@ abbrev pub popped_to_return : ℕ → Part
 popped_to_return k = if k == 8 then Return 1 else Return (k + 1)
 
 -- the part whose word an opcode leaves at a place of a stack
-abbrev pub shifted_data : Shift → Option Part → ℕ → Option Part
+abbrev pub shifted_data : StackEffect → Option Part → ℕ → Option Part
 shifted_data Stays new k = Some (Data k)
 shifted_data Replaces new k = if k == 0 then None else Some (Data k)
 shifted_data Pushes new k = if k == 0 then new else Some (Data (k - 1))
@@ -106,7 +106,7 @@ shifted_data Unsure new k = None
 abbrev pub moved_to_data : Op → ℕ → Option Part
 moved_to_data o k = shifted_data (on_data o) (pushed o) k
 
-abbrev pub shifted_return : Shift → Option Part → ℕ → Option Part
+abbrev pub shifted_return : StackEffect → Option Part → ℕ → Option Part
 shifted_return Stays new k = Some (Return k)
 shifted_return Replaces new k = if k == 0 then None else Some (Return k)
 shifted_return Pushes new k = if k == 0 then new else Some (Return (k - 1))
@@ -215,32 +215,32 @@ misses told before at = false
 -- Reference DB001, opcodes: which of them write there).
 
 -- the place in a node of a tracked word, and the word there
-abbrev pub place_of : Kept → Place
+abbrev pub place_of : TrackedPlace → Place
 place_of hand.A = place.A
 place_of hand.B = place.B
 place_of (hand.Ram cell) = place.Ram cell
 
-abbrev pub word_of : Kept → NodeRecord → ℕ
+abbrev pub word_of : TrackedPlace → NodeRecord → ℕ
 word_of hand.A node = node.a
 word_of hand.B node = node.b
 word_of (hand.Ram cell) node = slice_index node.ram cell
 
 -- the codes of the opcodes that may write A: @+, !+, +* and a!; B: b!; and a cell: the stores, 0c to 0f
-abbrev pub writes : Kept → ℕ → Bool
+abbrev pub writes : TrackedPlace → ℕ → Bool
 writes hand.A code = code == 9 || code == 13 || code == 16 || code == 31
 writes hand.B code = code == 30
 writes (hand.Ram cell) code = code / 4 == 3
 
--- whether an own event of this kind, or in `rests` a step as made, left the register or the cell as it was, whatever the node's
+-- whether an own event of this kind, or in `is_unchanged_by` a step as made, left the register or the cell as it was, whatever the node's
 -- values were
-abbrev pub rests_by : Kept → Kind → Bool
+abbrev pub rests_by : TrackedPlace → Kind → Bool
 rests_by kept (kind.Run code) = not (writes kept code)
 rests_by kept _ = true
 
-abbrev pub rests : Kept → Option Made → Bool
-rests kept None = false
-rests kept (Some (Own node step kind)) = rests_by kept kind
-rests kept (Some (Pass writer i reader j word)) = false
+abbrev pub is_unchanged_by : TrackedPlace → Option Made → Bool
+is_unchanged_by kept None = false
+is_unchanged_by kept (Some (Own node step kind)) = rests_by kept kind
+is_unchanged_by kept (Some (Pass writer i reader j word)) = false
 
 -- a machine of all nodes
 abbrev pub IsWhole : State → Type 0
@@ -269,16 +269,16 @@ pub record IsFollowedBack (s : State) (n cell : ℕ) (from back : Reached) : Typ
 
 -- A, B and the word in a cell after the steps that are still to be searched, and a trail of the node that has not been walked
 -- back past them
-pub record IsSearch (s : State) (node : NodeId) (cell : ℕ) (walk : Standing) (reached : Reached) : Type 0 where
+pub record IsSearch (s : State) (node : NodeId) (cell : ℕ) (walk : NodeAtStep) (reached : Reached) : Type 0 where
   pub of_ram : cell < 64
-  pub trail : walk ≡ standing s node walk.step
+  pub trail : walk ≡ node_at_step s node walk.step
   pub order : reached.step ≤ walk.step
   pub held : IsReached s node.number cell reached
 
 -- ---- what came next in a node, by the kind of its event (F18A Technology Reference DB001, opcodes, by their codes)
 
 -- what came next if the event was of this kind: a fetch or an opcode; none by a wait or a stop, which replaces either
-abbrev pub IsDueBy : Kind → Due → Type 0
+abbrev pub IsDueBy : Kind → NextAction → Type 0
 IsDueBy kind.Fetch what = what ≡ due.Fetch
 IsDueBy (kind.Run code) what = what ≡ due.Run (op_of code)
 IsDueBy _ what = ⊥
@@ -286,11 +286,11 @@ IsDueBy _ what = ⊥
 -- ---- values that are still to be listed, and selected values
 
 -- the value of a row is that of a part of a node, and the row is no deeper than `deepest`
-abbrev pub IsOpen : ℕ → Row → Type 0
+abbrev pub IsOpen : ℕ → ProvenanceRow → Type 0
 IsOpen deepest row = IsPart row.value.part × (row.depth ≤ deepest)
 
 -- the selected value is that of a part of a node, or there is none
-abbrev pub IsAsked : Asked → Type 0
+abbrev pub IsAsked : QueriedPart → Type 0
 IsAsked (Behind part) = IsPart part
 IsAsked (Before part) = IsPart part
 IsAsked Nothing = Unit {0}
@@ -324,8 +324,8 @@ IsOwn what (Own node step other) = other ≡ what
 IsOwn what (Pass writer i reader j word) = ⊥
 
 -- a trail that has not come past the steps that are still to be looked at
-pub record IsDeciding (s : State) (node : NodeId) (walk : Standing) (step : ℕ) : Type 0 where
-  pub trail : walk ≡ standing s node walk.step
+pub record IsDeciding (s : State) (node : NodeId) (walk : NodeAtStep) (step : ℕ) : Type 0 where
+  pub trail : walk ≡ node_at_step s node walk.step
   pub order : step ≤ walk.step
   pub within : step ≤ steps_of node.number s.kept
 
@@ -341,6 +341,6 @@ pub record IsFollowed (s : State) (from to : Value) : Type 0 where
   pub ends : 0 < to.step → moved_by (slice_get (history_of s from.node.number) (to.step - 1)) to.part ≡ None
 
 -- a trail of the node that has not been walked back past a step
-pub record IsTrailTo (s : State) (node : NodeId) (trail : Standing) (step : ℕ) : Type 0 where
-  pub stands : trail ≡ standing s node trail.step
+pub record IsTrailTo (s : State) (node : NodeId) (trail : NodeAtStep) (step : ℕ) : Type 0 where
+  pub stands : trail ≡ node_at_step s node trail.step
   pub order : step ≤ trail.step

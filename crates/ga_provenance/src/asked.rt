@@ -3,23 +3,23 @@
 ghost use Rattle.std.specs.Prelude.{◌≡◌, ◌≤◌, ◌<◌, ◌+◌, ◌^◌, IfSome};
 ghost use Rattle.ga_ports.specs.Address.{classified, IsTarget};
 ghost use Rattle.ga_node.specs.Record.{record_of};
-ghost use Rattle.ga_node.specs.Table.{due_of};
-ghost use Rattle.ga_lab.specs.Machine.{standing};
+ghost use Rattle.ga_node.specs.Table.{next_action_of};
+ghost use Rattle.ga_lab.specs.Machine.{node_at_step};
 ghost use Rattle.ga_event.specs.Flow.{IsPart};
-ghost use Rattle.ga_provenance.specs.Asked.{read_asked, write_asked, op_asked, due_asked, take_asked, told_asked, value_asked, asked_of};
+ghost use Rattle.ga_provenance.specs.Asked.{read_asked, write_asked, op_asked, due_asked, take_asked, told_asked, value_asked, queried_value};
 ghost use Rattle.ga_provenance.specs.inner.{IsAsked};
 
 use crate::value::Value;
 use ga_event::{Made, Part, due_in};
 use ga_grid::NodeId;
 use ga_lab::{Lab, Walk};
-use ga_node::{Due, Node, Place, Wait};
+use ga_node::{NextAction, Node, Place, Wait};
 use ga_ports::{Target, classify};
 use ga_slots::Op;
 
 /// The value that a step of a node selects.
 #[derive(Clone, Copy, PartialEq, Eq, Debug)]
-pub(crate) enum Asked {
+pub(crate) enum QueriedPart {
     /// The value that the step left in this part.
     Behind(Part),
     /// The value of this part before the step, which the step sent or by which it was decided.
@@ -54,89 +54,89 @@ fn b_target(node: &Node) -> Target
 }
 
 // The selected value of a read at what the address in a part names, whose word comes to the part `there`.
-fn asked_of_read(address: Part, there: Part, target: Target) -> Asked
+fn asked_of_read(address: Part, there: Part, target: Target) -> QueriedPart
     requires address { IsPart address }
     requires there { IsPart there }
     ensures value { result ≡ read_asked address there target }
     ensures part { IsAsked result }
 {
     match target {
-        Target::Ram(_) => Asked::Behind(there),
-        Target::Rom(_) => Asked::Behind(there),
-        Target::Io => Asked::Behind(there),
-        Target::Ports(_) => Asked::Before(address),
-        Target::Bad => Asked::Before(address),
+        Target::Ram(_) => QueriedPart::Behind(there),
+        Target::Rom(_) => QueriedPart::Behind(there),
+        Target::Io => QueriedPart::Behind(there),
+        Target::Ports(_) => QueriedPart::Before(address),
+        Target::Bad => QueriedPart::Before(address),
     }
 }
 
 // The selected value of a write at what the address in a part names.
-fn asked_of_write(address: Part, target: Target) -> Asked
+fn asked_of_write(address: Part, target: Target) -> QueriedPart
     requires address { IsPart address }
     requires target { IsTarget target }
     ensures value { result ≡ write_asked address target }
     ensures part { IsAsked result }
 {
     match target {
-        Target::Ram(k) => Asked::Behind(Part::Ram(k)),
-        Target::Rom(_) => Asked::Nothing,
-        Target::Io => Asked::Behind(Part::Io),
-        Target::Ports(_) => Asked::Before(address),
-        Target::Bad => Asked::Before(address),
+        Target::Ram(k) => QueriedPart::Behind(Part::Ram(k)),
+        Target::Rom(_) => QueriedPart::Nothing,
+        Target::Io => QueriedPart::Behind(Part::Io),
+        Target::Ports(_) => QueriedPart::Before(address),
+        Target::Bad => QueriedPart::Before(address),
     }
 }
 
 // The selected value of a step that ran an opcode, by the node before.
-fn asked_of_op(op: Op, node: &Node) -> Asked
+fn asked_of_op(op: Op, node: &Node) -> QueriedPart
     ensures value { result ≡ op_asked op (record_of node.now) }
     ensures part { IsAsked result }
 {
     match op {
-        Op::Return | Op::Execute => Asked::Behind(Part::P),
-        Op::Jump | Op::Call => Asked::Before(Part::I),
-        Op::Unext | Op::Next => Asked::Before(Part::R),
-        Op::If | Op::MinusIf => Asked::Before(Part::T),
+        Op::Return | Op::Execute => QueriedPart::Behind(Part::P),
+        Op::Jump | Op::Call => QueriedPart::Before(Part::I),
+        Op::Unext | Op::Next => QueriedPart::Before(Part::R),
+        Op::If | Op::MinusIf => QueriedPart::Before(Part::T),
         Op::FetchP => asked_of_read(Part::P, Part::T, p_target(node)),
         Op::FetchPlus | Op::Fetch => asked_of_read(Part::A, Part::T, a_target(node)),
         Op::FetchB => asked_of_read(Part::B, Part::T, b_target(node)),
         Op::StoreP => asked_of_write(Part::P, p_target(node)),
         Op::StorePlus | Op::Store => asked_of_write(Part::A, a_target(node)),
         Op::StoreB => asked_of_write(Part::B, b_target(node)),
-        Op::MultiplyStep | Op::TwoStar | Op::TwoSlash | Op::Invert => Asked::Behind(Part::T),
-        Op::Plus | Op::And | Op::Or => Asked::Behind(Part::T),
-        Op::Dup | Op::Pop | Op::Over | Op::A => Asked::Behind(Part::T),
-        Op::Drop | Op::Nop => Asked::Nothing,
-        Op::Push => Asked::Behind(Part::R),
-        Op::BStore => Asked::Behind(Part::B),
-        Op::AStore => Asked::Behind(Part::A),
+        Op::MultiplyStep | Op::TwoStar | Op::TwoSlash | Op::Invert => QueriedPart::Behind(Part::T),
+        Op::Plus | Op::And | Op::Or => QueriedPart::Behind(Part::T),
+        Op::Dup | Op::Pop | Op::Over | Op::A => QueriedPart::Behind(Part::T),
+        Op::Drop | Op::Nop => QueriedPart::Nothing,
+        Op::Push => QueriedPart::Behind(Part::R),
+        Op::BStore => QueriedPart::Behind(Part::B),
+        Op::AStore => QueriedPart::Behind(Part::A),
     }
 }
 
 // The selected value of an event of a node's own, by the node before.
-fn asked_of_own(before: &Node) -> Asked
-    ensures value { result ≡ due_asked (due_of (record_of before.now)) (record_of before.now) }
+fn asked_of_own(before: &Node) -> QueriedPart
+    ensures value { result ≡ due_asked (next_action_of (record_of before.now)) (record_of before.now) }
     ensures part { IsAsked result }
 {
     match due_in(before) {
-        Due::Fetch => asked_of_read(Part::P, Part::I, p_target(before)),
-        Due::Run(op) => asked_of_op(op, before),
+        NextAction::Fetch => asked_of_read(Part::P, Part::I, p_target(before)),
+        NextAction::Run(op) => asked_of_op(op, before),
     }
 }
 
 // The selected value of a step that took a word, by what the node waited for.
-fn asked_of_take(wait: Wait) -> Asked
+fn asked_of_take(wait: Wait) -> QueriedPart
     ensures value { result ≡ take_asked wait }
     ensures part { IsAsked result }
 {
     match wait {
-        Wait::Fetch(_) => Asked::Behind(Part::I),
-        Wait::Read(_) => Asked::Behind(Part::T),
-        Wait::Nothing => Asked::Nothing,
-        Wait::Write(_) => Asked::Nothing,
+        Wait::Fetch(_) => QueriedPart::Behind(Part::I),
+        Wait::Read(_) => QueriedPart::Behind(Part::T),
+        Wait::Nothing => QueriedPart::Nothing,
+        Wait::Write(_) => QueriedPart::Nothing,
     }
 }
 
 // The selected value of an event as made, by the node before.
-fn asked_of_told(made: &Made, before: &Node, node: NodeId) -> Asked
+fn asked_of_told(made: &Made, before: &Node, node: NodeId) -> QueriedPart
     ensures value { result ≡ told_asked made.now (record_of before.now) node.number }
     ensures part { IsAsked result }
 {
@@ -146,40 +146,40 @@ fn asked_of_told(made: &Made, before: &Node, node: NodeId) -> Asked
             if node.number == reader.number {
                 asked_of_take(before.wait())
             } else {
-                Asked::Before(Part::T)
+                QueriedPart::Before(Part::T)
             }
         }
     }
 }
 
 // The selected value of the step after `place` steps of a node.
-fn value_of(node: NodeId, place: u32, asked: Asked) -> Option<Value>
+fn value_of(node: NodeId, place: u32, asked: QueriedPart) -> Option<Value>
     requires fits { place + 1 < 2 ^ 32 }
     requires part { IsAsked asked }
     ensures value { result ≡ value_asked node place asked }
     ensures part { IfSome result (λ value. IsPart value.part) }
 {
     match asked {
-        Asked::Behind(part) => Some(Value {
+        QueriedPart::Behind(part) => Some(Value {
             node,
             step: place + 1,
             part,
         }),
-        Asked::Before(part) => Some(Value {
+        QueriedPart::Before(part) => Some(Value {
             node,
             step: place,
             part,
         }),
-        Asked::Nothing => None,
+        QueriedPart::Nothing => None,
     }
 }
 
 /// The value that a step selects (DB001, opcodes): what it left on a stack, in a cell or in a register; of a word that was sent
 /// T before it; of a wait, a stop or a branch what decided it. None if it made no value, as `drop` or `.`, or doesn't exist.
 /// Takes time linear in the number of steps that the node made since.
-#[tactic(auto, using(crate::proofs::Made::stands_so))]
-pub fn asked_of(lab: &Lab, node: NodeId, step: u32) -> Option<Value>
-    ensures value { result ≡ asked_of lab.now node step }
+#[tactic(auto, using(crate::proofs::Made::has_step_so))]
+pub fn queried_value(lab: &Lab, node: NodeId, step: u32) -> Option<Value>
+    ensures value { result ≡ queried_value lab.now node step }
     ensures part { IfSome result (λ value. IsPart value.part) }
 {
     if step == 0 {
@@ -190,14 +190,14 @@ pub fn asked_of(lab: &Lab, node: NodeId, step: u32) -> Option<Value>
         return None;
     }
     let near = lab.walk(node, step);
-    asked_behind(lab, &near, node)
+    queried_value_at(lab, &near, node)
 }
 
-/// The value that the step selects to which a node is walked back, as [`asked_of`] has it; the walk stays where it is. Takes
+/// The value that the step selects to which a node is walked back, as [`queried_value`] has it; the walk stays where it is. Takes
 /// the same time whatever the history is.
-pub fn asked_behind(lab: &Lab, walk: &Walk<'_>, node: NodeId) -> Option<Value>
-    requires { walk.now ≡ standing lab.now node walk.now.step }
-    ensures value { result ≡ asked_of lab.now node walk.now.step }
+pub fn queried_value_at(lab: &Lab, walk: &Walk<'_>, node: NodeId) -> Option<Value>
+    requires { walk.now ≡ node_at_step lab.now node walk.now.step }
+    ensures value { result ≡ queried_value lab.now node walk.now.step }
     ensures part { IfSome result (λ value. IsPart value.part) }
 {
     let step = walk.step();
@@ -205,7 +205,7 @@ pub fn asked_behind(lab: &Lab, walk: &Walk<'_>, node: NodeId) -> Option<Value>
         return None;
     }
     let place = step - 1;
-    let made = lab.told(node, place)?;
+    let made = lab.made_by_step(node, place)?;
     let mut before = walk.copy();
     before.back();
     value_of(node, place, asked_of_told(&made, before.node(), node))

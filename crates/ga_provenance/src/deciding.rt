@@ -3,7 +3,7 @@
 ghost use Rattle.std.specs.Prelude.{◌≡◌, ◌≤◌, ◌+◌, ◌^◌, ◌<◌, true, Some, IfSome, option_map};
 ghost use Rattle.ga_node.specs.Record.{record_of};
 ghost use Rattle.ga_event.specs.Told.{steps_of};
-ghost use Rattle.ga_lab.specs.Machine.{standing};
+ghost use Rattle.ga_lab.specs.Machine.{node_at_step};
 ghost use Rattle.ga_event.specs.Flow.{IsPart, part_of};
 ghost use Rattle.ga_provenance.specs.Origins.{origin_of};
 ghost use Rattle.ga_provenance.specs.Deciding.{tested_by, code_at, brought_at, came_over, op_tested, kind_tested, decided_by, decided_at};
@@ -11,7 +11,7 @@ ghost use Rattle.ga_provenance.specs.inner.{IsTested, IsOwn, IsTrailTo};
 
 use crate::listing::sender_in;
 use crate::origin::{flow_by_trail, kept_step, origin_behind, trail_near};
-use crate::trail::Trail;
+use crate::trail::CachedWalk;
 use crate::value::Value;
 use ga_event::{Flow, Made, Part};
 use ga_grid::NodeId;
@@ -65,15 +65,15 @@ fn word_in(node: &Node, part: Part) -> u32
 }
 
 // The T from which an instruction word came over a port by the step at a place.
-fn code_by_trail(lab: &Lab, trail: &mut Trail<'_>, node: NodeId, place: u32) -> Option<Value>
+fn code_by_trail(lab: &Lab, trail: &mut CachedWalk<'_>, node: NodeId, place: u32) -> Option<Value>
     requires trail { IsTrailTo lab.now node trail.old place }
     ensures value { result ≡ code_at lab.now node.number place }
     ensures part { IfSome result (λ value. IsPart value.part) }
-    ensures trail { trail.new ≡ standing lab.now node trail.new.step }
+    ensures trail { trail.new ≡ node_at_step lab.now node trail.new.step }
     ensures order { place ≤ trail.new.step }
 {
     match flow_by_trail(lab, trail, node, place, Part::I) {
-        Flow::Same(Part::Outside) => sender_in(lab.told(node, place)),
+        Flow::Same(Part::Outside) => sender_in(lab.made_by_step(node, place)),
         Flow::Same(_) => None,
         Flow::From(_) => None,
     }
@@ -82,12 +82,17 @@ fn code_by_trail(lab: &Lab, trail: &mut Trail<'_>, node: NodeId, place: u32) -> 
 // Whether the step at a place brought an instruction word over a port: false if it brought another; none if it left the word
 // that was there.
 #[inline(always)]
-fn brought<'l>(lab: &'l Lab, trail: &Trail<'l>, node: NodeId, place: u32) -> Option<bool>
-    requires trail { trail.now ≡ standing lab.now node trail.now.step }
+fn is_incoming_code<'l>(
+    lab: &'l Lab,
+    trail: &CachedWalk<'l>,
+    node: NodeId,
+    place: u32,
+) -> Option<bool>
+    requires trail { trail.now ≡ node_at_step lab.now node trail.now.step }
     requires within { place ≤ steps_of node.number lab.now.kept }
     ensures { result ≡ brought_at lab.now node.number place }
 {
-    match lab.told(node, place) {
+    match lab.made_by_step(node, place) {
         Some(made) => match made {
             Made::Own { kind, .. } => match kind {
                 Kind::Fetch => Some(false),
@@ -102,8 +107,8 @@ fn brought<'l>(lab: &'l Lab, trail: &Trail<'l>, node: NodeId, place: u32) -> Opt
 }
 
 // True where the step at a place, a pass, brought its node an instruction word; none where it brought none.
-fn taken<'l>(lab: &'l Lab, trail: &Trail<'l>, node: NodeId, place: u32) -> Option<bool>
-    requires trail { trail.now ≡ standing lab.now node trail.now.step }
+fn taken<'l>(lab: &'l Lab, trail: &CachedWalk<'l>, node: NodeId, place: u32) -> Option<bool>
+    requires trail { trail.now ≡ node_at_step lab.now node trail.now.step }
     requires within { place ≤ steps_of node.number lab.now.kept }
     ensures { result ≡ option_map (λ value. true) (code_at lab.now node.number place) }
 {
@@ -115,15 +120,15 @@ fn taken<'l>(lab: &'l Lab, trail: &Trail<'l>, node: NodeId, place: u32) -> Optio
 }
 
 // Whether the instruction word in I right before the step at a place came over a port.
-fn came_over<'l>(lab: &'l Lab, trail: &Trail<'l>, node: NodeId, place: u32) -> bool
-    requires trail { trail.now ≡ standing lab.now node trail.now.step }
+fn came_over<'l>(lab: &'l Lab, trail: &CachedWalk<'l>, node: NodeId, place: u32) -> bool
+    requires trail { trail.now ≡ node_at_step lab.now node trail.now.step }
     requires within { place ≤ steps_of node.number lab.now.kept }
     ensures { result ≡ came_over lab.now node.number place }
 {
     let mut step = place;
     'going: while step > 0 {
         step -= 1;
-        if let Some(came) = brought(lab, trail, node, step) {
+        if let Some(came) = is_incoming_code(lab, trail, node, step) {
             return came;
         }
     }
@@ -132,8 +137,14 @@ fn came_over<'l>(lab: &'l Lab, trail: &Trail<'l>, node: NodeId, place: u32) -> b
 
 // The part by which the opcode was decided that the step at a place ran.
 #[inline(always)]
-fn op_tested<'l>(lab: &'l Lab, trail: &Trail<'l>, node: NodeId, place: u32, op: Op) -> Option<Part>
-    requires trail { trail.now ≡ standing lab.now node trail.now.step }
+fn op_tested<'l>(
+    lab: &'l Lab,
+    trail: &CachedWalk<'l>,
+    node: NodeId,
+    place: u32,
+    op: Op,
+) -> Option<Part>
+    requires trail { trail.now ≡ node_at_step lab.now node trail.now.step }
     requires within { place ≤ steps_of node.number lab.now.kept }
     ensures value { result ≡ op_tested lab.now node place op }
     ensures part { IfSome result IsTested }
@@ -154,12 +165,12 @@ fn op_tested<'l>(lab: &'l Lab, trail: &Trail<'l>, node: NodeId, place: u32, op: 
 #[inline(always)]
 fn kind_tested<'l>(
     lab: &'l Lab,
-    trail: &Trail<'l>,
+    trail: &CachedWalk<'l>,
     node: NodeId,
     place: u32,
     kind: Kind,
 ) -> Option<Part>
-    requires trail { trail.now ≡ standing lab.now node trail.now.step }
+    requires trail { trail.now ≡ node_at_step lab.now node trail.now.step }
     requires within { place ≤ steps_of node.number lab.now.kept }
     ensures value { result ≡ kind_tested lab.now node place kind }
     ensures part { IfSome result IsTested }
@@ -173,9 +184,9 @@ fn kind_tested<'l>(
 }
 
 // The step that made a value, found by a trail of a node, which is not walked on.
-fn source_of<'l>(lab: &'l Lab, trail: &Trail<'l>, node: NodeId, value: Value) -> Value
+fn source_of<'l>(lab: &'l Lab, trail: &CachedWalk<'l>, node: NodeId, value: Value) -> Value
     requires part { IsPart value.part }
-    requires trail { trail.now ≡ standing lab.now node trail.now.step }
+    requires trail { trail.now ≡ node_at_step lab.now node trail.now.step }
     ensures { result ≡ origin_of lab.now value }
 {
     let step = kept_step(lab, value);
@@ -188,7 +199,7 @@ fn source_of<'l>(lab: &'l Lab, trail: &Trail<'l>, node: NodeId, value: Value) ->
 #[inline(never)]
 fn own_decision<'l>(
     lab: &'l Lab,
-    trail: &mut Trail<'l>,
+    trail: &mut CachedWalk<'l>,
     node: NodeId,
     place: u32,
     made: Made,
@@ -202,7 +213,7 @@ fn own_decision<'l>(
     requires part { IsTested part }
     requires tested { kind_tested lab.now node place kind ≡ Some part }
     ensures value { Some result ≡ decided_by lab.now node place made }
-    ensures trail { trail.new ≡ standing lab.now node trail.new.step }
+    ensures trail { trail.new ≡ node_at_step lab.now node trail.new.step }
     ensures order { place ≤ trail.new.step }
 {
     trail.back_to(place);
@@ -219,15 +230,20 @@ fn own_decision<'l>(
 }
 
 // The step at a place, where a value decided it.
-fn decided_at<'l>(lab: &'l Lab, trail: &mut Trail<'l>, node: NodeId, place: u32) -> Option<Decision>
+fn decided_at<'l>(
+    lab: &'l Lab,
+    trail: &mut CachedWalk<'l>,
+    node: NodeId,
+    place: u32,
+) -> Option<Decision>
     requires trail { IsTrailTo lab.now node trail.old place }
     requires within { place + 1 ≤ steps_of node.number lab.now.kept }
     requires fits { place + 1 < 2 ^ 32 }
     ensures value { result ≡ decided_at lab.now node place }
-    ensures trail { trail.new ≡ standing lab.now node trail.new.step }
+    ensures trail { trail.new ≡ node_at_step lab.now node trail.new.step }
     ensures order { place ≤ trail.new.step }
 {
-    match lab.told(node, place) {
+    match lab.made_by_step(node, place) {
         Some(made) => match made {
             Made::Own { kind, .. } => {
                 let part = kind_tested(lab, trail, node, place, kind)?;
@@ -256,35 +272,35 @@ fn decided_at<'l>(lab: &'l Lab, trail: &mut Trail<'l>, node: NodeId, place: u32)
 pub struct Decisions<'l> {
     lab: &'l Lab,
     node: NodeId,
-    trail: Trail<'l>,
+    trail: CachedWalk<'l>,
     step: u32,
 }
 
 impl<'l> Model for Decisions<'l> {
-    ghost use Rattle.ga_lab.specs.Machine.{Standing, standing};
+    ghost use Rattle.ga_lab.specs.Machine.{NodeAtStep, node_at_step};
     ghost use Rattle.ga_provenance.specs.inner.{IsDeciding};
 
-    ghost Value = { Standing };
+    ghost Value = { NodeAtStep };
 
-    ghost view = { λ d. standing d.lab.now d.node d.step };
+    ghost view = { λ d. node_at_step d.lab.now d.node d.step };
 
     ghost invariant = { λ d. IsDeciding d.lab.now d.node d.trail d.step };
 }
 
 impl<'l> Decisions<'l> {
     ghost use Rattle.std.specs.Prelude.{◌≡◌, ◌<◌, ◌≤◌, ◌+◌, ◌-◌, IfSome};
-    ghost use Rattle.ga_lab.specs.Machine.{standing};
+    ghost use Rattle.ga_lab.specs.Machine.{node_at_step};
     ghost use Rattle.ga_provenance.specs.Deciding.{decided_at, newest_decided};
 
     /// All before the step to which a node is walked back.
     pub fn before(lab: &'l Lab, near: &Walk<'l>, node: NodeId) -> Self
-        requires { near.now ≡ standing lab.now node near.now.step }
-        ensures { result ≡ standing lab.now node (near.now.step - 1) }
+        requires { near.now ≡ node_at_step lab.now node near.now.step }
+        ensures { result ≡ node_at_step lab.now node (near.now.step - 1) }
     {
         Decisions {
             lab,
             node,
-            trail: Trail::new(lab, node, near.copy()),
+            trail: CachedWalk::new(lab, node, near.copy()),
             step: near.step().saturating_sub(1),
         }
     }
@@ -295,7 +311,7 @@ impl<'l> Decisions<'l> {
     pub fn next(&mut self) -> Option<Decision>
         ensures value { result ≡ newest_decided self.old.machine self.old.node self.old.step }
         ensures step { IfSome result (λ decision. self.new.step + 1 ≡ decision.step) }
-        ensures same { self.new ≡ standing self.old.machine self.old.node self.new.step }
+        ensures same { self.new ≡ node_at_step self.old.machine self.old.node self.new.step }
     {
         'going: while self.left() > 0 {
             if let Some(decision) = self.back() {
@@ -317,7 +333,7 @@ impl<'l> Decisions<'l> {
         requires { 0 < self.old.step }
         ensures value { result ≡ decided_at self.old.machine self.old.node self.new.step }
         ensures step { self.new.step + 1 ≡ self.old.step }
-        ensures same { self.new ≡ standing self.old.machine self.old.node self.new.step }
+        ensures same { self.new ≡ node_at_step self.old.machine self.old.node self.new.step }
     {
         let place = self.step - 1;
         self.step = place;

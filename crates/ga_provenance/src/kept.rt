@@ -4,9 +4,9 @@
 ghost use Rattle.std.specs.Prelude.{◌≡◌, ◌<◌, ◌≤◌, ◌+◌, ◌^◌, ◌&&◌};
 ghost use Rattle.std.specs.List.{slice_get};
 ghost use Rattle.ga_event.specs.Told.{steps_of};
-ghost use Rattle.ga_lab.specs.Machine.{history_of, standing};
+ghost use Rattle.ga_lab.specs.Machine.{history_of, node_at_step};
 ghost use Rattle.ga_provenance.specs.Origins.{node_after};
-ghost use Rattle.ga_provenance.specs.inner.{place_of, word_of, writes, rests, IsWhole, AreHeld};
+ghost use Rattle.ga_provenance.specs.inner.{place_of, word_of, writes, is_unchanged_by, IsWhole, AreHeld};
 ghost use Rattle.ga_node.specs.Record.{record_of};
 
 use ga_event::Made;
@@ -16,7 +16,7 @@ use ga_node::{Kind, Node, Place};
 
 /// A register that addresses, or a cell of RAM.
 #[derive(Clone, Copy, PartialEq, Eq, Debug)]
-pub(crate) enum Kept {
+pub(crate) enum TrackedPlace {
     /// The register A.
     A,
     /// The register B.
@@ -25,15 +25,15 @@ pub(crate) enum Kept {
     Ram(u8),
 }
 
-impl Kept {
+impl TrackedPlace {
     /// The place in a node of a tracked word.
     fn place(self) -> Place
         ensures { result ≡ place_of self }
     {
         match self {
-            Kept::A => Place::A,
-            Kept::B => Place::B,
-            Kept::Ram(cell) => Place::Ram(cell),
+            TrackedPlace::A => Place::A,
+            TrackedPlace::B => Place::B,
+            TrackedPlace::Ram(cell) => Place::Ram(cell),
         }
     }
 
@@ -43,16 +43,16 @@ impl Kept {
         ensures { result ≡ writes self code }
     {
         match self {
-            Kept::A => code == 9 || code == 13 || code == 16 || code == 31,
-            Kept::B => code == 30,
-            Kept::Ram(_) => code / 4 == 3,
+            TrackedPlace::A => code == 9 || code == 13 || code == 16 || code == 31,
+            TrackedPlace::B => code == 30,
+            TrackedPlace::Ram(_) => code / 4 == 3,
         }
     }
 
     /// Whether a step, as made, left the register or the cell as it was, whatever the node's values were.
     #[inline(always)]
-    pub fn rests(self, told: &Option<Made>) -> bool
-        ensures { result ≡ rests self told.now }
+    pub fn is_unchanged_by(self, told: &Option<Made>) -> bool
+        ensures { result ≡ is_unchanged_by self told.now }
     {
         match told {
             Some(Made::Own { kind, .. }) => match kind {
@@ -67,11 +67,12 @@ impl Kept {
 /// Whether a step, as made, left both A and B as they were, whatever the node's values were.
 #[inline(always)]
 pub(crate) fn both_rest(told: &Option<Made>) -> bool
-    ensures { result ≡ (rests Kept.A told.now && rests Kept.B told.now) }
+    ensures { result ≡ (is_unchanged_by TrackedPlace.A told.now && is_unchanged_by TrackedPlace.B told.now) }
 {
     match told {
         Some(Made::Own { kind, .. }) => match kind {
-            Kind::Run(code) => !Kept::A.is_written_by(*code) && !Kept::B.is_written_by(*code),
+            Kind::Run(code) => !TrackedPlace::A.is_written_by(*code)
+                && !TrackedPlace::B.is_written_by(*code),
             _ => true,
         },
         _ => false,
@@ -79,7 +80,7 @@ pub(crate) fn both_rest(told: &Option<Made>) -> bool
 }
 
 /// The tracked word of a node right before the step at a place, if it is `word` after it, by the step's entry.
-pub(crate) fn word_before(lab: &Lab, node: NodeId, at: u32, kept: Kept, word: u32) -> u32
+pub(crate) fn word_before(lab: &Lab, node: NodeId, at: u32, kept: TrackedPlace, word: u32) -> u32
     requires within { at + 1 ≤ steps_of node.number lab.now.kept }
     requires behind { word_of kept (node_after lab.now node.number (at + 1)) ≡ word }
     requires fits { word < 2 ^ 18 }
@@ -96,12 +97,12 @@ pub(crate) fn word_before(lab: &Lab, node: NodeId, at: u32, kept: Kept, word: u3
 /// its entry.
 #[inline(always)]
 #[tactic(auto, using(crate::proofs::Resting::word_rests))]
-pub(crate) fn word_behind(
+pub(crate) fn value_after(
     lab: &Lab,
     node: NodeId,
     at: u32,
     told: &Option<Made>,
-    kept: Kept,
+    kept: TrackedPlace,
     word: u32,
 ) -> u32
     requires told { told.now ≡ slice_get (history_of lab.now node.number) at }
@@ -112,7 +113,7 @@ pub(crate) fn word_behind(
     ensures value { word_of kept (node_after lab.now node.number at) ≡ result }
     ensures fits { result < 2 ^ 18 }
 {
-    if kept.rests(told) {
+    if kept.is_unchanged_by(told) {
         word
     } else {
         word_before(lab, node, at, kept, word)
@@ -144,7 +145,7 @@ fn b_of(node: &Node) -> u32
 
 /// A and B of a node where it is walked back to.
 pub(crate) fn registers_in(lab: &Lab, node: NodeId, walk: &Walk<'_>) -> Registers
-    requires { walk.now ≡ standing lab.now node walk.now.step }
+    requires { walk.now ≡ node_at_step lab.now node walk.now.step }
     ensures { AreHeld lab.now node.number walk.now.step result }
 {
     // These are called only for their contracts: that the chip has all its nodes, and that the node has this number of steps.
@@ -164,8 +165,8 @@ fn registers_kept(lab: &Lab, node: NodeId, at: u32, behind: Registers) -> Regist
     ensures { AreHeld lab.now node.number at result }
 {
     Registers {
-        a: word_before(lab, node, at, Kept::A, behind.a),
-        b: word_before(lab, node, at, Kept::B, behind.b),
+        a: word_before(lab, node, at, TrackedPlace::A, behind.a),
+        b: word_before(lab, node, at, TrackedPlace::B, behind.b),
     }
 }
 
@@ -205,7 +206,7 @@ pub(crate) fn registers_at(
     let mut step = from;
     'going: while step > to {
         step -= 1;
-        let told = lab.told(node, step);
+        let told = lab.made_by_step(node, step);
         registers = registers_before(lab, node, step, &told, registers);
     }
     registers

@@ -2,19 +2,19 @@
 
 ghost use Rattle.std.specs.Prelude.{◌≡◌, ◌<◌, ◌≤◌, IfSome};
 ghost use Rattle.ga_ports.specs.Address.{IsTarget};
-ghost use Rattle.ga_node.specs.Table.{due_of};
+ghost use Rattle.ga_node.specs.Table.{next_action_of};
 ghost use Rattle.ga_node.specs.State.{wait_of};
-ghost use Rattle.ga_node.specs.declared.due.Due.TheVariants as due;
-ghost use Rattle.ga_lab.specs.Machine.{standing};
+ghost use Rattle.ga_node.specs.declared.due.NextAction.TheVariants as due;
+ghost use Rattle.ga_lab.specs.Machine.{node_at_step};
 ghost use Rattle.ga_event.specs.Flow.{IsPart, choice, target_of, own_flow, take_flow, flow_of, AreSources};
 ghost use Rattle.ga_provenance.specs.Origins.{node_after, flow_at};
 ghost use Rattle.ga_provenance.specs.inner.{IsDueBy, IsTrailTo};
 
-use crate::trail::Trail;
+use crate::trail::CachedWalk;
 use ga_event::{Choice, Flow, Made, Part, flow_where, send_flow, take_flow};
 use ga_grid::NodeId;
 use ga_lab::Lab;
-use ga_node::{Due, Kind, Place, Wait};
+use ga_node::{Kind, NextAction, Place, Wait};
 use ga_ports::{PortSet, classify};
 use ga_slots::Op;
 
@@ -38,7 +38,13 @@ pub(crate) fn p_at(lab: &Lab, node: NodeId, place: u32) -> Option<u32>
 }
 
 // What decides an opcode at a place: P is read from the entries of the next few steps, A and B from the trail.
-fn choice_of(lab: &Lab, trail: &mut Trail<'_>, node: NodeId, place: u32, op: Op) -> Option<Choice>
+fn choice_of(
+    lab: &Lab,
+    trail: &mut CachedWalk<'_>,
+    node: NodeId,
+    place: u32,
+    op: Op,
+) -> Option<Choice>
     requires trail { IsTrailTo lab.now node trail.old place }
     ensures value { IfSome result (λ known. known ≡ choice (due.Run op) (node_after lab.now node.number place)) }
     ensures target { IfSome result (λ known. IsTarget (target_of known)) }
@@ -61,15 +67,21 @@ fn choice_of(lab: &Lab, trail: &mut Trail<'_>, node: NodeId, place: u32, op: Op)
 }
 
 // What decides the step at a place, before which this came next in its node.
-fn choice_at(lab: &Lab, trail: &mut Trail<'_>, node: NodeId, place: u32, due: Due) -> Option<Choice>
+fn choice_at(
+    lab: &Lab,
+    trail: &mut CachedWalk<'_>,
+    node: NodeId,
+    place: u32,
+    due: NextAction,
+) -> Option<Choice>
     requires trail { IsTrailTo lab.now node trail.old place }
     ensures value { IfSome result (λ known. known ≡ choice due (node_after lab.now node.number place)) }
     ensures target { IfSome result (λ known. IsTarget (target_of known)) }
     ensures same { trail.new ≡ trail.old }
 {
     match due {
-        Due::Fetch => Some(Choice::At(classify(p_at(lab, node, place)?))),
-        Due::Run(op) => choice_of(lab, trail, node, place, op),
+        NextAction::Fetch => Some(Choice::At(classify(p_at(lab, node, place)?))),
+        NextAction::Run(op) => choice_of(lab, trail, node, place, op),
     }
 }
 
@@ -77,15 +89,15 @@ fn choice_at(lab: &Lab, trail: &mut Trail<'_>, node: NodeId, place: u32, due: Du
 #[tactic(auto, using(crate::proofs::Ran::own_where))]
 fn own_flow_at(
     lab: &Lab,
-    trail: &mut Trail<'_>,
+    trail: &mut CachedWalk<'_>,
     node: NodeId,
     place: u32,
-    due: Due,
+    due: NextAction,
     part: Part,
 ) -> Option<Flow>
     requires part { IsPart part }
     requires trail { IsTrailTo lab.now node trail.old place }
-    requires due { due_of (node_after lab.now node.number place) ≡ due }
+    requires due { next_action_of (node_after lab.now node.number place) ≡ due }
     ensures value { IfSome result (λ flow. flow_of flow ≡ own_flow (node_after lab.now node.number place) part) }
     ensures sources { IfSome result (λ flow. AreSources (flow_of flow)) }
     ensures same { trail.new ≡ trail.old }
@@ -97,14 +109,14 @@ fn own_flow_at(
 }
 
 // What came next in a node whose event was of this kind.
-fn due_by(kind: Kind) -> Option<Due>
+fn due_by(kind: Kind) -> Option<NextAction>
     ensures { IfSome result (λ due. IsDueBy kind due) }
 {
     match kind {
-        Kind::Fetch => Some(Due::Fetch),
+        Kind::Fetch => Some(NextAction::Fetch),
         Kind::Run(code) => {
             if code < 32 {
-                Some(Due::Run(Op::from_code(code)))
+                Some(NextAction::Run(Op::from_code(code)))
             } else {
                 None
             }
@@ -137,7 +149,7 @@ fn taken_flow(lab: &Lab, node: NodeId, place: u32, part: Part) -> Option<Flow>
 /// The source of the value that the step at a place leaves in a part, if the entries determine it.
 pub(crate) fn known_flow(
     lab: &Lab,
-    trail: &mut Trail<'_>,
+    trail: &mut CachedWalk<'_>,
     node: NodeId,
     place: u32,
     part: Part,
@@ -148,7 +160,7 @@ pub(crate) fn known_flow(
     ensures sources { IfSome result (λ flow. AreSources (flow_of flow)) }
     ensures same { trail.new ≡ trail.old }
 {
-    match lab.told(node, place)? {
+    match lab.made_by_step(node, place)? {
         Made::Own { kind, .. } => own_flow_at(lab, trail, node, place, due_by(kind)?, part),
         Made::Pass { reader, .. } => {
             if node.number == reader.number {

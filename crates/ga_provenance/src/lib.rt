@@ -13,9 +13,9 @@ mod trail;
 mod value;
 mod writes;
 
-pub use asked::{asked_behind, asked_of};
+pub use asked::{queried_value, queried_value_at};
 pub use deciding::{Decision, Decisions};
-pub use listing::{Listing, Row, whence, whence_near};
-pub use origin::{fetched_near, origin_of};
+pub use listing::{ProvenanceRow, ProvenanceTree, find_provenance, find_provenance_at};
+pub use origin::{fetched_cell_at, origin_of};
 pub use value::Value;
 pub use writes::{CellWrite, CellWrites};

@@ -2,14 +2,14 @@
 
 ghost use Rattle.std.specs.Prelude.{◌≡◌, ◌⊎◌, ◌↔◌, ◌<◌, ◌≤◌, ◌+◌, ◌-◌, ◌^◌, ◌++◌, ◌∷◌, [], false, Err, IfOk, IfErr, IfSome, OnOk, All, length, map, reverse, option_to_list};
 ghost use Rattle.ga_event.specs.Told.{steps_of};
-ghost use Rattle.ga_lab.specs.Machine.{standing};
+ghost use Rattle.ga_lab.specs.Machine.{node_at_step};
 ghost use Rattle.ga_event.specs.Flow.{IsPart, Same};
 ghost use Rattle.ga_provenance.specs.Origins.{value_of_step};
 ghost use Rattle.ga_provenance.specs.Rows.{has_value, row_at, sender_in, source_values, below, AreRows};
 ghost use Rattle.ga_provenance.specs.inner.{IsOpen};
 
-use crate::origin::{Origin, flow_by_trail, origin_near};
-use crate::trail::Trail;
+use crate::origin::{Origin, flow_by_trail, origin_at};
+use crate::trail::CachedWalk;
 use crate::value::Value;
 use arrayvec::ArrayVec;
 use ga_event::{Flow, Made, Part};
@@ -19,7 +19,7 @@ use std::alloc::{AllocError, Global};
 
 /// A row of a listing: a value that a step made, or that was loaded.
 #[derive(Clone, Copy, PartialEq, Eq, Debug)]
-pub struct Row {
+pub struct ProvenanceRow {
     /// How many steps lead from the queried value to this one: 0 for the step that made the value itself.
     pub depth: u32,
     /// The value, right after the step that made it.
@@ -28,15 +28,15 @@ pub struct Row {
 
 /// The steps whose values went into a value, as a tree, of which each step is listed once.
 #[derive(Debug, Drop)]
-pub struct Listing {
+pub struct ProvenanceTree {
     /// The rows, each before those below it, in the order in which its step reads them.
-    pub rows: Vec<Row>,
+    pub rows: Vec<ProvenanceRow>,
     /// Whether no row is missing.
     pub is_whole: bool,
 }
 
 // Whether the value is among the listed ones.
-fn is_named(rows: &[Row], value: Value) -> bool
+fn is_named(rows: &[ProvenanceRow], value: Value) -> bool
     ensures { result ≡ has_value rows.now value }
 {
     rows.iter().any(|row| row.value.is_same(value))
@@ -79,13 +79,17 @@ fn source_in(node: NodeId, step: u32, told: Option<Made>, from: Part) -> Option<
 }
 
 // Puts a value on the top, where there is one.
-fn push_some(todo: &mut Vec<Row>, depth: u32, value: Option<Value>) -> Result<(), AllocError>
+fn push_some(
+    todo: &mut Vec<ProvenanceRow>,
+    depth: u32,
+    value: Option<Value>,
+) -> Result<(), AllocError>
     ensures ok { OnOk result (reverse todo.new.items ≡ map (row_at depth) (option_to_list value) ++ reverse todo.old.items) }
     ensures few { OnOk result (length todo.new.items ≤ length todo.old.items + 3) }
 {
     match value {
         Some(value) => {
-            todo.push(Row { depth, value })?;
+            todo.push(ProvenanceRow { depth, value })?;
             Ok(())
         }
         None => Ok(()),
@@ -94,7 +98,7 @@ fn push_some(todo: &mut Vec<Row>, depth: u32, value: Option<Value>) -> Result<()
 
 // Puts the values of some parts of a node on the top, the first uppermost.
 fn push_parts(
-    todo: &mut Vec<Row>,
+    todo: &mut Vec<ProvenanceRow>,
     depth: u32,
     node: NodeId,
     step: u32,
@@ -109,26 +113,26 @@ fn push_parts(
     let mut left = parts;
     'pushing: while let Some(part) = left.pop() {
         let value = Value { node, step, part };
-        todo.push(Row { depth, value })?;
+        todo.push(ProvenanceRow { depth, value })?;
     }
     Ok(())
 }
 
 // Puts what a row's value came from on the top, the first uppermost, by a trail of its node that has not come past the row's step.
 fn push_below(
-    todo: &mut Vec<Row>,
+    todo: &mut Vec<ProvenanceRow>,
     lab: &Lab,
-    trail: &mut Trail<'_>,
-    row: Row,
+    trail: &mut CachedWalk<'_>,
+    row: ProvenanceRow,
 ) -> Result<(), AllocError>
     requires part { IsPart row.value.part }
-    requires trail { trail.old ≡ standing lab.now row.value.node trail.old.step }
+    requires trail { trail.old ≡ node_at_step lab.now row.value.node trail.old.step }
     requires order { row.value.step - 1 ≤ trail.old.step }
     requires deep { row.depth + 1 < 2 ^ 32 }
     ensures ok { OnOk result (reverse todo.new.items ≡ below lab.now row ++ reverse todo.old.items) }
     ensures few { OnOk result (length todo.new.items ≤ length todo.old.items + 3) }
     ensures ready { OnOk result (All (IsOpen (row.depth + 1)) (below lab.now row)) }
-    ensures trail { trail.new ≡ standing lab.now row.value.node trail.new.step }
+    ensures trail { trail.new ≡ node_at_step lab.now row.value.node trail.new.step }
 {
     let Value { node, step, part } = row.value;
     if step == 0 {
@@ -138,7 +142,7 @@ fn push_below(
     let depth = row.depth + 1;
     match flow_by_trail(lab, trail, node, place, part) {
         Flow::Same(from) => {
-            let told = lab.told(node, place);
+            let told = lab.made_by_step(node, place);
             push_some(todo, depth, source_in(node, place, told, from))
         }
         Flow::From(parts) => push_parts(todo, depth, node, place, parts),
@@ -154,56 +158,61 @@ fn push_below(
 ///
 /// # Errors
 /// An allocation failed.
-pub fn whence_near<'l>(
+pub fn find_provenance_at<'l>(
     alloc: Global,
     lab: &'l Lab,
     near: &Walk<'l>,
     at: NodeId,
     value: Value,
     most: u32,
-) -> Result<Listing, AllocError>
+) -> Result<ProvenanceTree, AllocError>
     requires part { IsPart value.part }
-    requires near { near.now ≡ standing lab.now at near.now.step }
+    requires near { near.now ≡ node_at_step lab.now at near.now.step }
     ensures rows { IfOk result (λ listing. AreRows lab.now [] (row_at 0 value ∷ []) listing.rows.items listing.is_whole) }
     ensures most { IfOk result (λ listing. length listing.rows.items ≤ most) }
     ensures cut { IfOk result (λ listing. listing.is_whole ≡ false → length listing.rows.items ≡ most) }
 {
-    let mut rows: Vec<Row> = Vec::new(alloc);
-    let mut todo: Vec<Row> = Vec::new(alloc);
-    todo.push(Row { depth: 0, value })?;
+    let mut rows: Vec<ProvenanceRow> = Vec::new(alloc);
+    let mut todo: Vec<ProvenanceRow> = Vec::new(alloc);
+    todo.push(ProvenanceRow { depth: 0, value })?;
     let mut last = Origin {
         value: Value { node: at, ..value },
-        trail: Trail::new(lab, at, near.copy()),
+        trail: CachedWalk::new(lab, at, near.copy()),
     };
     'telling: while let Some(next) = todo.pop() {
-        last = origin_near(lab, near, at, last, next.value);
+        last = origin_at(lab, near, at, last, next.value);
         if is_named(&rows, last.value) {
             continue 'telling;
         }
         if rows.as_slice().len() == most as usize {
-            return Ok(Listing {
+            return Ok(ProvenanceTree {
                 rows,
                 is_whole: false,
             });
         }
-        let row = Row {
+        let row = ProvenanceRow {
             depth: next.depth,
             value: last.value,
         };
         push_below(&mut todo, lab, &mut last.trail, row)?;
         rows.push(row)?;
     }
-    Ok(Listing {
+    Ok(ProvenanceTree {
         rows,
         is_whole: true,
     })
 }
 
-/// The steps whose values went into a value, as [`whence_near`] finds them from the value's own step, to which its node is walked back.
+/// The steps whose values went into a value, as [`find_provenance_at`] finds them from the value's own step, to which its node is walked back.
 ///
 /// # Errors
 /// `NoStep`, where the node has no such step; then `Memory`.
-pub fn whence(alloc: Global, lab: &Lab, value: Value, most: u32) -> Result<Listing, LabFault>
+pub fn find_provenance(
+    alloc: Global,
+    lab: &Lab,
+    value: Value,
+    most: u32,
+) -> Result<ProvenanceTree, LabFault>
     requires { IsPart value.part }
     ensures rows { IfOk result (λ listing. AreRows lab.now [] (row_at 0 value ∷ []) listing.rows.items listing.is_whole) }
     ensures most { IfOk result (λ listing. length listing.rows.items ≤ most) }
@@ -215,7 +224,7 @@ pub fn whence(alloc: Global, lab: &Lab, value: Value, most: u32) -> Result<Listi
         return Err(LabFault::NoStep);
     }
     let near = lab.walk(value.node, value.step);
-    match whence_near(alloc, lab, &near, value.node, value, most) {
+    match find_provenance_at(alloc, lab, &near, value.node, value, most) {
         Ok(listing) => Ok(listing),
         Err(_) => Err(LabFault::Memory),
     }

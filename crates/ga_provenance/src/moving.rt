@@ -12,7 +12,7 @@ use ga_slots::Op;
 
 /// What an opcode does to the words of a stack.
 #[derive(Clone, Copy, PartialEq, Eq, Debug)]
-pub(crate) enum Shift {
+pub(crate) enum StackEffect {
     /// Each keeps its place.
     Stays,
     /// The top gets another word, the others keep their places.
@@ -29,33 +29,33 @@ pub(crate) enum Shift {
 
 // What an opcode does to the data stack.
 #[inline(always)]
-fn on_data(op: Op) -> Shift
+fn on_data(op: Op) -> StackEffect
     ensures { result ≡ on_data op }
 {
     match op {
-        Op::Return | Op::Execute | Op::Jump | Op::Call => Shift::Stays,
-        Op::Unext | Op::Next | Op::If | Op::MinusIf => Shift::Stays,
-        Op::FetchP | Op::FetchPlus | Op::FetchB | Op::Fetch => Shift::Pushes,
-        Op::StoreP | Op::StorePlus | Op::StoreB | Op::Store => Shift::Pops,
-        Op::MultiplyStep | Op::TwoStar | Op::TwoSlash | Op::Invert => Shift::Replaces,
-        Op::Plus | Op::And | Op::Or => Shift::Combines,
-        Op::Dup | Op::Pop | Op::Over | Op::A => Shift::Pushes,
-        Op::Nop => Shift::Stays,
-        Op::Drop | Op::Push | Op::BStore | Op::AStore => Shift::Pops,
+        Op::Return | Op::Execute | Op::Jump | Op::Call => StackEffect::Stays,
+        Op::Unext | Op::Next | Op::If | Op::MinusIf => StackEffect::Stays,
+        Op::FetchP | Op::FetchPlus | Op::FetchB | Op::Fetch => StackEffect::Pushes,
+        Op::StoreP | Op::StorePlus | Op::StoreB | Op::Store => StackEffect::Pops,
+        Op::MultiplyStep | Op::TwoStar | Op::TwoSlash | Op::Invert => StackEffect::Replaces,
+        Op::Plus | Op::And | Op::Or => StackEffect::Combines,
+        Op::Dup | Op::Pop | Op::Over | Op::A => StackEffect::Pushes,
+        Op::Nop => StackEffect::Stays,
+        Op::Drop | Op::Push | Op::BStore | Op::AStore => StackEffect::Pops,
     }
 }
 
 // What an opcode does to the return stack.
 #[inline(always)]
-fn on_return(op: Op) -> Shift
+fn on_return(op: Op) -> StackEffect
     ensures { result ≡ on_return op }
 {
     match op {
-        Op::Return | Op::Pop => Shift::Pops,
-        Op::Execute => Shift::Replaces,
-        Op::Call | Op::Push => Shift::Pushes,
-        Op::Unext | Op::Next => Shift::Unsure,
-        _ => Shift::Stays,
+        Op::Return | Op::Pop => StackEffect::Pops,
+        Op::Execute => StackEffect::Replaces,
+        Op::Call | Op::Push => StackEffect::Pushes,
+        Op::Unext | Op::Next => StackEffect::Unsure,
+        _ => StackEffect::Stays,
     }
 }
 
@@ -97,30 +97,30 @@ fn moved_to_data(op: Op, place: u8) -> Option<Part>
     ensures part { IfSome result (λ from. IsPart from) }
 {
     match on_data(op) {
-        Shift::Stays => Some(Part::Data(place)),
-        Shift::Replaces => {
+        StackEffect::Stays => Some(Part::Data(place)),
+        StackEffect::Replaces => {
             if place == 0 {
                 None
             } else {
                 Some(Part::Data(place))
             }
         }
-        Shift::Pushes => {
+        StackEffect::Pushes => {
             if place == 0 {
                 pushed(op)
             } else {
                 Some(Part::Data(place - 1))
             }
         }
-        Shift::Pops => Some(popped_to_data(place)),
-        Shift::Combines => {
+        StackEffect::Pops => Some(popped_to_data(place)),
+        StackEffect::Combines => {
             if place == 0 {
                 None
             } else {
                 Some(popped_to_data(place))
             }
         }
-        Shift::Unsure => None,
+        StackEffect::Unsure => None,
     }
 }
 
@@ -146,24 +146,24 @@ fn moved_to_return(op: Op, place: u8) -> Option<Part>
     ensures part { IfSome result (λ from. IsPart from) }
 {
     match on_return(op) {
-        Shift::Stays => Some(Part::Return(place)),
-        Shift::Replaces => {
+        StackEffect::Stays => Some(Part::Return(place)),
+        StackEffect::Replaces => {
             if place == 0 {
                 None
             } else {
                 Some(Part::Return(place))
             }
         }
-        Shift::Pushes => {
+        StackEffect::Pushes => {
             if place == 0 {
                 pushed(op)
             } else {
                 Some(Part::Return(place - 1))
             }
         }
-        Shift::Pops => Some(popped_to_return(place)),
-        Shift::Combines => None,
-        Shift::Unsure => None,
+        StackEffect::Pops => Some(popped_to_return(place)),
+        StackEffect::Combines => None,
+        StackEffect::Unsure => None,
     }
 }
 

@@ -3,7 +3,7 @@
 ghost use Rattle.std.specs.Prelude.{◌≡◌, ◌<◌, ◌≤◌, ◌-◌, None, IfSome};
 ghost use Rattle.ga_node.specs.Record.{record_of};
 ghost use Rattle.ga_event.specs.Told.{steps_of};
-ghost use Rattle.ga_lab.specs.Machine.{history_of, standing};
+ghost use Rattle.ga_lab.specs.Machine.{history_of, node_at_step};
 ghost use Rattle.ga_event.specs.Flow.{IsPart, flow_of, AreSources};
 ghost use Rattle.ga_provenance.specs.Origins.{is_memory_part, crosses, moved_from, is_of_three, told_part, told_flow, flow_at, origin_from, origin_of, node_after};
 ghost use Rattle.ga_provenance.specs.inner.{moved_by, IsTrailTo};
@@ -12,7 +12,7 @@ ghost use Rattle.ga_provenance.specs.Fetched.{cell_of_target, fetched_cell};
 
 use crate::known::{known_flow, p_at};
 use crate::moving::moved_by;
-use crate::trail::Trail;
+use crate::trail::CachedWalk;
 use crate::value::Value;
 use ga_event::{Flow, Made, Part, own_flow, send_flow, take_flow};
 use ga_grid::NodeId;
@@ -105,11 +105,11 @@ fn told_flow(made: &Made, before: &Node, node: NodeId, part: Part) -> Flow
 // Where the value of a part comes from that a node's next step leaves, from where it is walked back to; past its steps all stays.
 pub(crate) fn flow_behind(lab: &Lab, walk: &Walk<'_>, node: NodeId, part: Part) -> Flow
     requires part { IsPart part }
-    requires walk { walk.now ≡ standing lab.now node walk.now.step }
+    requires walk { walk.now ≡ node_at_step lab.now node walk.now.step }
     ensures value { flow_of result ≡ flow_at lab.now node.number walk.now.step part }
     ensures sources { AreSources (flow_of result) }
 {
-    match lab.told(node, walk.step()) {
+    match lab.made_by_step(node, walk.step()) {
         Some(made) => told_flow(&made, walk.node(), node, part),
         None => Flow::Same(part),
     }
@@ -140,7 +140,7 @@ pub fn origin_of(lab: &Lab, value: Value) -> Value
     ensures within { result.step ≤ steps_of value.node.number lab.now.kept }
 {
     let step = kept_step(lab, value);
-    let mut trail = Trail::new(lab, value.node, lab.walk(value.node, step));
+    let mut trail = CachedWalk::new(lab, value.node, lab.walk(value.node, step));
     origin_behind(lab, &mut trail, value.node, step, value.part)
 }
 
@@ -148,7 +148,7 @@ pub fn origin_of(lab: &Lab, value: Value) -> Value
 #[derive(Drop)]
 pub(crate) struct Origin<'l> {
     pub value: Value,
-    pub trail: Trail<'l>,
+    pub trail: CachedWalk<'l>,
 }
 
 // A trail of a node that has not come past a step: from another walk, where that is of the same node and not earlier, else from the
@@ -159,16 +159,16 @@ pub(crate) fn trail_near<'l>(
     at: NodeId,
     node: NodeId,
     step: u32,
-) -> Trail<'l>
+) -> CachedWalk<'l>
     requires within { step ≤ steps_of node.number lab.now.kept }
-    requires near { near.now ≡ standing lab.now at near.now.step }
-    ensures stands { result ≡ standing lab.now node result.step }
+    requires near { near.now ≡ node_at_step lab.now at near.now.step }
+    ensures stands { result ≡ node_at_step lab.now node result.step }
     ensures order { step ≤ result.step }
 {
     if at == node && step <= near.step() {
-        Trail::new(lab, node, near.copy())
+        CachedWalk::new(lab, node, near.copy())
     } else {
-        Trail::new(lab, node, lab.walk(node, lab.steps(node)))
+        CachedWalk::new(lab, node, lab.walk(node, lab.steps(node)))
     }
 }
 
@@ -180,11 +180,11 @@ fn trail_on<'l>(
     last: Origin<'l>,
     node: NodeId,
     step: u32,
-) -> Trail<'l>
+) -> CachedWalk<'l>
     requires within { step ≤ steps_of node.number lab.now.kept }
-    requires near { near.now ≡ standing lab.now at near.now.step }
-    requires last { last.trail ≡ standing lab.now last.value.node last.trail.step }
-    ensures stands { result ≡ standing lab.now node result.step }
+    requires near { near.now ≡ node_at_step lab.now at near.now.step }
+    requires last { last.trail ≡ node_at_step lab.now last.value.node last.trail.step }
+    ensures stands { result ≡ node_at_step lab.now node result.step }
     ensures order { step ≤ result.step }
 {
     let Origin { value, trail } = last;
@@ -196,7 +196,7 @@ fn trail_on<'l>(
 }
 
 // What made a value, found by the trail of the origin that was found last, or by a walk of some node, which is not walked on.
-pub(crate) fn origin_near<'l>(
+pub(crate) fn origin_at<'l>(
     lab: &'l Lab,
     near: &Walk<'l>,
     at: NodeId,
@@ -204,11 +204,11 @@ pub(crate) fn origin_near<'l>(
     value: Value,
 ) -> Origin<'l>
     requires part { IsPart value.part }
-    requires near { near.now ≡ standing lab.now at near.now.step }
-    requires last { last.trail ≡ standing lab.now last.value.node last.trail.step }
+    requires near { near.now ≡ node_at_step lab.now at near.now.step }
+    requires last { last.trail ≡ node_at_step lab.now last.value.node last.trail.step }
     ensures value { result.value ≡ origin_of lab.now value }
     ensures part { IsPart result.value.part }
-    ensures stands { result.trail ≡ standing lab.now result.value.node result.trail.step }
+    ensures stands { result.trail ≡ node_at_step lab.now result.value.node result.trail.step }
     ensures order { result.value.step - 1 ≤ result.trail.step }
 {
     let step = kept_step(lab, value);
@@ -224,7 +224,7 @@ pub(crate) fn origin_near<'l>(
 // step only if the entries don't determine it.
 pub(crate) fn flow_by_trail(
     lab: &Lab,
-    trail: &mut Trail<'_>,
+    trail: &mut CachedWalk<'_>,
     node: NodeId,
     place: u32,
     part: Part,
@@ -233,7 +233,7 @@ pub(crate) fn flow_by_trail(
     requires trail { IsTrailTo lab.now node trail.old place }
     ensures value { flow_of result ≡ flow_at lab.now node.number place part }
     ensures sources { AreSources (flow_of result) }
-    ensures trail { trail.new ≡ standing lab.now node trail.new.step }
+    ensures trail { trail.new ≡ node_at_step lab.now node trail.new.step }
     ensures order { place ≤ trail.new.step }
 {
     if let Some(flow) = known_flow(lab, trail, node, place, part) {
@@ -248,7 +248,7 @@ pub(crate) fn flow_by_trail(
 /// step has the value.
 pub(crate) fn origin_behind(
     lab: &Lab,
-    trail: &mut Trail<'_>,
+    trail: &mut CachedWalk<'_>,
     node: NodeId,
     step: u32,
     part: Part,
@@ -259,10 +259,10 @@ pub(crate) fn origin_behind(
     ensures part { IsPart result.part }
     ensures within { result.step ≤ step }
     ensures node { result.node ≡ node }
-    ensures trail { trail.new ≡ standing lab.now node trail.new.step }
+    ensures trail { trail.new ≡ node_at_step lab.now node trail.new.step }
     ensures order { result.step - 1 ≤ trail.new.step }
 {
-    let mut value = trail.told_back(lab, Value { node, step, part });
+    let mut value = trail.trace_by_records(lab, Value { node, step, part });
     'steps: while value.step > 0 {
         let Value { step, part, .. } = value;
         let flow = flow_by_trail(lab, trail, node, step - 1, part);
@@ -270,7 +270,7 @@ pub(crate) fn origin_behind(
             Some(from) => {
                 let step = step - 1;
                 let part = from;
-                value = trail.told_back(lab, Value { node, step, part });
+                value = trail.trace_by_records(lab, Value { node, step, part });
             }
             None => {
                 let part = told_part(&flow, part);
@@ -301,7 +301,7 @@ fn p_of(node: &Node) -> u32
 }
 
 /// P right before the step at a place. The node is walked back only if the entries don't determine it.
-fn p_by_trail(lab: &Lab, trail: &mut Trail<'_>, node: NodeId, place: u32) -> u32
+fn p_by_trail(lab: &Lab, trail: &mut CachedWalk<'_>, node: NodeId, place: u32) -> u32
     requires trail { IsTrailTo lab.now node trail.old place }
     requires within { place ≤ steps_of node.number lab.now.kept }
     ensures { (node_after lab.now node.number place).p ≡ result }
@@ -317,14 +317,14 @@ fn p_by_trail(lab: &Lab, trail: &mut Trail<'_>, node: NodeId, place: u32) -> u32
 /// loaded, or came from elsewhere than a memory. Takes time linear in the number of steps that the node made since the fetch.
 /// Only where the entries of the steps don't determine it, the node is walked back there: from where the walk `near` is, if
 /// that is of the same node and not earlier, else from its newest step.
-pub fn fetched_near<'l>(
+pub fn fetched_cell_at<'l>(
     lab: &'l Lab,
     near: &Walk<'l>,
     at: NodeId,
     node: NodeId,
     step: u32,
 ) -> Option<u8>
-    requires { near.now ≡ standing lab.now at near.now.step }
+    requires { near.now ≡ node_at_step lab.now at near.now.step }
     ensures { result ≡ fetched_cell lab.now node step }
 {
     let part = Part::I;

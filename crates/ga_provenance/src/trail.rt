@@ -41,7 +41,7 @@ fn follow_data(lab: &Lab, followed: Followed, along: bool) -> Followed
     };
     let Value { node, mut step, .. } = value;
     'telling: while step > 0 {
-        let told = lab.told(node, step - 1);
+        let told = lab.made_by_step(node, step - 1);
         match data_place(&told, place) {
             Some(from) => place = from,
             None => break 'telling,
@@ -78,7 +78,7 @@ fn follow(lab: &Lab, value: Value, along: bool, behind: Registers) -> Followed
         }
         let Value { node, step, part } = value;
         let step = step - 1;
-        let told = lab.told(node, step);
+        let told = lab.made_by_step(node, step);
         match moved_by(&told, part) {
             Some(part) => value = Value { node, step, part },
             None => return Followed { value, registers },
@@ -106,7 +106,7 @@ fn passed(lab: &Lab, followed: Followed) -> Option<Followed>
         return None;
     }
     let step = step - 1;
-    let told = lab.told(node, step);
+    let told = lab.made_by_step(node, step);
     let registers = registers_before(lab, node, step, &told, registers);
     if !misses(&told, registers, part) {
         return None;
@@ -138,40 +138,40 @@ fn follow_on(lab: &Lab, value: Value, behind: Registers) -> Followed
 /// A walk of a node, and A and B after some of its steps, so that an address is known without walking the node back. A contract
 /// sees the walk only.
 #[derive(Drop)]
-pub(crate) struct Trail<'l> {
+pub(crate) struct CachedWalk<'l> {
     walk: Walk<'l>,
     // The number of steps after which A and B are known.
     step: u32,
     registers: Registers,
 }
 
-impl<'l> Model for Trail<'l> {
-    ghost use Rattle.ga_lab.specs.Machine.{Standing};
+impl<'l> Model for CachedWalk<'l> {
+    ghost use Rattle.ga_lab.specs.Machine.{NodeAtStep};
     ghost use Rattle.ga_provenance.specs.inner.{AreHeld};
 
-    ghost Value = { Standing };
+    ghost Value = { NodeAtStep };
 
     ghost view = { λ t. t.walk };
 
     ghost invariant = { λ t. AreHeld t.walk.machine t.walk.node.number t.step t.registers };
 }
 
-impl<'l> Trail<'l> {
+impl<'l> CachedWalk<'l> {
     ghost use Rattle.std.specs.Prelude.{◌≡◌, ◌≤◌};
     ghost use Rattle.ga_event.specs.Told.{steps_of};
-    ghost use Rattle.ga_lab.specs.Machine.{standing};
+    ghost use Rattle.ga_lab.specs.Machine.{node_at_step};
     ghost use Rattle.ga_event.specs.Flow.{IsPart};
     ghost use Rattle.ga_provenance.specs.inner.{IsWhole, AreHeld, IsFollowed, IsTrailTo};
 
     /// A trail from where a node is walked back to.
     pub fn new(lab: &'l Lab, node: NodeId, walk: Walk<'l>) -> Self
-        requires { walk ≡ standing lab.now node walk.step }
+        requires { walk ≡ node_at_step lab.now node walk.step }
         ensures walk { result ≡ walk.entry }
         ensures whole { IsWhole lab.now }
     {
         let registers = registers_in(lab, node, &walk);
         let step = walk.step();
-        Trail {
+        CachedWalk {
             walk,
             step,
             registers,
@@ -203,9 +203,9 @@ impl<'l> Trail<'l> {
 
     /// Follows a value back over the steps of the node that, as made, determine from where they moved it. If A and B are known
     /// after the value's step, they are then known at the returned value's step.
-    pub fn told_back(&mut self, lab: &Lab, value: Value) -> Value
+    pub fn trace_by_records(&mut self, lab: &Lab, value: Value) -> Value
         requires part { IsPart value.part }
-        requires trail { self.old ≡ standing lab.now value.node self.old.step }
+        requires trail { self.old ≡ node_at_step lab.now value.node self.old.step }
         ensures followed { IsFollowed lab.now value result }
         ensures trail { self.new ≡ self.old }
     {
@@ -221,7 +221,7 @@ impl<'l> Trail<'l> {
 
     /// Stores A and B after `step` steps.
     pub fn note(&mut self, lab: &Lab, node: NodeId, step: u32, registers: Registers)
-        requires trail { self.old ≡ standing lab.now node self.old.step }
+        requires trail { self.old ≡ node_at_step lab.now node self.old.step }
         requires held { AreHeld lab.now node.number step registers }
         ensures { self.new ≡ self.old }
     {

@@ -7,10 +7,12 @@ ghost use Rattle.ga_event.specs.Flow.{flow_of};
 ghost use Rattle.ga_provenance.specs.Writes.{is_written, written_at, newest_written};
 ghost use Rattle.ga_provenance.specs.inner.{IsReached, IsFollowedBack, ran_store};
 
-use crate::kept::{Kept, Registers, registers_before, registers_in, word_before, word_behind};
+use crate::kept::{
+    Registers, TrackedPlace, registers_before, registers_in, value_after, word_before,
+};
 use crate::moving::misses;
 use crate::origin::{flow_by_trail, is_cell};
-use crate::trail::Trail;
+use crate::trail::CachedWalk;
 use ga_event::{Flow, Made, Part};
 use ga_grid::NodeId;
 use ga_lab::Lab;
@@ -86,7 +88,7 @@ fn back_to_store(lab: &Lab, node: NodeId, cell: u8, from: Reached) -> Reached
     } = from;
     'going: while step > 0 {
         let at = step - 1;
-        let told = lab.told(node, at);
+        let told = lab.made_by_step(node, at);
         if ran_store(&told) {
             return Reached {
                 step,
@@ -95,7 +97,7 @@ fn back_to_store(lab: &Lab, node: NodeId, cell: u8, from: Reached) -> Reached
             };
         }
         registers = registers_before(lab, node, at, &told, registers);
-        word = word_behind(lab, node, at, &told, Kept::Ram(cell), word);
+        word = value_after(lab, node, at, &told, TrackedPlace::Ram(cell), word);
         step = at;
     }
     Reached {
@@ -124,12 +126,12 @@ fn back_past_store(lab: &Lab, node: NodeId, cell: u8, from: Reached) -> Option<R
         return None;
     }
     let step = step - 1;
-    let told = lab.told(node, step);
+    let told = lab.made_by_step(node, step);
     let registers = registers_before(lab, node, step, &told, registers);
     if !misses(&told, registers, Part::Ram(cell)) {
         return None;
     }
-    let word = word_before(lab, node, step, Kept::Ram(cell), word);
+    let word = word_before(lab, node, step, TrackedPlace::Ram(cell), word);
     Some(Reached {
         step,
         registers,
@@ -157,7 +159,7 @@ pub struct CellWrites<'l> {
     lab: &'l Lab,
     node: NodeId,
     cell: u8,
-    trail: Trail<'l>,
+    trail: CachedWalk<'l>,
     reached: Reached,
 }
 
@@ -190,7 +192,7 @@ impl<'l> CellWrites<'l> {
             lab,
             node,
             cell,
-            trail: Trail::new(lab, node, walk),
+            trail: CachedWalk::new(lab, node, walk),
             reached: Reached {
                 step,
                 registers,
@@ -248,13 +250,13 @@ impl<'l> CellWrites<'l> {
             word,
         } = self.reached;
         let place = step - 1;
-        let told = lab.told(node, place);
+        let told = lab.made_by_step(node, place);
         self.trail.note(lab, node, step, registers);
         let flow = flow_by_trail(lab, &mut self.trail, node, place, Part::Ram(self.cell));
         self.reached = Reached {
             step: place,
             registers: self.trail.registers(lab, node, place),
-            word: word_before(lab, node, place, Kept::Ram(self.cell), word),
+            word: word_before(lab, node, place, TrackedPlace::Ram(self.cell), word),
         };
         if !is_written(&flow) {
             return None;

@@ -5,7 +5,7 @@ use Rattle.std.proofs.lemmas.Bool.{cases_eq, or_from}
 use Rattle.ga_event.specs.declared.event.Cause.{Cause}
 use Rattle.ga_causal.specs.Dependence.{event_at, no_cause}
 use Rattle.ga_lab.specs.Machine.{State, chip_of, told_by, causes_of, earlier}
-use Rattle.ga_race_detector.specs.declared.moments.Moment.{Moment}
+use Rattle.ga_race_detector.specs.declared.moments.StepCounts.{StepCounts}
 use Rattle.ga_race_detector.specs.inner.Glances.{IsMoment, AreMomentsFrom, AreMoments, no_moment, StoodSo, AllStood, IsAt, IsActAt}
 use Rattle.std.specs.Prelude.{map, unwrap_or, slice_index}
 use Rattle.std.proofs.Math.Seq.{take-append_seam, take-append-add}
@@ -20,19 +20,19 @@ use Rattle.ga_grid.proofs.NodeIds.{neighbour_of-other}
 use Rattle.ga_event.specs.declared.event.Event.{Event}
 use Rattle.ga_event.specs.declared.event.Event.TheVariants.{Own, Pass}
 use Rattle.ga_event.specs.Touches.{touches}
-use Rattle.ga_event.specs.Apply.{Told, after, replay}
+use Rattle.ga_event.specs.Apply.{EventOutcome, after, replay}
 use Rattle.ga_event.specs.Told.{steps_of}
 use Rattle.ga_races.specs.declared.act.EventAccess.{EventAccess}
 use Rattle.ga_races.specs.declared.act.Sides.{Sides}
-use Rattle.ga_races.specs.Orders.{CanBe}
+use Rattle.ga_races.specs.Orders.{IsEnabled}
 use Rattle.ga_races.specs.HappensBefore.{Action, no_action, action_of, actions, action_at, causes_in}
 use Rattle.ga_races.specs.Acts.{action_in, actions_in}
 use Rattle.ga_races.specs.inner.{changed_sides, HasChangedSides, AreAlike}
-use Rattle.ga_races.proofs.Frees.{first_of, replay_more, stays, touches_own, touches_writer, touches_reader}
+use Rattle.ga_races.proofs.Independence.{first_of, replay_more, stays, touches_own, touches_writer, touches_reader}
 use Rattle.ga_races.proofs.Exact.{replay_into}
 use Rattle.ga_races.proofs.Orders.{is_some_of}
 use Rattle.ga_races.proofs.Kahn.{begins}
-use Rattle.ga_races.proofs.Rivals.{open_of, number_of}
+use Rattle.ga_races.proofs.Conflicts.{open_of, number_of}
 use Rattle.ga_races.proofs.Before.{actions_length, causes_of_run}
 use Rattle.ga_races.proofs.Sweeps.{Split, split_at, action_there}
 use Rattle.ga_races.proofs.Shown.{act_changes}
@@ -41,10 +41,10 @@ use Rattle.ga_race_detector.proofs.Standing.{steps-cons}
 
 -- ---- the state before each event of the history
 
-pub moments_none : (s : State) (place : ℕ) (causes : List Cause) (moments : List Moment) → length moments ≤ place → AreMomentsFrom s place causes moments
+pub moments_none : (s : State) (place : ℕ) (causes : List Cause) (moments : List StepCounts) → length moments ≤ place → AreMomentsFrom s place causes moments
 moments_none s place causes moments past i from within = absurd (omega (arith, past, from, within))
 
-pub moments_next : (s : State) (place next : ℕ) (causes : List Cause) (moments : List Moment) (moment : Moment) → place ≤ next + 1 → next < length moments → IsMoment s next (event_at causes next) moment
+pub moments_next : (s : State) (place next : ℕ) (causes : List Cause) (moments : List StepCounts) (moment : StepCounts) → place ≤ next + 1 → next < length moments → IsMoment s next (event_at causes next) moment
     → AreMomentsFrom s place causes moments → AreMomentsFrom s next causes (set moments next moment)
 moments_next s place next causes moments moment up l is made i from within =
     let size : length (set moments next moment) ≡ length moments = length-set moments next moment in
@@ -54,13 +54,13 @@ moments_next s place next causes moments moment up l is made i from within =
       | inr ne ↦ subst (IsMoment s i (event_at causes i)) (sym (get_or-set_other moments next i moment no_moment ne)) (made i (omega (arith, from, ne, up)) (omega (arith, within, size)))
     ]
 
-pub moments_all : (s : State) (place : ℕ) (causes : List Cause) (moments : List Moment) → place ≤ 0 → length moments ≡ length causes → AreMomentsFrom s place causes moments → AreMoments s causes moments
+pub moments_all : (s : State) (place : ℕ) (causes : List Cause) (moments : List StepCounts) → place ≤ 0 → length moments ≡ length causes → AreMomentsFrom s place causes moments → AreMoments s causes moments
 moments_all s place causes moments low size made = record { size = size; each = λ i from within. made i (omega (arith, low)) within }
 
 -- ---- the event at a place
 
 pub record Made (s : State) (p : ℕ) (e : Event) : Type 0 where
-  pub can : CanBe (chip_of (earlier s p)) e
+  pub can : IsEnabled (chip_of (earlier s p)) e
   pub then : chip_of (earlier s (p + 1)) ≡ (after (chip_of (earlier s p)) e).0
   pub action : action_at (actions s.load s.kept) p ≡ action_of (chip_of (earlier s p)) e
   pub steps : (m : ℕ) → steps_of m (take (p + 1) s.kept) ≡ steps_of m (take p s.kept) + cond (touches e m) 1 0
@@ -80,7 +80,7 @@ made_split s mid y post last is led =
     let second : chip_of (earlier s (length mid + 1)) ≡ (after b.0 y).0 =
     chip_led s (mid ++ y ∷ []) (length mid + 1) (after b.0 y).0 more (replay_into mid (y ∷ []) s.load b.0 b.1 ∙ replay_more b.0 y [] f.can) in
     record {
-      can = subst (λ (z : List NodeRecord). CanBe z y) (sym first) f.can;
+      can = subst (λ (z : List NodeRecord). IsEnabled z y) (sym first) f.can;
       then = second ∙ ap (λ (z : List NodeRecord). (after z y).0) (sym first);
       action = ap (λ (z : List Event). action_at (actions s.load z) (length mid)) is ∙ action_there mid s.load b.0 y post b.1 ∙ ap (λ (z : List NodeRecord). action_of z y) (sym first);
       steps = λ m. ap (steps_of m) more ∙ sum_by-append (λ (z : Event). cond (touches z m) 1 0) mid (y ∷ []) ∙ ap₂ (λ (a b : ℕ). a + b) (ap (steps_of m) (sym front)) (steps-cons m y [] ∙ none m (cond (touches y m) 1 0));
@@ -92,7 +92,7 @@ made_split s mid y post last is led =
 pub causes_are : (s : State) (last : List NodeRecord) → replay s.load s.kept ≡ Some last → causes_in (actions s.load s.kept) ≡ causes_of s
 causes_are s last led =
     let r : Runs s = runs_of s (is_some_of (replay s.load s.kept) last led) in
-    causes_of_run s.kept s.load r.last r.told r.run_is ∙ sym (ap (λ (o : Option (List NodeRecord × List (Cause × Told))). map (λ (x : Cause × Told). x.0) (told_by o)) r.run_is)
+    causes_of_run s.kept s.load r.last r.told r.run_is ∙ sym (ap (λ (o : Option (List NodeRecord × List (Cause × EventOutcome))). map (λ (x : Cause × EventOutcome). x.0) (told_by o)) r.run_is)
 
 pub cause_there : (xs : List Action) (i : ℕ) → i < length xs → event_at (causes_in xs) i ≡ (action_at xs i).cause
 cause_there xs i l = get_or-map (λ (a : Action). a.cause) xs i no_action no_cause l

@@ -17,16 +17,16 @@ use Rattle.ga_event.specs.declared.event.Cause.{Cause}
 use Rattle.ga_event.specs.declared.made.Made.{Made}
 use Rattle.ga_event.specs.declared.made.Made.TheVariants as made
 use Rattle.ga_event.specs.Touches.{touches}
-use Rattle.ga_event.specs.Apply.{Told, apply, after, unless, refusal_of, cause_of, run, replay, Agree}
+use Rattle.ga_event.specs.Apply.{EventOutcome, apply, after, when_allowed, refusal_of, cause_of, run, replay, Agree}
 use Rattle.ga_event.specs.Told.{steps_of, made_after, mades_after, mades_of, events_in}
 use Rattle.ga_event.proofs.Locality.{Agree-sym}
-use Rattle.ga_causal.specs.Dependence.{cause_touches, rest, rest_from, place_of}
+use Rattle.ga_causal.specs.Dependence.{cause_touches, rest, rest_from, position_of_step}
 use Rattle.ga_causal.proofs.Runs.{kept, causes, FirstOf, first_of_run, keeps_of, replay-cons}
-use Rattle.ga_lab.specs.Machine.{State, chip_of, causes_of, history_of, told_by, earlier, rewound, stands}
+use Rattle.ga_lab.specs.Machine.{State, chip_of, causes_of, history_of, told_by, earlier, rewound, has_step}
 use Rattle.ga_lab.proofs.Called.{Runs, told_is, runs_some}
-use Rattle.ga_lab.proofs.Explaining.{stands_place}
+use Rattle.ga_lab.proofs.Explaining.{step_has_position}
 use Rattle.ga_lab.proofs.Reasoned.{replayed}
-use Rattle.ga_races.specs.Orders.{CanBe}
+use Rattle.ga_races.specs.Orders.{IsEnabled}
 use Rattle.ga_race_detector.proofs.Standing.{Ran, marked_ran, steps-cons, no_step}
 use Rattle.ga_lab.proofs.Stepping.{applied_after as after_of}
 
@@ -40,21 +40,21 @@ abbrev pub IsWordOf : List NodeRecord → Made → Type 0
 IsWordOf c (made.Own n k kind) = Unit {0}
 IsWordOf c (made.Pass w i r j word) = word ≡ t (record_at c w.number)
 
-can_of : (c d : List NodeRecord) (e : Event) (t : Told) → apply c e ≡ Some (d, t) → CanBe c e
+can_of : (c d : List NodeRecord) (e : Event) (t : EventOutcome) → apply c e ≡ Some (d, t) → IsEnabled c e
 can_of c d e t h = go (refusal_of c e) refl h
   where
-    go : (o : Option NotReady) → refusal_of c e ≡ o → unless o (after c e) ≡ Some (d, t) → refusal_of c e ≡ None
+    go : (o : Option NotReady) → refusal_of c e ≡ o → when_allowed o (after c e) ≡ Some (d, t) → refusal_of c e ≡ None
     go None is k = is
     go (Some why) is k = absurd (cc)
 
-told_of : (before : List Event) (c d : List NodeRecord) (e : Event) (t : Told) → apply c e ≡ Some (d, t) → (m : Made) × (made_after before e t ≡ Some m) × IsOf m e × IsWordOf c m
-told_of before c d (event.Own a) t h = (_, ap (λ (z : Told). made_after before (event.Own a) z) (sym (after_of c d (event.Own a) t h)), (a, refl), tt)
-told_of before c d (event.Pass w r side) t h = (_, ap (λ (z : Told). made_after before (event.Pass w r side) z) (sym (after_of c d (event.Pass w r side) t h)), (side, refl), refl)
+told_of : (before : List Event) (c d : List NodeRecord) (e : Event) (t : EventOutcome) → apply c e ≡ Some (d, t) → (m : Made) × (made_after before e t ≡ Some m) × IsOf m e × IsWordOf c m
+told_of before c d (event.Own a) t h = (_, ap (λ (z : EventOutcome). made_after before (event.Own a) z) (sym (after_of c d (event.Own a) t h)), (a, refl), tt)
+told_of before c d (event.Pass w r side) t h = (_, ap (λ (z : EventOutcome). made_after before (event.Pass w r side) z) (sym (after_of c d (event.Pass w r side) t h)), (side, refl), refl)
 
-pub record Behind (c : List NodeRecord) (es : List Event) (ts : List (Cause × Told)) (before : List Event) (n k i : ℕ) : Type 0 where
+pub record Behind (c : List NodeRecord) (es : List Event) (ts : List (Cause × EventOutcome)) (before : List Event) (n k i : ℕ) : Type 0 where
   pub event : Event
   pub mid : List NodeRecord
-  pub can : CanBe mid event
+  pub can : IsEnabled mid event
   pub touch : touches event n ≡ true
   pub made : Made
   pub told : slice_get (mades_after before ts n) k ≡ Some made
@@ -67,13 +67,13 @@ pub record Behind (c : List NodeRecord) (es : List Event) (ts : List (Cause × T
   pub same : record_at mid n ≡ record_at now n
 
 -- the first event as made, and those after it
-told_first : (before : List Event) (x : Cause × Told) (xs : List (Cause × Told)) (n : ℕ) (m : Made) → touches x.0.event n ≡ true → made_after before x.0.event x.1 ≡ Some m
+told_first : (before : List Event) (x : Cause × EventOutcome) (xs : List (Cause × EventOutcome)) (n : ℕ) (m : Made) → touches x.0.event n ≡ true → made_after before x.0.event x.1 ≡ Some m
     → mades_after before (x ∷ xs) n ≡ m ∷ mades_after (before ++ x.0.event ∷ []) xs n
 told_first before x xs n m touch is =
     ap (λ (b : Bool). cond b (option_to_list (made_after before x.0.event x.1)) [] ++ mades_after (before ++ x.0.event ∷ []) xs n) touch
     ∙ ap (λ (o : Option Made). option_to_list o ++ mades_after (before ++ x.0.event ∷ []) xs n) is
 
-told_later : (before : List Event) (x : Cause × Told) (xs : List (Cause × Told)) (n : ℕ) → touches x.0.event n ≡ false
+told_later : (before : List Event) (x : Cause × EventOutcome) (xs : List (Cause × EventOutcome)) (n : ℕ) → touches x.0.event n ≡ false
     → mades_after before (x ∷ xs) n ≡ mades_after (before ++ x.0.event ∷ []) xs n
 told_later before x xs n touch =
     ap (λ (b : Bool). cond b (option_to_list (made_after before x.0.event x.1)) [] ++ mades_after (before ++ x.0.event ∷ []) xs n) touch
@@ -90,7 +90,7 @@ not_zero k = go (suc k == 0) refl
     go false is = is
 
 -- one event more before
-more : (c d : List NodeRecord) (e : Event) (es : List Event) (t : Told) (ts : List (Cause × Told)) (before : List Event) (n k j i : ℕ) → apply c e ≡ Some (d, t)
+more : (c d : List NodeRecord) (e : Event) (es : List Event) (t : EventOutcome) (ts : List (Cause × EventOutcome)) (before : List Event) (n k j i : ℕ) → apply c e ≡ Some (d, t)
     → slice_get (mades_after before ((cause_of c e, t) ∷ ts) n) i ≡ slice_get (mades_after (before ++ e ∷ []) ts n) k
     → cond (touches e n) 1 0 + k ≡ i → Behind d es ts (before ++ e ∷ []) n k j → Behind c (e ∷ es) ((cause_of c e, t) ∷ ts) before n i (suc j)
 more c d e es t ts before n k j i h same adds b = record {
@@ -102,27 +102,27 @@ more c d e es t ts before n k j i h same adds b = record {
   told = same ∙ b.told;
   of = b.of;
   word = b.word;
-  begun = replay-cons c e (take j es) ∙ ap (λ (o : Option (List NodeRecord × Told)). option_and_then (λ first. replay first.0 (take j es)) o) h ∙ b.begun;
+  begun = replay-cons c e (take j es) ∙ ap (λ (o : Option (List NodeRecord × EventOutcome)). option_and_then (λ first. replay first.0 (take j es)) o) h ∙ b.begun;
   count = steps-cons n e (take j es) ∙ ap (λ (z : ℕ). cond {A = ℕ} (touches e n) 1 0 + z) b.count ∙ adds;
   now = b.now;
-  led = replay-cons c e (events_in (rest (causes ts) j)) ∙ ap (λ (o : Option (List NodeRecord × Told)). option_and_then (λ first. replay first.0 (events_in (rest (causes ts) j))) o) h ∙ b.led;
+  led = replay-cons c e (events_in (rest (causes ts) j)) ∙ ap (λ (o : Option (List NodeRecord × EventOutcome)). option_and_then (λ first. replay first.0 (events_in (rest (causes ts) j))) o) h ∙ b.led;
   same = b.same;
 }
 
-pub behind : (es : List Event) (c last : List NodeRecord) (ts : List (Cause × Told)) (before : List Event) (n k i : ℕ) → run c es ≡ Some (last, ts)
-    → place_of (causes ts) n (suc k) ≡ Some i → Behind c es ts before n k i
+pub behind : (es : List Event) (c last : List NodeRecord) (ts : List (Cause × EventOutcome)) (before : List Event) (n k i : ℕ) → run c es ≡ Some (last, ts)
+    → position_of_step (causes ts) n (suc k) ≡ Some i → Behind c es ts before n k i
 behind [] c last ts before n k i is at =
-    absurd (let q : ts ≡ [] = sym (ap (λ (z : List NodeRecord × List (Cause × Told)). z.1) (same_Some (c, []) (last, ts) is)) in
-    let w : None ≡ Some i = sym (ap (λ (z : List (Cause × Told)). place_of (causes z) n (suc k)) q) ∙ at in cc)
+    absurd (let q : ts ≡ [] = sym (ap (λ (z : List NodeRecord × List (Cause × EventOutcome)). z.1) (same_Some (c, []) (last, ts) is)) in
+    let w : None ≡ Some i = sym (ap (λ (z : List (Cause × EventOutcome)). position_of_step (causes z) n (suc k)) q) ∙ at in cc)
 behind (e ∷ es) c last ts before n k i is at =
     let f = first_of_run c e es last ts is in
-    subst (λ (z : List (Cause × Told)). Behind c (e ∷ es) z before n k i) (sym f.all)
-    (go f (touches e n) refl k (ap (λ (z : List (Cause × Told)). place_of (causes z) n (suc k)) (sym f.all) ∙ at)
+    subst (λ (z : List (Cause × EventOutcome)). Behind c (e ∷ es) z before n k i) (sym f.all)
+    (go f (touches e n) refl k (ap (λ (z : List (Cause × EventOutcome)). position_of_step (causes z) n (suc k)) (sym f.all) ∙ at)
     (λ k j at. behind es f.mid last f.others (before ++ e ∷ []) n k j f.then at))
   where
     go : (f : FirstOf c e es last ts) (b : Bool) → touches e n ≡ b → (k : ℕ)
-        → cond b (cond (k == 0) (Some 0) (option_map suc (place_of (causes f.others) n k))) (option_map suc (place_of (causes f.others) n (suc k))) ≡ Some i
-        → ((k j : ℕ) → place_of (causes f.others) n (suc k) ≡ Some j → Behind f.mid es f.others (before ++ e ∷ []) n k j)
+        → cond b (cond (k == 0) (Some 0) (option_map suc (position_of_step (causes f.others) n k))) (option_map suc (position_of_step (causes f.others) n (suc k))) ≡ Some i
+        → ((k j : ℕ) → position_of_step (causes f.others) n (suc k) ≡ Some j → Behind f.mid es f.others (before ++ e ∷ []) n k j)
         → Behind c (e ∷ es) ((cause_of c e, f.told) ∷ f.others) before n k i
     go f true touch zero at again =
         let ag : Agree (cause_touches (cause_of c e)) f.mid c = Agree-sym (cause_touches (cause_of c e)) c f.mid (keeps_of c e f.mid f.told f.first) in
@@ -145,14 +145,14 @@ behind (e ∷ es) c last ts before n k i is at =
           same = r.same;
         })
     go f true touch (suc k) at again =
-        let j = some_suc (place_of (causes f.others) n (suc k)) i
-        (sym (ap (λ (b : Bool). cond {A = Option ℕ} b (Some 0) (option_map suc (place_of (causes f.others) n (suc k)))) (not_zero k)) ∙ at) in
+        let j = some_suc (position_of_step (causes f.others) n (suc k)) i
+        (sym (ap (λ (b : Bool). cond {A = Option ℕ} b (Some 0) (option_map suc (position_of_step (causes f.others) n (suc k)))) (not_zero k)) ∙ at) in
         let m = told_of before c f.mid e f.told f.first in
         subst (λ (z : ℕ). Behind c (e ∷ es) ((cause_of c e, f.told) ∷ f.others) before n (suc k) z) (sym j.2)
         (more c f.mid e es f.told f.others before n k j.0 (suc k) f.first
         (ap (λ (z : List Made). slice_get z (suc k)) (told_first before (cause_of c e, f.told) f.others n m.0 touch m.1)) (ap (λ (b : Bool). cond {A = ℕ} b 1 0 + k) touch ∙ (let q : 1 + k ≡ suc k = omega arith in q)) (again k j.0 j.1))
     go f false touch k at again =
-        let j = some_suc (place_of (causes f.others) n (suc k)) i at in
+        let j = some_suc (position_of_step (causes f.others) n (suc k)) i at in
         subst (λ (z : ℕ). Behind c (e ∷ es) ((cause_of c e, f.told) ∷ f.others) before n k z) (sym j.2)
         (more c f.mid e es f.told f.others before n k j.0 k f.first
         (ap (λ (z : List Made). slice_get z k) (told_later before (cause_of c e, f.told) f.others n touch)) (no_step (touches e n) k k touch refl) (again k j.0 j.1))
@@ -163,10 +163,10 @@ found : (o : Option ℕ) → is_some o ≡ true → (i : ℕ) × (o ≡ Some i)
 found None h = absurd (cc)
 found (Some i) h = (i, refl)
 
-pub stands_within : (s : State) (n k : ℕ) → 0 < k → k ≤ steps_of n s.kept → stands s n k ≡ true
+pub stands_within : (s : State) (n k : ℕ) → 0 < k → k ≤ steps_of n s.kept → has_step s n k ≡ true
 stands_within s n k first within = ap (λ (b : Bool). b && leb k (steps_of n s.kept)) (le-leb 1 k first) ∙ le-leb k (steps_of n s.kept) within
 
-pub stands_many : (s : State) (n k : ℕ) → stands s n k ≡ true → k ≤ steps_of n s.kept
+pub stands_many : (s : State) (n k : ℕ) → has_step s n k ≡ true → k ≤ steps_of n s.kept
 stands_many s n k on = leb-true k (steps_of n s.kept) ((and_parts (leb 1 k) (leb k (steps_of n s.kept)) on).1)
 
 pub chip_at : (o : Option (List NodeRecord)) (c : List NodeRecord) → o ≡ Some c → unwrap_or o [] ≡ c
@@ -175,7 +175,7 @@ chip_at o c h = ap (λ (z : Option (List NodeRecord)). unwrap_or z []) h
 pub record TakenBack (s : State) (n p : ℕ) : Type 0 where
   pub event : Event
   pub mid : List NodeRecord
-  pub can : CanBe mid event
+  pub can : IsEnabled mid event
   pub touch : touches event n ≡ true
   pub made : Made
   pub told : slice_get (history_of s n) p ≡ Some made
@@ -193,7 +193,7 @@ taken_back s runs n p within = record {
   can = b.can;
   touch = b.touch;
   made = b.made;
-  told = ap (λ (z : List (Cause × Told)). slice_get (mades_of z n) p) (told_is s runs) ∙ b.told;
+  told = ap (λ (z : List (Cause × EventOutcome)). slice_get (mades_of z n) p) (told_is s runs) ∙ b.told;
   of = b.of;
   word = b.word;
   same = b.same ∙ sym (ap (λ z. record_at z n) (chip_at (replay s.load (rewound s n (suc p)).kept) b.now led));
@@ -205,11 +205,11 @@ taken_back s runs n p within = record {
     told_all : causes_of s ≡ causes runs.told
     told_all = ap (λ o. causes (told_by o)) runs.run_is
 
-    there : (i : ℕ) × (place_of (causes_of s) n (suc p) ≡ Some i)
-    there = found (place_of (causes_of s) n (suc p)) (stands_place s n (suc p) (replayed s (runs_some s runs)) ∙ stands_within s n (suc p) (omega arith) (omega (arith, within)))
+    there : (i : ℕ) × (position_of_step (causes_of s) n (suc p) ≡ Some i)
+    there = found (position_of_step (causes_of s) n (suc p)) (step_has_position s n (suc p) (replayed s (runs_some s runs)) ∙ stands_within s n (suc p) (omega arith) (omega (arith, within)))
 
     b : Behind s.load s.kept runs.told [] n p there.0
-    b = behind s.kept s.load runs.last runs.told [] n p there.0 runs.run_is (ap (λ z. place_of z n (suc p)) (sym told_all) ∙ there.1)
+    b = behind s.kept s.load runs.last runs.told [] n p there.0 runs.run_is (ap (λ z. position_of_step z n (suc p)) (sym told_all) ∙ there.1)
 
     led : replay s.load (rewound s n (suc p)).kept ≡ Some b.now
     led = ap (λ (o : Option ℕ). replay s.load (events_in (rest_from (causes_of s) o))) there.1 ∙ ap (λ z. replay s.load (events_in (rest z there.0))) told_all ∙ b.led

@@ -8,14 +8,14 @@ use Rattle.ga_ports.specs.declared.side.Side.TheVariants.{Right, Down, Left, Up}
 use Rattle.ga_grid.specs.Grid.{neighbour_of}
 use Rattle.ga_event.specs.declared.event.Cause.{Cause}
 use Rattle.ga_event.specs.Touches.{with_some, neighbours, seen_by, meets}
-use Rattle.ga_causal.specs.Dependence.{cause_touches, rest_from, place_of, rewound_list}
+use Rattle.ga_causal.specs.Dependence.{cause_touches, rest_from, position_of_step, rewound_list}
 use Rattle.ga_causal.specs.Steps.{touching}
 use Rattle.ga_causal.proofs.Runs.{kept}
-use Rattle.ga_causal.proofs.Accounts.{place-first, place-touched, place-other}
+use Rattle.ga_causal.proofs.LocalHistories.{place-first, place-touched, place-other}
 use Rattle.ga_causal.proofs.Places.{touching-cons, touching_no}
 use Rattle.ga_races.proofs.Blind.{no_touch}
 use Rattle.ga_race_detector.specs.inner.Writers.{greatest, greater_with, depth, AreLeft, IsFilled, IsTaken}
-use Rattle.ga_race_detector.specs.declared.left.LeftOf.{LeftOf}
+use Rattle.ga_race_detector.specs.declared.left.StepsLeft.{StepsLeft}
 
 -- ---- the greatest of some nodes
 
@@ -214,7 +214,7 @@ one_more r m k known next made e es own most is = elim (cases_lt k made) [ inl l
         past t l =
             let q : then ≡ made + 1 = one_step e r made t in
             ap (touching m) (remaining_later r k known made (e ∷ es) g ∙ ap (λ (z : ℕ). rewound_list (e ∷ es) r (suc z)) (let u : k - made ≡ suc (k - then) = omega (arith, q, l) in u)
-            ∙ ap (rest_from (e ∷ es)) (place-touched e es r (k - then) t) ∙ rest_later e es (place_of es r (suc (k - then))))
+            ∙ ap (rest_from (e ∷ es)) (place-touched e es r (k - then) t) ∙ rest_later e es (position_of_step es r (suc (k - then))))
             ∙ stays m (nat_lt k d) e (rewound_list es r (suc (k - then))) (touching m (remaining r k next then es))
             (ap (nat_lt k) (depth_own known r made e t) ∙ le-ltb k (made + 1) (omega (arith, l)))
             (ap (touching m) (sym (remaining_later r k next then es (omega (arith, q, l)))))
@@ -223,7 +223,7 @@ one_more r m k known next made e es own most is = elim (cases_lt k made) [ inl l
         other : cause_touches e r ≡ false → touching m (remaining r k known made (e ∷ es)) ≡ more (nat_lt k d) e m + touching m (remaining r k next then es)
         other f =
             let q : then ≡ made = no_step e r made f in
-            ap (touching m) (remaining_later r k known made (e ∷ es) g ∙ ap (rest_from (e ∷ es)) (place-other e es r (k - made) f) ∙ rest_later e es (place_of es r (suc (k - made))))
+            ap (touching m) (remaining_later r k known made (e ∷ es) g ∙ ap (rest_from (e ∷ es)) (place-other e es r (k - made) f) ∙ rest_later e es (position_of_step es r (suc (k - made))))
             ∙ stays m (nat_lt k d) e (rewound_list es r (suc (k - made))) (touching m (remaining r k next then es))
             (ap (nat_lt k) (depth_other known r made e f) ∙ le-ltb k (greatest known (seen_by e)) (let u = greatest_most known made (seen_by e) most in omega (arith, u, g)))
             (ap (touching m) (ap (λ (z : ℕ). rewound_list es r (suc (k - z))) (sym q) ∙ sym (remaining_later r k next then es (omega (arith, q, g)))))
@@ -356,7 +356,7 @@ going_more all r m known next made count then more_count left filled e es g is f
             either false = refl
 
 -- as one more event is taken in
-pub going_taken : (all : List Cause) (r m : ℕ) (known next : ℕ → ℕ) (made then : ℕ) (old new : LeftOf) (e : Cause) (es : List Cause) → old.node.number ≡ m
+pub going_taken : (all : List Cause) (r m : ℕ) (known next : ℕ → ℕ) (made then : ℕ) (old new : StepsLeft) (e : Cause) (es : List Cause) → old.node.number ≡ m
     → IsGoing all r m known made old.count old.list.items (e ∷ es) → IsBehindOne known next r made e → IsTaken old new e (depth known r made e)
     → then ≡ made + cond (cause_touches e r) 1 0 → IsGoing all r m next then new.count new.list.items es
 going_taken all r m known next made then old new e es of g is taken steps =

@@ -21,15 +21,15 @@ use Rattle.ga_event.specs.Touches.{touches}
 use Rattle.ga_event.specs.Apply.{replay, cause_of}
 use Rattle.ga_causal.specs.Dependence.{cause_touches, event_at}
 use Rattle.ga_races.specs.HappensBefore.{Action, actions, are_linked}
-use Rattle.ga_races.specs.declared.near.Near.{Near}
-use Rattle.ga_races.proofs.Frees.{touches_own, touches_writer, touches_reader}
+use Rattle.ga_races.specs.declared.racing_pairs.RacingPair.{RacingPair}
+use Rattle.ga_races.proofs.Independence.{touches_own, touches_writer, touches_reader}
 use Rattle.ga_races.proofs.Before.{actions_length}
 use Rattle.ga_lab.specs.Machine.{State, chip_of, causes_of, earlier, rewound}
 use Rattle.ga_race_detector.specs.Races.{looks_next}
 use Rattle.ga_race_detector.specs.Readings.{IsOtherwise}
 use Rattle.ga_race_detector.specs.inner.Glances.{IsMoment, AreMoments, first_part, last_part, no_moment, part_beside, IsGlance, IsGlanced, IsOtherWord, HasStep}
-use Rattle.ga_race_detector.specs.declared.moments.Moment.{Moment}
-use Rattle.ga_race_detector.specs.declared.glances.Glance.{Glance}
+use Rattle.ga_race_detector.specs.declared.moments.StepCounts.{StepCounts}
+use Rattle.ga_race_detector.specs.declared.look_changes.LookChange.{LookChange}
 use Rattle.ga_race_detector.proofs.Acting.{Made, made_at, cause_at, cause_there, causes_are, causes_long}
 use Rattle.ga_race_detector.proofs.NearReadings.{kept_caused}
 use Rattle.ga_race_detector.proofs.Posted.{stood_alike}
@@ -49,7 +49,7 @@ steps_at causes kept place m is =
 some_led : (s : State) (last : List NodeRecord) → replay s.load s.kept ≡ Some last → IsSome (replay s.load s.kept)
 some_led s last led = ap is_some led
 
-moment_is : (s : State) (causes : List Cause) (moments : List Moment) (p : ℕ) (e : Cause) (at : Moment) → AreMoments s causes moments → p < length causes → e ≡ get_or causes p e → at ≡ get_or moments p no_moment → IsMoment s p e at
+moment_is : (s : State) (causes : List Cause) (moments : List StepCounts) (p : ℕ) (e : Cause) (at : StepCounts) → AreMoments s causes moments → p < length causes → e ≡ get_or causes p e → at ≡ get_or moments p no_moment → IsMoment s p e at
 moment_is s causes moments p e at known l is told =
     let size : length moments ≡ length causes = known.size in
     subst (λ (z : Cause). IsMoment s p z at) (sym (cause_at causes p e l is))
@@ -63,7 +63,7 @@ pub beside_last : {e : Event} {w r : NodeId} {side : Side} (n : ℕ) → e ≡ P
 beside_last {w} {r} n is off = ap last_part is ∙ sym (ap (λ (b : Bool). cond {A = NodeId} b w r) off) ∙ sym (ap (λ (z : Event). part_beside z n) is)
 
 -- as the code reads them
-pub glanced : (s : State) (last : List NodeRecord) (causes : List Cause) (moments : List Moment) (near : Near) (e f : Cause) (at by : Moment) (node neighbour : NodeId) (before : ℕ)
+pub glanced : (s : State) (last : List NodeRecord) (causes : List Cause) (moments : List StepCounts) (near : RacingPair) (e f : Cause) (at by : StepCounts) (node neighbour : NodeId) (before : ℕ)
     → replay s.load s.kept ≡ Some last → causes ≡ causes_of s → AreMoments s causes moments → near.look < length causes → near.change < length causes
     → e ≡ get_or causes near.look e → f ≡ get_or causes near.change f → at ≡ get_or moments near.look no_moment → by ≡ get_or moments near.change no_moment
     → e ≡ record { event = Own node; look = true } → neighbour ≡ part_beside f.event node.number
@@ -104,7 +104,7 @@ part_touched (Pass w r side) n = elim (cases_Bool (are_linked n w.number)) [
 ]
 
 -- the removed step is one of the list
-pub has_step : (s : State) (last : List NodeRecord) (near : Near) (glance : Glance) → replay s.load s.kept ≡ Some last → IsGlance s near glance → HasStep (causes_of s) glance
+pub has_step : (s : State) (last : List NodeRecord) (near : RacingPair) (glance : LookChange) → replay s.load s.kept ≡ Some last → IsGlance s near glance → HasStep (causes_of s) glance
 has_step s last near glance led g = (let one = go glance.early in record { first = one.first; within = one.within })
   where
     es : List Cause
@@ -127,7 +127,7 @@ has_step s last near glance led g = (let one = go glance.early in record { first
     go false = record { first = (let q : glance.change ≡ touching glance.neighbour.number (take near.change es) + 1 = g.change in omega (arith, q)); within = within glance.neighbour.number glance.change near.change g.change_at change_touched g.change }
 
 -- the look comes next if as many steps of its node are left as came before it
-pub looks_again : (s : State) (last : List NodeRecord) (near : Near) (glance : Glance) (b k : ℕ) → replay s.load s.kept ≡ Some last → IsGlance s near glance
+pub looks_again : (s : State) (last : List NodeRecord) (near : RacingPair) (glance : LookChange) (b k : ℕ) → replay s.load s.kept ≡ Some last → IsGlance s near glance
     → steps_of glance.node.number (rewound s b k).kept + 1 ≡ glance.step → looks_next (chip_of (rewound s b k)) glance.node.number ≡ true
 looks_again s last near glance b k led g one =
     subst (λ (z : NodeRecord). (is_none (refusal z) && looks z) ≡ true) (sym (a.same ∙ stood_alike s last n a.place near.look led count)) here
@@ -168,7 +168,7 @@ looks_again s last near glance b k led g one =
     here = ap (λ (z : Option NotReady). is_none z && looks (record_at before n)) made.can ∙ look
 
 -- a look that reads another word is a reading
-pub otherwise : (s : State) (near : Near) (glance : Glance) (word : ℕ) → IsGlance s near glance → IsOtherWord s glance word → word ≢ glance.word
+pub otherwise : (s : State) (near : RacingPair) (glance : LookChange) (word : ℕ) → IsGlance s near glance → IsOtherWord s glance word → word ≢ glance.word
     → IsOtherwise s (record { node = glance.node; step = glance.step; word = glance.word; neighbour = glance.neighbour; change = glance.change; early = glance.early; other = word })
 otherwise s near glance word g o ne = record {
   place = near.look;
@@ -181,11 +181,11 @@ otherwise s near glance word g o ne = record {
   differ = ne;
 }
 
-pub not_shown : (o : Option Glance) → o ≡ None → IsSome o → ⊥
+pub not_shown : (o : Option LookChange) → o ≡ None → IsSome o → ⊥
 not_shown None h k = true≢false (sym k)
 not_shown (Some x) h k = absurd (cc)
 
 -- each of these is in the list
-pub all_steps : (s : State) (causes : List Cause) (only : Option NodeId) (glances : List Glance) → replay s.load s.kept ≡ Some (chip_of s) → causes ≡ causes_of s → All (IsGlanced s only) glances → All (HasStep causes) glances
+pub all_steps : (s : State) (causes : List Cause) (only : Option NodeId) (glances : List LookChange) → replay s.load s.kept ≡ Some (chip_of s) → causes ≡ causes_of s → All (IsGlanced s only) glances → All (HasStep causes) glances
 all_steps s causes only glances led all glanced =
     All-weaker (IsGlanced s only) (HasStep causes) (λ glance g. subst (λ (z : List Cause). HasStep z glance) (sym all) (has_step s (chip_of s) g.0.0 glance led g.0.1)) glances glanced

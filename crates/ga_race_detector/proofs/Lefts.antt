@@ -18,13 +18,13 @@ use Rattle.ga_lab.specs.declared.fault.LabFault.{LabFault}
 use Rattle.ga_race_detector.specs.inner.Writers.{AreLeft, IsFilled, depth, IsTaken}
 use Rattle.ga_race_detector.specs.inner.Glances.{IsAround, AreAround, AreFirst, AreTaken, AreFew, around_over, lists_over, sweep_over, taken_of, HangTogether, IsAroundOf, AreKnown}
 use Rattle.ga_race_detector.specs.declared.around.Around.{Around}
-use Rattle.ga_race_detector.specs.declared.around.LeftAround.{LeftAround}
+use Rattle.ga_race_detector.specs.declared.around.StepsLeftNearby.{StepsLeftNearby}
 use Rattle.ga_race_detector.specs.declared.around.Sweep.{Sweep}
 use Rattle.ga_race_detector.proofs.Depths.{IsGoing, IsBehindOne, going_taken, going_last, going_first}
-use Rattle.ga_race_detector.specs.declared.glances.Glance.{Glance}
+use Rattle.ga_race_detector.specs.declared.look_changes.LookChange.{LookChange}
 use Rattle.std.proofs.lemmas.List.Sums.{sum_by-append}
 use Rattle.ga_causal.proofs.Places.{touching-cons}
-use Rattle.ga_race_detector.specs.declared.left.LeftOf.{LeftOf}
+use Rattle.ga_race_detector.specs.declared.left.StepsLeft.{StepsLeft}
 
 -- ---- as the code reads the list
 
@@ -45,7 +45,7 @@ going_end all r m known made count i left filled past g counted fill =
     going_last all r m known made count left filled (subst (IsGoing all r m known made count left) (drop_all i all past) g) (counted ∙ ap (touching r) (take_all i all past)) fill
 
 -- where no event came yet
-pub going_none : (all : List Cause) (r m : ℕ) (known : ℕ → ℕ) (left : LeftOf) → ((n : ℕ) → known n ≡ 0) → left.count ≡ 0 → left.list.items ≡ [] → IsGoing all r m known 0 left.count left.list.items all
+pub going_none : (all : List Cause) (r m : ℕ) (known : ℕ → ℕ) (left : StepsLeft) → ((n : ℕ) → known n ≡ 0) → left.count ≡ 0 → left.list.items ≡ [] → IsGoing all r m known 0 left.count left.list.items all
 going_none all r m known left none count list =
     subst (λ (z : ℕ). IsGoing all r m known 0 z left.list.items all) (sym count)
     (subst (λ (z : List ℕ). IsGoing all r m known 0 0 z all) (sym list) (going_first all r m known none))
@@ -59,7 +59,7 @@ if_ok (Ok x) f h = f x h
 if_ok (Err e) f h = h
 
 -- an event that isn't one of its steps is passed by
-pub passed_by : (left : LeftOf) (e : Cause) (d : ℕ) → cause_touches e left.node.number ≡ false → IsTaken left left e d
+pub passed_by : (left : StepsLeft) (e : Cause) (d : ℕ) → cause_touches e left.node.number ≡ false → IsTaken left left e d
 passed_by left e d off = record {
   node = refl;
   count = (let q : left.count ≡ left.count + 0 = omega arith in q) ∙ ap (λ (b : Bool). left.count + cond {A = ℕ} b 1 0) (sym off);
@@ -67,7 +67,7 @@ passed_by left e d off = record {
       (record { size = omega arith; same = λ k l. refl; more = λ k l m. absurd (omega (arith, l, m)) });
 }
 
-pub taken_by : (old new : LeftOf) (e : Cause) (d : ℕ) → cause_touches e old.node.number ≡ true → new.node ≡ old.node → new.count ≡ old.count + 1 → IsFilled old.list.items new.list.items d old.count → IsTaken old new e d
+pub taken_by : (old new : StepsLeft) (e : Cause) (d : ℕ) → cause_touches e old.node.number ≡ true → new.node ≡ old.node → new.count ≡ old.count + 1 → IsFilled old.list.items new.list.items d old.count → IsTaken old new e d
 taken_by old new e d on node count filled = record {
   node = node;
   count = count ∙ ap (λ (b : Bool). old.count + cond {A = ℕ} b 1 0) (sym on);
@@ -87,30 +87,30 @@ by_sides P right down left up Down = down
 by_sides P right down left up Left = left
 by_sides P right down left up Up = up
 
-pub around_at : (causes : List Cause) (b n step : ℕ) (lists : LeftAround) (around : Around) → AreAround causes b n lists → 0 < step → step ≤ touching b causes → around.node ≡ slice_index lists.node.items (step - 1)
+pub around_at : (causes : List Cause) (b n step : ℕ) (lists : StepsLeftNearby) (around : Around) → AreAround causes b n lists → 0 < step → step ≤ touching b causes → around.node ≡ slice_index lists.node.items (step - 1)
     → ((side : Side) → around_over around side ≡ slice_index (lists_over lists side) (step - 1)) → IsAround causes b step n around
 around_at causes b n step lists around a first within node beside = record {
   node = left_at causes b n step around.node lists.node.items a.node first within node;
   beside = λ side m h. left_at causes b m step (around_over around side) (lists_over lists side) (a.beside side m h) first within (beside side);
 }
 
-pub hang_around : (causes : List Cause) (one other : Glance) (lists : LeftAround) → HangTogether one other → AreAround causes (taken_of other).0.number other.node.number lists → AreAround causes (taken_of one).0.number one.node.number lists
+pub hang_around : (causes : List Cause) (one other : LookChange) (lists : StepsLeftNearby) → HangTogether one other → AreAround causes (taken_of other).0.number other.node.number lists → AreAround causes (taken_of one).0.number one.node.number lists
 hang_around causes one other lists h a =
     subst (λ (z : ℕ). AreAround causes z one.node.number lists) (sym h.taken) (subst (λ (z : ℕ). AreAround causes (taken_of other).0.number z lists) (sym h.node) a)
 
-pub known_none : (causes : List Cause) (glances : List Glance) (known : List (Option Around)) → All (λ (a : Option Around). a ≡ None) known → AreKnown causes glances known
+pub known_none : (causes : List Cause) (glances : List LookChange) (known : List (Option Around)) → All (λ (a : Option Around). a ≡ None) known → AreKnown causes glances known
 known_none causes glances known none i glance around is told = elim (cases_lt i (length known)) [
   | inl l ↦ absurd (let q : get_or known i None ≡ None = All-get_or (λ (a : Option Around). a ≡ None) known i None l none in cc)
   | inr past ↦ absurd (let q : get_or known i None ≡ None = get_or-eq_default known None past in cc)
 ]
 
-pub known_next : (causes : List Cause) (glances : List Glance) (known : List (Option Around)) (at : ℕ) (one : Glance) (around : Around) → at < length known → at < length glances → one ≡ get_or glances at one
+pub known_next : (causes : List Cause) (glances : List LookChange) (known : List (Option Around)) (at : ℕ) (one : LookChange) (around : Around) → at < length known → at < length glances → one ≡ get_or glances at one
     → IsAroundOf causes one around → AreKnown causes glances known → AreKnown causes glances (set known at (Some around))
 known_next causes glances known at one around l m here right before i glance other is told = elim (cases_eq i at) [
   | inl q ↦ (
       let same : around ≡ other = same_Some around other (sym (get_or-set_same known at (Some around) None l) ∙ ap (λ (z : ℕ). get_or (set known at (Some around)) z None) (sym q) ∙ told) in
       let there : one ≡ glance = here ∙ get_or_default glances at one glance m ∙ ap (λ (z : ℕ). get_or glances z glance) (sym q) ∙ sym is in
-      subst (λ (z : Glance). IsAroundOf causes z other) there (subst (IsAroundOf causes one) same right))
+      subst (λ (z : LookChange). IsAroundOf causes z other) there (subst (IsAroundOf causes one) same right))
   | inr ne ↦ before i glance other is (sym (get_or-set_other known at i (Some around) None ne) ∙ told)
 ]
 
@@ -166,7 +166,7 @@ are_taken all b n known next made then old new e es g is taken steps = record {
   beside = λ side m h. going_taken all b m known next made then (sweep_over old side) (sweep_over new side) e es (g.nodes side m h) (g.beside side m h) is (taken.beside side) steps;
 }
 
-pub are_ended : (all : List Cause) (b n : ℕ) (known : ℕ → ℕ) (made i : ℕ) (sweep : Sweep) (r : Result LeftAround LabFault) → length all ≤ i → AreGoing all b n known made sweep (drop i all) → made ≡ touching b (take i all)
+pub are_ended : (all : List Cause) (b n : ℕ) (known : ℕ → ℕ) (made i : ℕ) (sweep : Sweep) (r : Result StepsLeftNearby LabFault) → length all ≤ i → AreGoing all b n known made sweep (drop i all) → made ≡ touching b (take i all)
     → IfOk r (λ lists. IsFilled sweep.here.list.items lists.node.items made sweep.here.count)
     → IfOk r (λ lists. (side : Side) → IsFilled (sweep_over sweep side).list.items (lists_over lists side) made (sweep_over sweep side).count)
     → IfOk r (λ lists. AreAround all b n lists)

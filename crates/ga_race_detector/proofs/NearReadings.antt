@@ -15,28 +15,28 @@ use Rattle.ga_event.specs.declared.event.Event.{Event}
 use Rattle.ga_event.specs.declared.event.Event.TheVariants.{Own, Pass}
 use Rattle.ga_event.specs.declared.event.Cause.{Cause}
 use Rattle.ga_event.specs.Touches.{touches}
-use Rattle.ga_event.specs.Apply.{is_number, seen_from, replay}
+use Rattle.ga_event.specs.Apply.{is_number, neighbour_states, replay}
 use Rattle.ga_event.specs.Told.{steps_of, events_in}
-use Rattle.ga_causal.specs.Dependence.{event_at, place_of}
+use Rattle.ga_causal.specs.Dependence.{event_at, position_of_step}
 use Rattle.ga_causal.specs.Steps.{touching, IsStep}
 use Rattle.ga_causal.proofs.Places.{touching_before, touching_in}
-use Rattle.ga_races.specs.Orders.{CanBe}
+use Rattle.ga_races.specs.Orders.{IsEnabled}
 use Rattle.ga_races.specs.declared.act.EventAccess.{EventAccess}
-use Rattle.ga_races.specs.declared.near.Near.{Near}
-use Rattle.ga_races.specs.HappensBefore.{action_at, actions, AreNear, are_linked}
+use Rattle.ga_races.specs.declared.racing_pairs.RacingPair.{RacingPair}
+use Rattle.ga_races.specs.HappensBefore.{action_at, actions, AreRacing, are_linked}
 use Rattle.ga_races.specs.Acts.{action_in, actions_in, is_own_of, IsNearLook}
 use Rattle.ga_races.specs.inner.{AreAlike}
-use Rattle.ga_races.proofs.Rivals.{alike-sym, near_alike, open_of, number_of, at_node, at_two}
-use Rattle.ga_lab.specs.Machine.{State, chip_of, causes_of, rest_answer, rewind_answer, earlier, rewound, stands}
+use Rattle.ga_races.proofs.Conflicts.{alike-sym, near_alike, open_of, number_of, at_node, at_two}
+use Rattle.ga_lab.specs.Machine.{State, chip_of, causes_of, rest_answer, rewind_answer, earlier, rewound, has_step}
 use Rattle.ga_lab.specs.declared.fault.LabFault.{LabFault}
 use Rattle.ga_lab.proofs.Called.{Runs, runs_of, causes_is, events_run}
-use Rattle.ga_lab.proofs.Explaining.{stands_place}
+use Rattle.ga_lab.proofs.Explaining.{step_has_position}
 use Rattle.ga_lab.proofs.Reasoned.{replayed}
 use Rattle.ga_race_detector.specs.Races.{looks_next, has_look}
 use Rattle.ga_race_detector.specs.Readings.{back_of, IsOtherwise, IsNearReading, IsTold}
 use Rattle.ga_race_detector.specs.inner.Glances.{part_beside, IsAtNear, IsGlance, AreGlanced, IsShownBy, AreRead}
-use Rattle.ga_race_detector.specs.declared.readings.Reading.{Reading}
-use Rattle.ga_race_detector.specs.declared.glances.Glance.{Glance}
+use Rattle.ga_race_detector.specs.declared.readings.LookRace.{LookRace}
+use Rattle.ga_race_detector.specs.declared.look_changes.LookChange.{LookChange}
 use Rattle.ga_race_detector.proofs.Acting.{Made, made_at, causes_long, causes_are, cause_there}
 use Rattle.ga_race_detector.proofs.Behind.{stands_within}
 
@@ -53,7 +53,7 @@ one_place es n k p q a b = elim (cases_lt p q) [
 ]
 
 -- and exists
-step_stands : (s : State) (n k p : ℕ) → events_in (causes_of s) ≡ s.kept → IsStep (causes_of s) n k p → stands s n k ≡ true
+step_stands : (s : State) (n k p : ℕ) → events_in (causes_of s) ≡ s.kept → IsStep (causes_of s) n k p → has_step s n k ≡ true
 step_stands s n k p caused a =
     let es = causes_of s in
     let l : p < length es = a.within in
@@ -62,8 +62,8 @@ step_stands s n k p caused a =
     let all : touching n (take (length es) es) ≡ steps_of n s.kept = ap (touching n) (take_all (length es) es (omega arith)) ∙ touching_in n es ∙ ap (steps_of n) caused in
     stands_within s n k (omega (arith, x)) (omega (arith, x, u, all))
 
-pub answered : (s : State) (n k : ℕ) (why : LabFault) → IsSome (replay s.load s.kept) → stands s n k ≡ true → rewind_answer s n k ≡ Err why → ⊥
-answered s n k why some on = go (place_of (causes_of s) n k) (stands_place s n k (replayed s some) ∙ on)
+pub answered : (s : State) (n k : ℕ) (why : LabFault) → IsSome (replay s.load s.kept) → has_step s n k ≡ true → rewind_answer s n k ≡ Err why → ⊥
+answered s n k why some on = go (position_of_step (causes_of s) n k) (step_has_position s n k (replayed s some) ∙ on)
   where
     go : (o : Option ℕ) → is_some o ≡ true → rest_answer (causes_of s) o ≡ Err why → ⊥
     go None is h = true≢false (sym is)
@@ -119,7 +119,7 @@ linked_over n m t = elim (or_cases (is_number (neighbour_of n Right) m) (is_numb
 ]
 
 -- of two linked nodes only one is a neighbour of a third
-the_part : (c : List NodeRecord) (e : Event) (n m : NodeId) (side : Side) → CanBe c e → touches e m.number ≡ true → neighbour_of n.number side ≡ Some m.number → part_beside e n.number ≡ m
+the_part : (c : List NodeRecord) (e : Event) (n m : NodeId) (side : Side) → IsEnabled c e → touches e m.number ≡ true → neighbour_of n.number side ≡ Some m.number → part_beside e n.number ≡ m
 the_part c (Own a) n m side can touch beside = NodeId-same a m (at_node a.number m.number touch)
 the_part c (Pass w r s) n m side can touch beside = elim (at_two w.number r.number m.number touch) [
   | inl from ↦ ap (λ (b : Bool). cond {A = NodeId} b w r) (linked_by n.number w.number side (beside ∙ ap Some (sym from))) ∙ NodeId-same w m from
@@ -136,7 +136,7 @@ the_part c (Pass w r s) n m side can touch beside = elim (at_two w.number r.numb
 -- ---- the look and the change at their places
 
 -- the parts of the look and of the change are those of the reading
-pub record IsSaidOf (reading : Reading) (who : NodeId) (at : ℕ) (beside : NodeId) (by : ℕ) (first : Bool) : Type 0 where
+pub record IsSaidOf (reading : LookRace) (who : NodeId) (at : ℕ) (beside : NodeId) (by : ℕ) (first : Bool) : Type 0 where
   pub node : who ≡ reading.node
   pub step : at ≡ reading.step
   pub neighbour : beside ≡ reading.neighbour
@@ -144,10 +144,10 @@ pub record IsSaidOf (reading : Reading) (who : NodeId) (at : ℕ) (beside : Node
   pub early : first ≡ reading.early
 
 -- the event of the look
-looked_there : (s : State) (near : Near) (reading : Reading) → IsOtherwise s reading → IsAtNear s near reading → event_at (causes_of s) near.look ≡ record { event = Own reading.node; look = true }
+looked_there : (s : State) (near : RacingPair) (reading : LookRace) → IsOtherwise s reading → IsAtNear s near reading → event_at (causes_of s) near.look ≡ record { event = Own reading.node; look = true }
 looked_there s near reading o a = ap (event_at (causes_of s)) (sym (one_place (causes_of s) reading.node.number reading.step o.place near.look o.stands a.looks)) ∙ o.looked
 
-pub said_of : (s : State) (near : Near) (glance : Glance) (reading : Reading) → replay s.load s.kept ≡ Some (chip_of s) → IsGlance s near glance → IsOtherwise s reading → IsAtNear s near reading
+pub said_of : (s : State) (near : RacingPair) (glance : LookChange) (reading : LookRace) → replay s.load s.kept ≡ Some (chip_of s) → IsGlance s near glance → IsOtherwise s reading → IsAtNear s near reading
     → IsSaidOf reading glance.node glance.step glance.neighbour glance.change glance.early
 said_of s near glance reading led g o a = record {
   node = node_is;
@@ -176,12 +176,12 @@ said_of s near glance reading led g o a = record {
     beside_is : glance.neighbour ≡ reading.neighbour
     beside_is = g.neighbour ∙ ap (λ (x : NodeId). part_beside f.event x.number) node_is ∙ the_part _ f.event reading.node reading.neighbour a.side made.can a.changes.touched a.beside
 
-pub back_stands : (s : State) (near : Near) (reading : Reading) → events_in (causes_of s) ≡ s.kept → IsAtNear s near reading → (early : Bool)
-    → (let back : NodeId × ℕ = cond early (reading.node, reading.step) (reading.neighbour, reading.change) in stands s back.0.number back.1 ≡ true)
+pub back_stands : (s : State) (near : RacingPair) (reading : LookRace) → events_in (causes_of s) ≡ s.kept → IsAtNear s near reading → (early : Bool)
+    → (let back : NodeId × ℕ = cond early (reading.node, reading.step) (reading.neighbour, reading.change) in has_step s back.0.number back.1 ≡ true)
 back_stands s near reading caused a true = step_stands s reading.node.number reading.step near.look caused a.looks
 back_stands s near reading caused a false = step_stands s reading.neighbour.number reading.change near.change caused a.changes
 
-back_is : (reading : Reading) (node : NodeId) (step : ℕ) (neighbour : NodeId) (change : ℕ) (early : Bool) → IsSaidOf reading node step neighbour change early
+back_is : (reading : LookRace) (node : NodeId) (step : ℕ) (neighbour : NodeId) (change : ℕ) (early : Bool) → IsSaidOf reading node step neighbour change early
     → cond {A = NodeId × ℕ} early (node, step) (neighbour, change) ≡ back_of reading
 back_is reading node step neighbour change early said =
     ap (λ (z : NodeId). cond {A = NodeId × ℕ} early (z, step) (neighbour, change)) said.node
@@ -191,13 +191,13 @@ back_is reading node step neighbour change early said =
     ∙ ap (λ (z : Bool). cond {A = NodeId × ℕ} z (reading.node, reading.step) (reading.neighbour, reading.change)) said.early
 
 -- the removed step exists, and after its rollback the node looks again and reads the other word
-pub record IsReadAgain (s : State) (reading : Reading) (back : NodeId × ℕ) (node : NodeId) (number : ℕ) : Type 0 where
-  pub stands : stands s back.0.number back.1 ≡ true
+pub record IsReadAgain (s : State) (reading : LookRace) (back : NodeId × ℕ) (node : NodeId) (number : ℕ) : Type 0 where
+  pub stands : has_step s back.0.number back.1 ≡ true
   pub next : looks_next (chip_of (rewound s back.0.number back.1)) node.number ≡ true
   pub step : steps_of node.number (rewound s back.0.number back.1).kept + 1 ≡ number
-  pub other : reading.other ≡ io_word (seen_from (chip_of (rewound s back.0.number back.1)) node.number)
+  pub other : reading.other ≡ io_word (neighbour_states (chip_of (rewound s back.0.number back.1)) node.number)
 
-pub read_again : (s : State) (near : Near) (reading : Reading) (node : NodeId) (step : ℕ) (neighbour : NodeId) (change : ℕ) (early : Bool) → events_in (causes_of s) ≡ s.kept
+pub read_again : (s : State) (near : RacingPair) (reading : LookRace) (node : NodeId) (step : ℕ) (neighbour : NodeId) (change : ℕ) (early : Bool) → events_in (causes_of s) ≡ s.kept
     → IsSaidOf reading node step neighbour change early → IsOtherwise s reading → IsAtNear s near reading
     → IsReadAgain s reading (cond {A = NodeId × ℕ} early (node, step) (neighbour, change)) node step
 read_again s near reading node step neighbour change early caused said o a =
@@ -207,24 +207,24 @@ read_again s near reading node step neighbour change early caused said o a =
     (record { stands = back_stands s near reading caused a reading.early; next = o.next; step = o.step; other = o.other })))
 
 -- the word that it read
-pub word_there : (s : State) (near : Near) (reading : Reading) (node : NodeId) → node ≡ reading.node → IsOtherwise s reading → IsAtNear s near reading
-    → io_word (seen_from (chip_of (earlier s near.look)) node.number) ≡ reading.word
+pub word_there : (s : State) (near : RacingPair) (reading : LookRace) (node : NodeId) → node ≡ reading.node → IsOtherwise s reading → IsAtNear s near reading
+    → io_word (neighbour_states (chip_of (earlier s near.look)) node.number) ≡ reading.word
 word_there s near reading node is o a =
     let same : o.place ≡ near.look = one_place (causes_of s) reading.node.number reading.step o.place near.look o.stands a.looks in
-    ap (λ (z : NodeId). io_word (seen_from (chip_of (earlier s near.look)) z.number)) is
-    ∙ ap (λ (z : ℕ). io_word (seen_from (chip_of (earlier s z)) reading.node.number)) (sym same) ∙ sym o.read
+    ap (λ (z : NodeId). io_word (neighbour_states (chip_of (earlier s near.look)) z.number)) is
+    ∙ ap (λ (z : ℕ). io_word (neighbour_states (chip_of (earlier s z)) reading.node.number)) (sym same) ∙ sym o.read
 
-pub same_reading : (reading : Reading) (node : NodeId) (step word : ℕ) (neighbour : NodeId) (change : ℕ) (early : Bool) (other : ℕ) → IsSaidOf reading node step neighbour change early
+pub same_reading : (reading : LookRace) (node : NodeId) (step word : ℕ) (neighbour : NodeId) (change : ℕ) (early : Bool) (other : ℕ) → IsSaidOf reading node step neighbour change early
     → word ≡ reading.word → other ≡ reading.other
     → record { node = node; step = step; word = word; neighbour = neighbour; change = change; early = early; other = other } ≡ reading
 same_reading reading node step word neighbour change early other said w u =
-    ap (λ (z : NodeId). let r : Reading = record { node = z; step = step; word = word; neighbour = neighbour; change = change; early = early; other = other } in r) said.node
-    ∙ ap (λ (z : ℕ). let r : Reading = record { node = reading.node; step = z; word = word; neighbour = neighbour; change = change; early = early; other = other } in r) said.step
-    ∙ ap (λ (z : ℕ). let r : Reading = record { node = reading.node; step = reading.step; word = z; neighbour = neighbour; change = change; early = early; other = other } in r) w
-    ∙ ap (λ (z : NodeId). let r : Reading = record { node = reading.node; step = reading.step; word = reading.word; neighbour = z; change = change; early = early; other = other } in r) said.neighbour
-    ∙ ap (λ (z : ℕ). let r : Reading = record { node = reading.node; step = reading.step; word = reading.word; neighbour = reading.neighbour; change = z; early = early; other = other } in r) said.change
-    ∙ ap (λ (z : Bool). let r : Reading = record { node = reading.node; step = reading.step; word = reading.word; neighbour = reading.neighbour; change = reading.change; early = z; other = other } in r) said.early
-    ∙ ap (λ (z : ℕ). let r : Reading = record { node = reading.node; step = reading.step; word = reading.word; neighbour = reading.neighbour; change = reading.change; early = reading.early; other = z } in r) u
+    ap (λ (z : NodeId). let r : LookRace = record { node = z; step = step; word = word; neighbour = neighbour; change = change; early = early; other = other } in r) said.node
+    ∙ ap (λ (z : ℕ). let r : LookRace = record { node = reading.node; step = z; word = word; neighbour = neighbour; change = change; early = early; other = other } in r) said.step
+    ∙ ap (λ (z : ℕ). let r : LookRace = record { node = reading.node; step = reading.step; word = z; neighbour = neighbour; change = change; early = early; other = other } in r) w
+    ∙ ap (λ (z : NodeId). let r : LookRace = record { node = reading.node; step = reading.step; word = reading.word; neighbour = z; change = change; early = early; other = other } in r) said.neighbour
+    ∙ ap (λ (z : ℕ). let r : LookRace = record { node = reading.node; step = reading.step; word = reading.word; neighbour = reading.neighbour; change = z; early = early; other = other } in r) said.change
+    ∙ ap (λ (z : Bool). let r : LookRace = record { node = reading.node; step = reading.step; word = reading.word; neighbour = reading.neighbour; change = reading.change; early = z; other = other } in r) said.early
+    ∙ ap (λ (z : ℕ). let r : LookRace = record { node = reading.node; step = reading.step; word = reading.word; neighbour = reading.neighbour; change = reading.change; early = reading.early; other = z } in r) u
 
 -- ---- what is near in the list of acts
 
@@ -234,11 +234,11 @@ look_found [] p l h = absurd (omega (arith, l))
 look_found (c ∷ cs) zero l h = or_left c.look (has_look cs) h
 look_found (c ∷ cs) (suc p) l h = or_right c.look (has_look cs) (look_found cs p (omega (arith, l)) h)
 
-pub none_without_looks : (s : State) (reading : Reading) → has_look (causes_of s) ≡ false → IsOtherwise s reading → ⊥
+pub none_without_looks : (s : State) (reading : LookRace) → has_look (causes_of s) ≡ false → IsOtherwise s reading → ⊥
 none_without_looks s reading none o =
     true≢false (sym (look_found (causes_of s) o.place o.stands.within (ap (λ (z : Cause). z.look) o.looked)) ∙ none)
 
-pub is_near : (s : State) (acts : List EventAccess) (causes : List Cause) (reading : Reading) → replay s.load s.kept ≡ Some (chip_of s) → causes ≡ causes_of s → length acts ≡ length causes
+pub is_near : (s : State) (acts : List EventAccess) (causes : List Cause) (reading : LookRace) → replay s.load s.kept ≡ Some (chip_of s) → causes ≡ causes_of s → length acts ≡ length causes
     → AreAlike (actions_in acts) (actions s.load s.kept) → IsOtherwise s reading → (n : IsNearReading s reading) → IsNearLook acts (record { look = n.look; change = n.change })
 is_near s acts causes reading led all size alike o n = record {
   node = reading.node.number;
@@ -268,54 +268,54 @@ is_near s acts causes reading led all size alike o n = record {
     back_alike : AreAlike (actions s.load s.kept) (actions_in acts)
     back_alike = alike-sym (actions_in acts) (actions s.load s.kept) alike
 
-    order : AreNear (actions s.load s.kept) n.look n.change ⊎ AreNear (actions s.load s.kept) n.change n.look
-        → AreNear (actions_in acts) n.look n.change ⊎ AreNear (actions_in acts) n.change n.look
+    order : AreRacing (actions s.load s.kept) n.look n.change ⊎ AreRacing (actions s.load s.kept) n.change n.look
+        → AreRacing (actions_in acts) n.look n.change ⊎ AreRacing (actions_in acts) n.change n.look
     order (inl near) = inl (near_alike (actions s.load s.kept) (actions_in acts) n.look n.change back_alike near)
     order (inr near) = inr (near_alike (actions s.load s.kept) (actions_in acts) n.change n.look back_alike near)
 
-pub at_near : (s : State) (reading : Reading) (n : IsNearReading s reading) → IsAtNear s (record { look = n.look; change = n.change }) reading
+pub at_near : (s : State) (reading : LookRace) (n : IsNearReading s reading) → IsAtNear s (record { look = n.look; change = n.change }) reading
 at_near s reading n = record { looks = n.looks; changes = n.changes; side = n.side; beside = n.beside; order = n.order }
 
 -- ---- one of the list more
 
 -- the look is at its place
-pub look_there : (s : State) (near : Near) (reading : Reading) → IsOtherwise s reading → IsAtNear s near reading → event_at (causes_of s) near.look ≡ record { event = Own reading.node; look = true }
+pub look_there : (s : State) (near : RacingPair) (reading : LookRace) → IsOtherwise s reading → IsAtNear s near reading → event_at (causes_of s) near.look ≡ record { event = Own reading.node; look = true }
 look_there s near reading o a = looked_there s near reading o a
 
 -- it is of the requested node
-pub asked_of : (s : State) (only : Option NodeId) (near : Near) (glance : Glance) (reading : Reading) → replay s.load s.kept ≡ Some (chip_of s) → IsGlance s near glance → IsTold s only reading → IsAtNear s near reading
+pub asked_of : (s : State) (only : Option NodeId) (near : RacingPair) (glance : LookChange) (reading : LookRace) → replay s.load s.kept ≡ Some (chip_of s) → IsGlance s near glance → IsTold s only reading → IsAtNear s near reading
     → IfSome only (λ it. glance.node ≡ it)
 asked_of s only near glance reading led g t a = subst (λ (z : NodeId). IfSome only (λ it. z ≡ it)) (sym (said_of s near glance reading led g t.0 a).node) t.1
 
-pub glanced_first : (s : State) (only : Option NodeId) (list : List Glance) → AreGlanced s only [] list
+pub glanced_first : (s : State) (only : Option NodeId) (list : List LookChange) → AreGlanced s only [] list
 glanced_first s only list reading near h told at = absurd (let l : h.0 < 0 = h.1 in omega (arith, l))
 
-pub glanced_next : (s : State) (only : Option NodeId) (nears : List Near) (i : ℕ) (one : Near) (old new : List Glance) → i < length nears → one ≡ get_or nears i one
-    → ((glance : Glance) → Contains old glance → Contains new glance) → ((reading : Reading) → IsTold s only reading → IsAtNear s one reading → IsShownBy s one new)
+pub glanced_next : (s : State) (only : Option NodeId) (nears : List RacingPair) (i : ℕ) (one : RacingPair) (old new : List LookChange) → i < length nears → one ≡ get_or nears i one
+    → ((glance : LookChange) → Contains old glance → Contains new glance) → ((reading : LookRace) → IsTold s only reading → IsAtNear s one reading → IsShownBy s one new)
     → AreGlanced s only (take i nears) old → AreGlanced s only (take (i + 1) nears) new
 glanced_next s only nears i one old new l is kept here before reading near h told at =
-    elim (Contains-push_cases (take i nears) one near (subst (λ (z : List Near). Contains z near) (take_more nears i one l ∙ ap (λ (z : Near). take i nears ++ z ∷ []) (sym is)) h)) [
+    elim (Contains-push_cases (take i nears) one near (subst (λ (z : List RacingPair). Contains z near) (take_more nears i one l ∙ ap (λ (z : RacingPair). take i nears ++ z ∷ []) (sym is)) h)) [
       | inl u ↦ (let g = before reading near u told at in (g.0, kept g.0 g.1, g.2))
-      | inr q ↦ subst (λ (z : Near). IsShownBy s z new) q (here reading told (subst (λ (z : Near). IsAtNear s z reading) (sym q) at))
+      | inr q ↦ subst (λ (z : RacingPair). IsShownBy s z new) q (here reading told (subst (λ (z : RacingPair). IsAtNear s z reading) (sym q) at))
     ]
 
 -- none of the first `place` looks is left out
-abbrev pub AreReadUpto : State → Option NodeId → List Glance → ℕ → List Reading → Type 0
-AreReadUpto s only glances place list = (near : Near) (i : ℕ) (glance : Glance) (reading : Reading) → i < place → glance ≡ get_or glances i glance → IsGlance s near glance → IsTold s only reading → IsAtNear s near reading
+abbrev pub AreReadUpto : State → Option NodeId → List LookChange → ℕ → List LookRace → Type 0
+AreReadUpto s only glances place list = (near : RacingPair) (i : ℕ) (glance : LookChange) (reading : LookRace) → i < place → glance ≡ get_or glances i glance → IsGlance s near glance → IsTold s only reading → IsAtNear s near reading
     → Contains list reading
 
-pub read_first : (s : State) (only : Option NodeId) (glances : List Glance) (list : List Reading) → AreReadUpto s only glances 0 list
+pub read_first : (s : State) (only : Option NodeId) (glances : List LookChange) (list : List LookRace) → AreReadUpto s only glances 0 list
 read_first s only glances list near i glance reading l is g told at = absurd (omega (arith, l))
 
-pub read_next : (s : State) (only : Option NodeId) (glances : List Glance) (place : ℕ) (one : Glance) (old new : List Reading) → place < length glances → one ≡ get_or glances place one
-    → ((reading : Reading) → Contains old reading → Contains new reading) → ((near : Near) (reading : Reading) → IsGlance s near one → IsTold s only reading → IsAtNear s near reading → Contains new reading)
+pub read_next : (s : State) (only : Option NodeId) (glances : List LookChange) (place : ℕ) (one : LookChange) (old new : List LookRace) → place < length glances → one ≡ get_or glances place one
+    → ((reading : LookRace) → Contains old reading → Contains new reading) → ((near : RacingPair) (reading : LookRace) → IsGlance s near one → IsTold s only reading → IsAtNear s near reading → Contains new reading)
     → AreReadUpto s only glances place old → AreReadUpto s only glances (place + 1) new
 read_next s only glances place one old new within there kept here before near i glance reading l is g told at = elim (cases_eq i place) [
   | inl q ↦ here near reading (subst (IsGlance s near) (is ∙ ap (λ (z : ℕ). get_or glances z glance) q ∙ get_or_default glances place glance one within ∙ sym there) g) told at
   | inr ne ↦ kept reading (before near i glance reading (omega (arith, l, ne)) is g told at)
 ]
 
-pub read_all : (s : State) (only : Option NodeId) (glances : List Glance) (place : ℕ) (list : List Reading) → length glances ≤ place → AreReadUpto s only glances place list → AreRead s only glances list
+pub read_all : (s : State) (only : Option NodeId) (glances : List LookChange) (place : ℕ) (list : List LookRace) → length glances ≤ place → AreReadUpto s only glances place list → AreRead s only glances list
 read_all s only glances place list past upto near glance reading has g told at =
     let l : has.0 < length glances = has.1 in
     upto near has.0 glance reading (omega (arith, l, past)) (sym has.2) g told at

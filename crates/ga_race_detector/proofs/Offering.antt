@@ -9,22 +9,22 @@ use Rattle.ga_grid.specs.declared.node_id.NodeId.{NodeId}
 use Rattle.ga_event.specs.Next.{next}
 use Rattle.ga_event.proofs.Nexts.{next_can}
 use Rattle.ga_lab.proofs.Forward.{made_is_next}
-use Rattle.ga_lab.specs.Machine.{actor_of, State, first, chip_of, causes_of, told_by, rewound}
-use Rattle.ga_lab.specs.Calls.{MachineCall, called_all, IsReached}
-use Rattle.ga_races.specs.Orders.{AreOrders, IsAtEnd, HasNoRace, CanBe}
+use Rattle.ga_lab.specs.Machine.{actor_of, State, initial_state, chip_of, causes_of, told_by, rewound}
+use Rattle.ga_lab.specs.Calls.{MachineCall, after_calls, IsReached}
+use Rattle.ga_races.specs.Orders.{AreReorderings, IsTerminal, HasNoRace, IsEnabled}
 use Rattle.ga_races.proofs.Orders.{beginning_quiet, end_quiet}
 use Rattle.ga_ports.specs.declared.side.Side.{Side}
 use Rattle.ga_node.specs.Table.{t}
 use Rattle.ga_grid.specs.Chip.{record_at}
 use Rattle.ga_event.specs.declared.event.Event.TheVariants.{Pass}
-use Rattle.ga_causal.specs.Dependence.{rewound_list, NoneLooks}
+use Rattle.ga_causal.specs.Dependence.{rewound_list, HasNoLooks}
 use Rattle.ga_event.specs.Told.{events_in}
 use Rattle.ga_causal.proofs.Runs.{causes}
 use Rattle.ga_lab.proofs.Called.{Runs, chip_is}
 use Rattle.ga_lab.proofs.Again.{runs_reached}
-use Rattle.ga_races.proofs.Rivals.{Open, open_of, back}
+use Rattle.ga_races.proofs.Conflicts.{Open, open_of, back}
 use Rattle.ga_races.proofs.Blind.{NoneShows, none_races, end_blind}
-use Rattle.ga_race_detector.specs.Races.{offered_by, offered}
+use Rattle.ga_race_detector.specs.Races.{offered_by, alternative_word}
 
 -- ---- sessions from one load, one of which has no race
 
@@ -41,36 +41,36 @@ record Stands (load : List NodeRecord) (s : State) : Type 0 where
 stands_of : (load : List NodeRecord) (s : State) → s.load ≡ load → IsSome (replay s.load s.kept) → Stands load s
 stands_of load s is some = record { same = is; led = subst (λ (z : List NodeRecord). replay z s.kept ≡ Some (chip_of s)) is (leads (replay s.load s.kept) some) }
 
-stands : (load : List NodeRecord) (limit : ℕ) (calls : List MachineCall) → Stands load (called_all (first load limit) calls)
-stands load limit calls = let r = Called.reached load limit calls in stands_of load (called_all (first load limit) calls) r.0 r.1
+stands : (load : List NodeRecord) (limit : ℕ) (calls : List MachineCall) → Stands load (after_calls (initial_state load limit) calls)
+stands load limit calls = let r = Called.reached load limit calls in stands_of load (after_calls (initial_state load limit) calls) r.0 r.1
 
 some_led : (load last : List NodeRecord) (es : List Event) → replay load es ≡ Some last → IsSome (replay load es)
 some_led load last es h = subst (λ (o : Option (List NodeRecord)). IsSome o) (sym h) refl
 
-pub on_the_way : (load : List NodeRecord) (limit bound : ℕ) (calls others : List MachineCall) → HasNoRace load (called_all (first load limit) calls).kept → IsAtEnd (chip_of (called_all (first load limit) calls))
-    → (later : List Event) × AreOrders load (called_all (first load limit) calls).kept ((called_all (first load bound) others).kept ++ later)
+pub on_the_way : (load : List NodeRecord) (limit bound : ℕ) (calls others : List MachineCall) → HasNoRace load (after_calls (initial_state load limit) calls).kept → IsTerminal (chip_of (after_calls (initial_state load limit) calls))
+    → (later : List Event) × AreReorderings load (after_calls (initial_state load limit) calls).kept ((after_calls (initial_state load bound) others).kept ++ later)
 on_the_way load limit bound calls others calm end =
-    let s = called_all (first load limit) calls in
-    let z = called_all (first load bound) others in
+    let s = after_calls (initial_state load limit) calls in
+    let z = after_calls (initial_state load bound) others in
     beginning_quiet load (chip_of s) s.kept z.kept (stands load limit calls).led calm end (some_led load (chip_of z) z.kept (stands load bound others).led)
 
-pub same_end : (load : List NodeRecord) (limit bound : ℕ) (calls others : List MachineCall) → HasNoRace load (called_all (first load limit) calls).kept → IsAtEnd (chip_of (called_all (first load limit) calls))
-    → IsAtEnd (chip_of (called_all (first load bound) others)) → chip_of (called_all (first load bound) others) ≡ chip_of (called_all (first load limit) calls)
+pub same_end : (load : List NodeRecord) (limit bound : ℕ) (calls others : List MachineCall) → HasNoRace load (after_calls (initial_state load limit) calls).kept → IsTerminal (chip_of (after_calls (initial_state load limit) calls))
+    → IsTerminal (chip_of (after_calls (initial_state load bound) others)) → chip_of (after_calls (initial_state load bound) others) ≡ chip_of (after_calls (initial_state load limit) calls)
 same_end load limit bound calls others calm end stop =
-    let s = called_all (first load limit) calls in
-    let z = called_all (first load bound) others in
+    let s = after_calls (initial_state load limit) calls in
+    let z = after_calls (initial_state load bound) others in
     (end_quiet load (chip_of s) (chip_of z) s.kept z.kept (stands load limit calls).led calm end (stands load bound others).led stop).1
 
-pub no_next : (chip : List NodeRecord) → IsAtEnd chip ↔ ((n : NodeId) (event : Event) → next chip n ≡ Ok event → ⊥)
+pub no_next : (chip : List NodeRecord) → IsTerminal chip ↔ ((n : NodeId) (event : Event) → next chip n ≡ Ok event → ⊥)
 no_next chip = (λ end n event h. end event (next_can chip n event h), λ none event can. none (actor_of event) event (made_is_next chip event can))
 
 -- an enabled pass is offered
-pub is_offered : (c : List NodeRecord) (w r : NodeId) (side : Side) → CanBe c (Pass w r side) → IsSome (offered c r.number side)
+pub is_offered : (c : List NodeRecord) (w r : NodeId) (side : Side) → IsEnabled c (Pass w r side) → IsSome (alternative_word c r.number side)
 is_offered c w r side can =
     let o : Open c w r side = open_of c w r side can in
     let writes : Bool = writes_to (record_at c w.number).wait side in
     let reads : Bool = reads_from (record_at c r.number).wait side in
-    let is : offered c r.number side ≡ Some (t (record_at c w.number)) =
+    let is : alternative_word c r.number side ≡ Some (t (record_at c w.number)) =
     ap (λ (z : Option ℕ). offered_by c r.number side z) (back c w r side o)
     ∙ ap (λ (z : Bool). cond {A = Option ℕ} (z && reads) (Some (t (record_at c w.number))) None) o.writes
     ∙ ap (λ (z : Bool). cond {A = Option ℕ} z (Some (t (record_at c w.number))) None) o.reads in
@@ -79,11 +79,11 @@ is_offered c w r side can =
 -- no step could have taken a word over another side
 abbrev pub NoneOffered : State → Type 0
 NoneOffered s = (r : NodeId) (k : ℕ) (side other : Side) → side ≢ other
-    → IsSome (offered (chip_of (rewound s r.number k)) r.number side) → IsSome (offered (chip_of (rewound s r.number k)) r.number other) → ⊥
+    → IsSome (alternative_word (chip_of (rewound s r.number k)) r.number side) → IsSome (alternative_word (chip_of (rewound s r.number k)) r.number other) → ⊥
 
-pub no_race_kept : (s : State) → IsReached s → NoneLooks (causes_of s) → IsAtEnd (chip_of s) → NoneOffered s → HasNoRace s.load s.kept
+pub no_race_kept : (s : State) → IsReached s → HasNoLooks (causes_of s) → IsTerminal (chip_of s) → NoneOffered s → HasNoRace s.load s.kept
 no_race_kept s reached none end free =
-    none_races s.load r.last s.kept r.told r.run_is (subst (λ z. NoneLooks z) told none) (end_blind r.last (subst (λ z. IsAtEnd z) (chip_is s r) end)) shows
+    none_races s.load r.last s.kept r.told r.run_is (subst (λ z. HasNoLooks z) told none) (end_blind r.last (subst (λ z. IsTerminal z) (chip_is s r) end)) shows
   where
     r : Runs s
     r = runs_reached s reached
@@ -96,5 +96,5 @@ no_race_kept s reached none end free =
         let here : replay s.load (rewound s reader.number k).kept ≡ Some now = ap (λ z. replay s.load (events_in (rewound_list z reader.number k))) told ∙ led in
         let at : now ≡ chip_of (rewound s reader.number k) = sym (ap (λ (o : Option (List NodeRecord)). unwrap_or o []) here) in
         free reader k side other ne
-        (subst (λ z. IsSome (offered z reader.number side)) at (is_offered now w reader side canp))
-        (subst (λ z. IsSome (offered z reader.number other)) at (is_offered now x reader other canq))
+        (subst (λ z. IsSome (alternative_word z reader.number side)) at (is_offered now w reader side canp))
+        (subst (λ z. IsSome (alternative_word z reader.number other)) at (is_offered now x reader other canq))

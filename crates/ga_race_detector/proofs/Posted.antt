@@ -20,24 +20,24 @@ use Rattle.ga_event.specs.declared.event.Event.{Event}
 use Rattle.ga_event.specs.declared.event.Cause.{Cause}
 use Rattle.ga_event.specs.declared.made.Made.{Made}
 use Rattle.ga_event.specs.Touches.{touches}
-use Rattle.ga_event.specs.Apply.{Told, after, replay, writes_to, reads_from, shows}
+use Rattle.ga_event.specs.Apply.{EventOutcome, after, replay, writes_to, reads_from, shows}
 use Rattle.ga_event.specs.Told.{steps_of}
 use Rattle.ga_causal.specs.Dependence.{rewound_list}
 use Rattle.ga_causal.specs.Steps.{touching}
 use Rattle.ga_causal.proofs.Places.{touching_in}
-use Rattle.ga_races.specs.Orders.{CanBe}
-use Rattle.ga_races.proofs.Frees.{first_of, replay_more, stays}
-use Rattle.ga_races.proofs.Rivals.{Open, open_of, back, number_of, wait_at, at_node, at_two, one_side, one_way}
+use Rattle.ga_races.specs.Orders.{IsEnabled}
+use Rattle.ga_races.proofs.Independence.{first_of, replay_more, stays}
+use Rattle.ga_races.proofs.Conflicts.{Open, open_of, back, number_of, wait_at, at_node, at_two, one_side, one_way}
 use Rattle.ga_lab.specs.Machine.{State, chip_of, causes_of, history_of, earlier, rewound}
 use Rattle.ga_lab.proofs.Called.{Runs}
-use Rattle.ga_race_detector.specs.Races.{offered_by, offered}
+use Rattle.ga_race_detector.specs.Races.{offered_by, alternative_word}
 use Rattle.ga_race_detector.specs.inner.Writers.{posted, word_between}
 use Rattle.ga_race_detector.proofs.Standing.{steps-cons, stands_somewhere}
 use Rattle.ga_race_detector.proofs.Silent.{steps_take}
 use Rattle.ga_race_detector.proofs.Behind.{IsOf, IsWordOf, TakenBack, taken_back}
 use Rattle.ga_node.specs.declared.kind.Kind.{Kind}
-use Rattle.ga_node.specs.declared.seen.Beside.{Beside}
-use Rattle.ga_node.specs.declared.seen.Beside.TheVariants.{Idle}
+use Rattle.ga_node.specs.declared.seen.NeighbourState.{NeighbourState}
+use Rattle.ga_node.specs.declared.seen.NeighbourState.TheVariants.{Idle}
 
 -- ---- a node that had made the same number of steps at two places of a list was the same there
 
@@ -97,16 +97,16 @@ one_link n m Up Left h k = absurd (grind arith)
 
 -- ---- the next step as made has it
 
-told_word : (mid : List NodeRecord) (e : Event) (m : Made) (o r : NodeId) (side : Side) → CanBe mid e → touches e o.number ≡ true → IsOf m e → IsWordOf mid m
+told_word : (mid : List NodeRecord) (e : Event) (m : Made) (o r : NodeId) (side : Side) → IsEnabled mid e → touches e o.number ≡ true → IsOf m e → IsWordOf mid m
     → neighbour_of r.number side ≡ Some o.number → word_between o.number r.number m ≡ posted (record_at mid o.number) side
 told_word mid e (made.Own n k kind) o r side can touch of carried near =
-    let own : CanBe mid (event.Own of.0) = subst (λ (z : Event). CanBe mid z) of.1 can in
+    let own : IsEnabled mid (event.Own of.0) = subst (λ (z : Event). IsEnabled mid z) of.1 can in
     let here : of.0.number ≡ o.number = at_node of.0.number o.number (subst (λ (z : Event). touches z o.number ≡ true) of.1 touch) in
     sym (ap (λ (w : Wait). cond {A = Option ℕ} (writes_to w side) (Some (t (record_at mid o.number))) None) (wait_at mid of.0 own o.number here))
 told_word mid e (made.Pass w i x j word) o r side can touch of carried near = go (w.number == o.number && x.number == r.number) refl
   where
     open_ : Open mid w x of.0
-    open_ = open_of mid w x of.0 (subst (λ (z : Event). CanBe mid z) of.1 can)
+    open_ = open_of mid w x of.0 (subst (λ (z : Event). IsEnabled mid z) of.1 can)
 
     go : (b : Bool) → (w.number == o.number && x.number == r.number) ≡ b → cond {A = Option ℕ} b (Some word) None ≡ posted (record_at mid o.number) side
     go true is =
@@ -157,7 +157,7 @@ posted_told s runs o r side steps place m size told near count =
     ∙ ap (λ (z : NodeRecord). posted z side) (sym b.stood ∙ stood_alike s runs.last o.number b.place place led (b.count ∙ sym count))
   where
     led : replay s.load s.kept ≡ Some runs.last
-    led = ap (λ (o : Option (List NodeRecord × List (Cause × Told))). option_map (λ z. z.0) o) runs.run_is
+    led = ap (λ (o : Option (List NodeRecord × List (Cause × EventOutcome))). option_map (λ z. z.0) o) runs.run_is
 
 -- after its last step it is in its current state
 pub last_stood : (s : State) (last : List NodeRecord) (o steps place : ℕ) (now : NodeRecord) → replay s.load s.kept ≡ Some last → length (history_of s o) ≡ steps_of o s.kept
@@ -181,7 +181,7 @@ and_true false b h = refl
 
 pub offered_left : (s : State) (n k m many : ℕ) (side : Side) (word : Option ℕ) → IsSome (replay s.load s.kept) → reads_from (record_at (chip_of (rewound s n k)) n).wait side ≡ true → neighbour_of n side ≡ Some m
     → many ≡ touching m (rewound_list (causes_of s) n k) → ((place : ℕ) → steps_of m (take place s.kept) ≡ many → word ≡ posted (record_at (chip_of (earlier s place)) m) side)
-    → word ≡ offered (chip_of (rewound s n k)) n side
+    → word ≡ alternative_word (chip_of (rewound s n k)) n side
 offered_left s n k m many side word some reads near left is =
     let a = stands_somewhere s n k m some in
     let chip = chip_of (rewound s n k) in
@@ -201,16 +201,16 @@ own_shows s runs o side steps place m who k kind own_made size told count =
     let b : TakenBack s o.number steps = taken_back s runs o.number steps within in
     let same : made.Own who k kind ≡ b.made = sym own_made ∙ same_Some m b.made (told ∙ b.told) in
     let of : IsOf (made.Own who k kind) b.event = subst (λ (z : Made). IsOf z b.event) (sym same) b.of in
-    let own : CanBe b.mid (event.Own of.0) = subst (λ (z : Event). CanBe b.mid z) of.1 b.can in
+    let own : IsEnabled b.mid (event.Own of.0) = subst (λ (z : Event). IsEnabled b.mid z) of.1 b.can in
     let here : of.0.number ≡ o.number = at_node of.0.number o.number (subst (λ (z : Event). touches z o.number ≡ true) of.1 b.touch) in
     ap (λ (w : Wait). shows w side) (sym (wait_at b.mid of.0 own o.number here))
     ∙ ap (λ (z : NodeRecord). shows z.wait side) (sym b.stood ∙ stood_alike s runs.last o.number b.place place led (b.count ∙ sym count))
   where
     led : replay s.load s.kept ≡ Some runs.last
-    led = ap (λ (o : Option (List NodeRecord × List (Cause × Told))). option_map (λ z. z.0) o) runs.run_is
+    led = ap (λ (o : Option (List NodeRecord × List (Cause × EventOutcome))). option_map (λ z. z.0) o) runs.run_is
 
 -- after a rollback it shows what it showed at the same number of steps
-pub rewound_shows : (s : State) (b k m many : ℕ) (side : Side) (is : Beside) → IsSome (replay s.load s.kept) → many ≡ touching m (rewound_list (causes_of s) b k)
+pub rewound_shows : (s : State) (b k m many : ℕ) (side : Side) (is : NeighbourState) → IsSome (replay s.load s.kept) → many ≡ touching m (rewound_list (causes_of s) b k)
     → ((place : ℕ) → steps_of m (take place s.kept) ≡ many → is ≡ shows (record_at (chip_of (earlier s place)) m).wait side) → is ≡ shows (record_at (chip_of (rewound s b k)) m).wait side
 rewound_shows s b k m many side is some left then =
     let a = stands_somewhere s b k m some in

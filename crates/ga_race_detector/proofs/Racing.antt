@@ -14,10 +14,10 @@ use Rattle.ga_event.specs.declared.event.Cause.{Cause}
 use Rattle.ga_event.specs.declared.made.Made.{Made}
 use Rattle.ga_ports.specs.declared.side.Side.{Side}
 use Rattle.ga_lab.specs.Machine.{State, chip_of, history_of, rewound}
-use Rattle.ga_race_detector.specs.Races.{offered, race_from, races_over, races_told, races_before, races_of, races_below, has_look, looks_next, has_next_look, first_ready}
+use Rattle.ga_race_detector.specs.Races.{alternative_word, race_from, races_over, races_told, races_before, races_of, races_below, has_look, looks_next, has_next_look, first_ready}
 use Rattle.ga_race_detector.specs.declared.races.Race.{Race}
 use Rattle.ga_event.specs.Next.{next}
-use Rattle.ga_races.specs.Orders.{can_go}
+use Rattle.ga_races.specs.Orders.{has_event}
 use Rattle.ga_races.proofs.Ready.{can_go_is, none_of}
 
 pub added : (r : NodeId) (k : ℕ) (w : NodeId) (word : ℕ) (other : NodeId) (offer : Option ℕ) (o cut : ℕ) → offer ≡ Some o → other.number ≢ w.number → cut ≡ o % (2 ^ 18)
@@ -46,8 +46,8 @@ none_from r k w word n (Some x) q =
 pub own_side : (s : State) (r : NodeId) (k : ℕ) (w : NodeId) (word : ℕ) (side : Side) (old : List Race) → neighbour_of r.number side ≡ Some w.number
     → old ≡ old ++ races_over s r k w word side
 own_side s r k w word side old is =
-    sym (append-nil old) ∙ ap (λ (z : List Race). old ++ z) (sym (ap (λ (o : Option ℕ). race_from r k w word o (offered (chip_of (rewound s r.number k)) r.number side)) is
-    ∙ none_from r k w word w.number (offered (chip_of (rewound s r.number k)) r.number side) refl))
+    sym (append-nil old) ∙ ap (λ (z : List Race). old ++ z) (sym (ap (λ (o : Option ℕ). race_from r k w word o (alternative_word (chip_of (rewound s r.number k)) r.number side)) is
+    ∙ none_from r k w word w.number (alternative_word (chip_of (rewound s r.number k)) r.number side) refl))
 
 pub one_more : (s : State) (node : NodeId) (p : ℕ) (m : Made) (old xs ys : List Race) → xs ≡ old ++ races_before s node p → Some m ≡ slice_get (history_of s node.number) p
     → ys ≡ xs ++ races_told s node (p + 1) (Some m) → ys ≡ old ++ races_before s node (p + 1)
@@ -96,10 +96,10 @@ told_there (x ∷ xs) zero l h = cc
 told_there (x ∷ xs) (suc i) l h = told_there xs i (omega (arith, l)) h
 
 -- one node more has no event
-pub idle_more : (chip : List NodeRecord) (number : ℕ) (node : NodeId) → node.number ≡ number → is_ok (next chip node) ≡ false → ((n : ℕ) → n < number → can_go chip n ≡ false)
-    → (n : ℕ) → n < number + 1 → can_go chip n ≡ false
+pub idle_more : (chip : List NodeRecord) (number : ℕ) (node : NodeId) → node.number ≡ number → is_ok (next chip node) ≡ false → ((n : ℕ) → n < number → has_event chip n ≡ false)
+    → (n : ℕ) → n < number + 1 → has_event chip n ≡ false
 idle_more chip number node at none before n l = elim (cases_eq n number) [
-  | inl q ↦ ap (can_go chip) (q ∙ sym at) ∙ can_go_is chip node ∙ none
+  | inl q ↦ ap (has_event chip) (q ∙ sym at) ∙ can_go_is chip node ∙ none
   | inr ne ↦ before n (omega (arith, l, ne))
 ]
 
@@ -112,4 +112,4 @@ ready_some chip node is = go (first_ready chip) refl
     go None q =
         let l : node.number < 144 = node.in_range in
         let at : node.number ≡ (0 + node.number) % 144 = omega (arith, l) in
-        absurd (true≢false (sym is ∙ sym (can_go_is chip node) ∙ ap (can_go chip) at ∙ none_of (can_go chip) 0 144 node.number q l))
+        absurd (true≢false (sym is ∙ sym (can_go_is chip node) ∙ ap (has_event chip) at ∙ none_of (has_event chip) 0 144 node.number q l))

@@ -10,8 +10,8 @@ use Rattle.ga_event.specs.Apply.{writes_to, reads_from, replay}
 use Rattle.ga_event.specs.declared.event.Event.{Event}
 use Rattle.std.proofs.lemmas.Bool.{cases_eq}
 use Rattle.ga_event.specs.Told.{steps_of}
-use Rattle.ga_lab.specs.Machine.{State, Standing, standing, chip_of, earlier, rewound, stands}
-use Rattle.ga_race_detector.specs.Races.{offered_by, offered, race_from, races_over}
+use Rattle.ga_lab.specs.Machine.{State, NodeAtStep, node_at_step, chip_of, earlier, rewound, has_step}
+use Rattle.ga_race_detector.specs.Races.{offered_by, alternative_word, race_from, races_over}
 use Rattle.ga_node.specs.State.{wait_of}
 use Rattle.ga_grid.specs.declared.node_id.NodeId.{NodeId}
 use Rattle.ga_lab.proofs.Called.{Runs}
@@ -24,7 +24,7 @@ abbrev pub IsSilentAt : State → ℕ → Side → ℕ → Type 0
 IsSilentAt s m side j = (place : ℕ) → steps_of m (take place s.kept) ≡ j → writes_to (record_at (chip_of (earlier s place)) m).wait side ≡ false
 
 pub silent : (s : State) (m : ℕ) (side : Side) → IsSome (replay s.load s.kept) → ((j : ℕ) → IsSilentAt s m side j)
-    → (n k : ℕ) → neighbour_of n side ≡ Some m → offered (chip_of (rewound s n k)) n side ≡ None
+    → (n k : ℕ) → neighbour_of n side ≡ Some m → alternative_word (chip_of (rewound s n k)) n side ≡ None
 silent s m side some never n k near =
     let a = stands_somewhere s n k m some in
     let chip = chip_of (rewound s n k) in
@@ -38,7 +38,7 @@ both_none true false o h = refl
 both_none false c o h = refl
 
 -- nor is one offered over a side over which the node doesn't wait to read
-pub unread : (chip : List NodeRecord) (n : ℕ) (side : Side) → reads_from (record_at chip n).wait side ≡ false → offered chip n side ≡ None
+pub unread : (chip : List NodeRecord) (n : ℕ) (side : Side) → reads_from (record_at chip n).wait side ≡ false → alternative_word chip n side ≡ None
 unread chip n side free = go (neighbour_of n side)
   where
     go : (o : Option ℕ) → offered_by chip n side o ≡ None
@@ -46,21 +46,21 @@ unread chip n side free = go (neighbour_of n side)
     go (Some w) = both_none (writes_to (record_at chip w).wait side) (reads_from (record_at chip n).wait side) (Some (t (record_at chip w))) free
 
 -- what the node waits for after a rollback of its step is what it waited for before the step
-pub waited : (s : State) → Runs s → (n k code : ℕ) → stands s n k ≡ true → ((place : ℕ) → steps_of n (take place s.kept) ≡ k - 1 → (record_at (chip_of (earlier s place)) n).wait ≡ wait_of code)
+pub waited : (s : State) → Runs s → (n k code : ℕ) → has_step s n k ≡ true → ((place : ℕ) → steps_of n (take place s.kept) ≡ k - 1 → (record_at (chip_of (earlier s place)) n).wait ≡ wait_of code)
     → (record_at (chip_of (rewound s n k)) n).wait ≡ wait_of code
 waited s runs n zero code on held = absurd (let q = stands_counted s n 0 on in omega (arith, q))
 waited s runs n (suc p) code on held =
     let b : TakenBack s n p = taken_back s runs n p (let q = stands_many s n (suc p) on in omega (arith, q)) in
     ap (λ (z : NodeRecord). z.wait) (sym b.same ∙ sym b.stood) ∙ held b.place (b.count ∙ (let q : p ≡ suc p - 1 = omega arith in q))
 
-pub stood_then : (s : State) → Runs s → (n k : ℕ) (then : NodeRecord) → stands s n k ≡ true → ((place : ℕ) → steps_of n (take place s.kept) ≡ k - 1 → then ≡ record_at (chip_of (earlier s place)) n)
+pub stood_then : (s : State) → Runs s → (n k : ℕ) (then : NodeRecord) → has_step s n k ≡ true → ((place : ℕ) → steps_of n (take place s.kept) ≡ k - 1 → then ≡ record_at (chip_of (earlier s place)) n)
     → then ≡ record_at (chip_of (rewound s n k)) n
 stood_then s runs n zero then on held = absurd (let q = stands_counted s n 0 on in omega (arith, q))
 stood_then s runs n (suc p) then on held =
     let b : TakenBack s n p = taken_back s runs n p (let q = stands_many s n (suc p) on in omega (arith, q)) in
     held b.place (b.count ∙ (let q : p ≡ suc p - 1 = omega arith in q)) ∙ b.stood ∙ b.same
 
-pub none_over : (s : State) (r : NodeId) (k : ℕ) (w : NodeId) (word : ℕ) (side : Side) → offered (chip_of (rewound s r.number k)) r.number side ≡ None → races_over s r k w word side ≡ []
+pub none_over : (s : State) (r : NodeId) (k : ℕ) (w : NodeId) (word : ℕ) (side : Side) → alternative_word (chip_of (rewound s r.number k)) r.number side ≡ None → races_over s r k w word side ≡ []
 none_over s r k w word side h = ap (race_from r k w word (neighbour_of r.number side)) h ∙ go (neighbour_of r.number side)
   where
     go : (o : Option ℕ) → race_from r k w word o None ≡ []
@@ -78,11 +78,11 @@ steps_take n (e ∷ es) (suc p) =
     let z = steps_take n es p in
     omega (arith, x, y, z)
 
-pub at_walk : (w : Standing) (s : State) (node : NodeId) (held : NodeRecord) → w ≡ standing s node w.step
+pub at_walk : (w : NodeAtStep) (s : State) (node : NodeId) (held : NodeRecord) → w ≡ node_at_step s node w.step
     → ((place : ℕ) → steps_of w.node.number (take place w.machine.kept) ≡ w.step → held ≡ record_at (chip_of (earlier w.machine place)) w.node.number)
     → (place : ℕ) → steps_of node.number (take place s.kept) ≡ w.step → held ≡ record_at (chip_of (earlier s place)) node.number
 at_walk w s node held is h =
-    subst (λ (z : Standing). (place : ℕ) → steps_of z.node.number (take place z.machine.kept) ≡ w.step → held ≡ record_at (chip_of (earlier z.machine place)) z.node.number) is h
+    subst (λ (z : NodeAtStep). (place : ℕ) → steps_of z.node.number (take place z.machine.kept) ≡ w.step → held ≡ record_at (chip_of (earlier z.machine place)) z.node.number) is h
 
 pub silent_here : (s : State) (m : ℕ) (side : Side) (step : ℕ) (held : NodeRecord) (waits : Bool)
     → ((place : ℕ) → steps_of m (take place s.kept) ≡ step → held ≡ record_at (chip_of (earlier s place)) m) → waits ≡ writes_to held.wait side → waits ≡ false → IsSilentAt s m side step
@@ -97,6 +97,6 @@ silent_more s m side old new e later here j l = elim (cases_eq j new) [
   | inr ne ↦ later j (omega (arith, e, l, ne))
 ]
 
-pub walked : (old new : Standing) (s : State) (node : NodeId) → old ≡ standing s node old.step → new ≡ record old { step = old.step - 1 } → new ≡ standing s node new.step
+pub walked : (old new : NodeAtStep) (s : State) (node : NodeId) → old ≡ node_at_step s node old.step → new ≡ record old { step = old.step - 1 } → new ≡ node_at_step s node new.step
 walked old new s node is e =
-    e ∙ ap (λ (z : Standing). record z { step = old.step - 1 }) is ∙ ap (standing s node) (sym (ap (λ (z : Standing). z.step) e))
+    e ∙ ap (λ (z : NodeAtStep). record z { step = old.step - 1 }) is ∙ ap (node_at_step s node) (sym (ap (λ (z : NodeAtStep). z.step) e))

@@ -9,10 +9,10 @@ use Rattle.ga_grid.specs.Chip.{record_at}
 use Rattle.ga_event.specs.declared.event.Event.{Event}
 use Rattle.ga_event.specs.declared.event.Cause.{Cause}
 use Rattle.ga_event.specs.Touches.{meets, touches}
-use Rattle.ga_event.specs.Apply.{Told, apply, cause_of, run, replay, Agree}
+use Rattle.ga_event.specs.Apply.{EventOutcome, apply, cause_of, run, replay, Agree}
 use Rattle.ga_event.proofs.Locality.{Agree-sym}
 use Rattle.ga_event.specs.Told.{steps_of, events_in}
-use Rattle.ga_causal.specs.Dependence.{cause_touches, rest, place_of, rest_from}
+use Rattle.ga_causal.specs.Dependence.{cause_touches, rest, position_of_step, rest_from}
 use Rattle.ga_causal.proofs.Runs.{kept, causes, FirstOf, first_of_run, keeps_of, Agree-marked, same_of, replay-cons}
 use Rattle.ga_races.proofs.Blind.{no_touch}
 use Rattle.ga_lab.specs.Machine.{State, chip_of, causes_of, told_by, earlier, rewound}
@@ -39,13 +39,13 @@ part b marks x xs =
     let then : ℕ → Bool = cond b (λ n. marks n || cause_touches x n) marks in
     cond b (kept then xs) (x ∷ kept then xs)
 
-pub marked_ran : (es : List Event) (marks : ℕ → Bool) (c b last : List NodeRecord) (ts : List (Cause × Told)) (m : ℕ) → Agree marks c b → marks m ≡ true → run c es ≡ Some (last, ts) → Ran b (events_in (kept marks (causes ts))) m
+pub marked_ran : (es : List Event) (marks : ℕ → Bool) (c b last : List NodeRecord) (ts : List (Cause × EventOutcome)) (m : ℕ) → Agree marks c b → marks m ≡ true → run c es ≡ Some (last, ts) → Ran b (events_in (kept marks (causes ts))) m
 marked_ran [] marks c b last ts m a mark is =
-    subst (λ (z : List (Cause × Told)). Ran b (events_in (kept marks (causes z))) m) (ap (λ (z : List NodeRecord × List (Cause × Told)). z.1) (same_Some (c, []) (last, ts) is))
+    subst (λ (z : List (Cause × EventOutcome)). Ran b (events_in (kept marks (causes z))) m) (ap (λ (z : List NodeRecord × List (Cause × EventOutcome)). z.1) (same_Some (c, []) (last, ts) is))
     (record { now = b; led = refl; same = refl; none = refl })
 marked_ran (e ∷ es) marks c b last ts m a mark is =
     let f = first_of_run c e es last ts is in
-    subst (λ (z : List (Cause × Told)). Ran b (events_in (kept marks (causes z))) m) (sym f.all)
+    subst (λ (z : List (Cause × EventOutcome)). Ran b (events_in (kept marks (causes z))) m) (sym f.all)
     (go f (meets marks (cause_of c e)) refl
     (λ ms d ag mk. marked_ran es ms f.mid d last f.others m ag mk f.then))
   where
@@ -59,7 +59,7 @@ marked_ran (e ∷ es) marks c b last ts m a mark is =
         let apart : touches e m ≡ false = no_touch marks (cause_of c e) m met mark in
         record {
           now = r.now;
-          led = replay-cons b e (events_in (kept marks (causes f.others))) ∙ ap (λ (o : Option (List NodeRecord × Told)). option_and_then (λ first. replay first.0 (events_in (kept marks (causes f.others)))) o) s.done ∙ r.led;
+          led = replay-cons b e (events_in (kept marks (causes f.others))) ∙ ap (λ (o : Option (List NodeRecord × EventOutcome)). option_and_then (λ first. replay first.0 (events_in (kept marks (causes f.others)))) o) s.done ∙ r.led;
           same = (keeps_of b e s.mid f.told s.done).same m apart ∙ r.same;
           none = steps-cons m e (events_in (kept marks (causes f.others))) ∙ no_step (touches e m) (steps_of m (events_in (kept marks (causes f.others)))) 0 apart r.none;
         }
@@ -77,21 +77,21 @@ record Stand (c b : List NodeRecord) (es ks : List Event) (m : ℕ) : Type 0 whe
   same : record_at mid m ≡ record_at now m
 
 -- one event that both make
-stand_both : (c d b p : List NodeRecord) (e : Event) (t : Told) (es ks : List Event) (m : ℕ) → apply c e ≡ Some (d, t) → apply b e ≡ Some (p, t) → Stand d p es ks m → Stand c b (e ∷ es) (e ∷ ks) m
+stand_both : (c d b p : List NodeRecord) (e : Event) (t : EventOutcome) (es ks : List Event) (m : ℕ) → apply c e ≡ Some (d, t) → apply b e ≡ Some (p, t) → Stand d p es ks m → Stand c b (e ∷ es) (e ∷ ks) m
 stand_both c d b p e t es ks m h k s = record {
   now = s.now;
-  led = replay-cons b e ks ∙ ap (λ (o : Option (List NodeRecord × Told)). option_and_then (λ first. replay first.0 ks) o) k ∙ s.led;
+  led = replay-cons b e ks ∙ ap (λ (o : Option (List NodeRecord × EventOutcome)). option_and_then (λ first. replay first.0 ks) o) k ∙ s.led;
   first = e ∷ s.first;
   others = s.others;
   is = ap (λ (z : List Event). e ∷ z) s.is;
   mid = s.mid;
-  begun = replay-cons c e s.first ∙ ap (λ (o : Option (List NodeRecord × Told)). option_and_then (λ first. replay first.0 s.first) o) h ∙ s.begun;
+  begun = replay-cons c e s.first ∙ ap (λ (o : Option (List NodeRecord × EventOutcome)). option_and_then (λ first. replay first.0 s.first) o) h ∙ s.begun;
   count = steps-cons m e s.first ∙ ap (λ (z : ℕ). cond {A = ℕ} (touches e m) 1 0 + z) s.count ∙ sym (steps-cons m e ks);
   same = s.same;
 }
 
 -- one that is dropped and doesn't touch the node
-stand_past : (c d b : List NodeRecord) (e : Event) (t : Told) (es ks : List Event) (m : ℕ) → apply c e ≡ Some (d, t) → touches e m ≡ false → Stand d b es ks m → Stand c b (e ∷ es) ks m
+stand_past : (c d b : List NodeRecord) (e : Event) (t : EventOutcome) (es ks : List Event) (m : ℕ) → apply c e ≡ Some (d, t) → touches e m ≡ false → Stand d b es ks m → Stand c b (e ∷ es) ks m
 stand_past c d b e t es ks m h apart s = record {
   now = s.now;
   led = s.led;
@@ -99,7 +99,7 @@ stand_past c d b e t es ks m h apart s = record {
   others = s.others;
   is = ap (λ (z : List Event). e ∷ z) s.is;
   mid = s.mid;
-  begun = replay-cons c e s.first ∙ ap (λ (o : Option (List NodeRecord × Told)). option_and_then (λ first. replay first.0 s.first) o) h ∙ s.begun;
+  begun = replay-cons c e s.first ∙ ap (λ (o : Option (List NodeRecord × EventOutcome)). option_and_then (λ first. replay first.0 s.first) o) h ∙ s.begun;
   count = steps-cons m e s.first ∙ no_step (touches e m) (steps_of m s.first) (steps_of m ks) apart s.count;
   same = s.same;
 }
@@ -108,13 +108,13 @@ stand_past c d b e t es ks m h apart s = record {
 stand_here : (c b : List NodeRecord) (es ks : List Event) (m : ℕ) → record_at c m ≡ record_at b m → Ran b ks m → Stand c b es ks m
 stand_here c b es ks m at r = record { now = r.now; led = r.led; first = []; others = es; is = refl; mid = c; begun = refl; count = sym r.none; same = at ∙ r.same }
 
-stand_kept : (es : List Event) (marks : ℕ → Bool) (c b last : List NodeRecord) (ts : List (Cause × Told)) (m : ℕ) → Agree marks c b → marks m ≡ false → run c es ≡ Some (last, ts) → Stand c b es (events_in (kept marks (causes ts))) m
+stand_kept : (es : List Event) (marks : ℕ → Bool) (c b last : List NodeRecord) (ts : List (Cause × EventOutcome)) (m : ℕ) → Agree marks c b → marks m ≡ false → run c es ≡ Some (last, ts) → Stand c b es (events_in (kept marks (causes ts))) m
 stand_kept [] marks c b last ts m a free is =
-    subst (λ (z : List (Cause × Told)). Stand c b [] (events_in (kept marks (causes z))) m) (ap (λ (z : List NodeRecord × List (Cause × Told)). z.1) (same_Some (c, []) (last, ts) is))
+    subst (λ (z : List (Cause × EventOutcome)). Stand c b [] (events_in (kept marks (causes z))) m) (ap (λ (z : List NodeRecord × List (Cause × EventOutcome)). z.1) (same_Some (c, []) (last, ts) is))
     (stand_here c b [] [] m (a.same m free) (record { now = b; led = refl; same = refl; none = refl }))
 stand_kept (e ∷ es) marks c b last ts m a free is =
     let f = first_of_run c e es last ts is in
-    subst (λ (z : List (Cause × Told)). Stand c b (e ∷ es) (events_in (kept marks (causes z))) m) (sym f.all)
+    subst (λ (z : List (Cause × EventOutcome)). Stand c b (e ∷ es) (events_in (kept marks (causes z))) m) (sym f.all)
     (go f (meets marks (cause_of c e)) refl (λ ms d ag mk. stand_kept es ms f.mid d last f.others m ag mk f.then))
   where
     go : (f : FirstOf c e es last ts) (t : Bool) → meets marks (cause_of c e) ≡ t
@@ -131,22 +131,22 @@ stand_kept (e ∷ es) marks c b last ts m a free is =
         let s = same_of marks e c f.mid b f.told a met f.first in
         stand_both c f.mid b s.mid e f.told es (events_in (kept marks (causes f.others))) m f.first s.done (again marks s.mid s.agree free)
 
-stand_rest : (es : List Event) (i : ℕ) (c last : List NodeRecord) (ts : List (Cause × Told)) (m : ℕ) → run c es ≡ Some (last, ts) → Stand c c es (events_in (rest (causes ts) i)) m
+stand_rest : (es : List Event) (i : ℕ) (c last : List NodeRecord) (ts : List (Cause × EventOutcome)) (m : ℕ) → run c es ≡ Some (last, ts) → Stand c c es (events_in (rest (causes ts) i)) m
 stand_rest [] i c last ts m is =
-    subst (λ (z : List (Cause × Told)). Stand c c [] (events_in (rest (causes z) i)) m) (ap (λ (z : List NodeRecord × List (Cause × Told)). z.1) (same_Some (c, []) (last, ts) is))
+    subst (λ (z : List (Cause × EventOutcome)). Stand c c [] (events_in (rest (causes z) i)) m) (ap (λ (z : List NodeRecord × List (Cause × EventOutcome)). z.1) (same_Some (c, []) (last, ts) is))
     (stand_here c c [] [] m refl (record { now = c; led = refl; same = refl; none = refl }))
 stand_rest (e ∷ es) zero c last ts m is =
     let f = first_of_run c e es last ts is in
     let marks : ℕ → Bool = cause_touches (cause_of c e) in
     let ag : Agree marks f.mid c = Agree-sym marks c f.mid (keeps_of c e f.mid f.told f.first) in
-    subst (λ (z : List (Cause × Told)). Stand c c (e ∷ es) (events_in (rest (causes z) zero)) m) (sym f.all)
+    subst (λ (z : List (Cause × EventOutcome)). Stand c c (e ∷ es) (events_in (rest (causes z) zero)) m) (sym f.all)
     (elim (cases_Bool (touches e m)) [
       | inl t ↦ stand_here c c (e ∷ es) (events_in (kept marks (causes f.others))) m refl (marked_ran es marks f.mid c last f.others m ag t f.then)
       | inr free ↦ stand_past c f.mid c e f.told es (events_in (kept marks (causes f.others))) m f.first free (stand_kept es marks f.mid c last f.others m ag free f.then)
     ])
 stand_rest (e ∷ es) (suc i) c last ts m is =
     let f = first_of_run c e es last ts is in
-    subst (λ (z : List (Cause × Told)). Stand c c (e ∷ es) (events_in (rest (causes z) (suc i))) m) (sym f.all)
+    subst (λ (z : List (Cause × EventOutcome)). Stand c c (e ∷ es) (events_in (rest (causes z) (suc i))) m) (sym f.all)
     (stand_both c f.mid c f.mid e f.told es (events_in (rest (causes f.others) i)) m f.first f.first (stand_rest es i f.mid last f.others m f.then))
 
 -- ---- in the machine
@@ -174,7 +174,7 @@ stands_by s n k m ks left a =
     }
 
 pub stands_somewhere : (s : State) (n k m : ℕ) → IsSome (replay s.load s.kept) → Stands s n k m
-stands_somewhere s n k m some = go (place_of (causes_of s) n k) refl
+stands_somewhere s n k m some = go (position_of_step (causes_of s) n k) refl
   where
     r : Runs s
     r = runs_of s some
@@ -186,9 +186,9 @@ stands_somewhere s n k m some = go (place_of (causes_of s) n k) refl
     whole = record { now = r.last; led = chip; first = s.kept; others = []; is = sym (append-nil s.kept); mid = r.last; begun = chip; count = refl; same = refl }
       where
         chip : replay s.load s.kept ≡ Some r.last
-        chip = ap (λ (o : Option (List NodeRecord × List (Cause × Told))). option_map (λ z. z.0) o) r.run_is
+        chip = ap (λ (o : Option (List NodeRecord × List (Cause × EventOutcome))). option_map (λ z. z.0) o) r.run_is
 
-    go : (o : Option ℕ) → place_of (causes_of s) n k ≡ o → Stands s n k m
+    go : (o : Option ℕ) → position_of_step (causes_of s) n k ≡ o → Stands s n k m
     go None is = stands_by s n k m s.kept (ap (λ (o : Option ℕ). events_in (rest_from (causes_of s) o)) is ∙ replayed s some) whole
     go (Some i) is = stands_by s n k m (events_in (rest (causes r.told) i)) (ap (λ (o : Option ℕ). events_in (rest_from (causes_of s) o)) is ∙ ap (λ z. events_in (rest z i)) told) (stand_rest s.kept i s.load r.last r.told m r.run_is)
 

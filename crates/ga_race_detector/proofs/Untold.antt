@@ -25,16 +25,16 @@ use Rattle.ga_event.specs.Next.{next}
 use Rattle.ga_event.proofs.Nexts.{neighbour_of-within as neighbour_small}
 use Rattle.ga_lab.proofs.Forward.{made_is_next}
 use Rattle.ga_event.specs.Told.{steps_of, events_in}
-use Rattle.ga_causal.specs.Dependence.{rewound_list, NoneLooks}
+use Rattle.ga_causal.specs.Dependence.{rewound_list, HasNoLooks}
 use Rattle.ga_causal.proofs.Runs.{causes}
-use Rattle.ga_lab.specs.Machine.{State, first, chip_of, causes_of, history_of, told_by, rewound}
-use Rattle.ga_lab.specs.Calls.{MachineCall, called_all}
+use Rattle.ga_lab.specs.Machine.{State, initial_state, chip_of, causes_of, history_of, told_by, rewound}
+use Rattle.ga_lab.specs.Calls.{MachineCall, after_calls}
 use Rattle.ga_lab.proofs.Called.{Runs, chip_is, runs_some, first_runs, calls_load}
-use Rattle.ga_races.specs.Orders.{CanBe, AreOrders, IsAtEnd, HasNoRace, can_go}
+use Rattle.ga_races.specs.Orders.{IsEnabled, AreReorderings, IsTerminal, HasNoRace, has_event}
 use Rattle.ga_races.proofs.Orders.{beginning_within}
-use Rattle.ga_races.proofs.Rivals.{Open, open_of, one_side, one_way}
+use Rattle.ga_races.proofs.Conflicts.{Open, open_of, one_side, one_way}
 use Rattle.ga_races.proofs.Blind.{IsBlind, NoneShowsWithin, none_races_within}
-use Rattle.ga_race_detector.specs.Races.{offered_by, offered, race_from, races_over, races_around, races_told, races_at, races_before, races_of, races_below, races_asked, has_look, looks_next, has_next_look, has_looks, first_ready, IsOther}
+use Rattle.ga_race_detector.specs.Races.{offered_by, alternative_word, race_from, races_over, races_around, races_told, races_at, races_before, races_of, races_below, races_asked, has_look, looks_next, has_next_look, has_looks, first_ready, IsOther}
 use Rattle.ga_races.proofs.Ready.{none_of}
 use Rattle.ga_race_detector.proofs.Offering.{on_the_way, same_end, no_next, is_offered}
 use Rattle.std.proofs.lemmas.List.Elements.{All-nil, All-append}
@@ -74,12 +74,12 @@ pub record Offer (chip : List NodeRecord) (r : ℕ) (side : Side) : Type 0 where
   pub writer : ℕ
   pub word : ℕ
   pub near : neighbour_of r side ≡ Some writer
-  pub is : offered chip r side ≡ Some word
+  pub is : alternative_word chip r side ≡ Some word
   pub writes : writes_to (record_at chip writer).wait side ≡ true
   pub reads : reads_from (record_at chip r).wait side ≡ true
   pub carries : word ≡ t (record_at chip writer)
 
-pub offer_of : (chip : List NodeRecord) (r : ℕ) (side : Side) → IsSome (offered chip r side) → Offer chip r side
+pub offer_of : (chip : List NodeRecord) (r : ℕ) (side : Side) → IsSome (alternative_word chip r side) → Offer chip r side
 offer_of chip r side some = go (neighbour_of r side) refl some
   where
     at : (w : ℕ) → neighbour_of r side ≡ Some w → (b : Bool) → (writes_to (record_at chip w).wait side && reads_from (record_at chip r).wait side) ≡ b
@@ -119,7 +119,7 @@ same_writer : (s : State) (r : NodeId) (k : ℕ) (w : NodeId) (word : ℕ) (side
     → races_over s r k w word side ≡ [] → o.writer ≡ w.number
 same_writer s r k w word side o none =
     go (o.writer == w.number) refl
-    (sym (ap (λ (z : Option ℕ). race_from r k w word z (offered (chip_of (rewound s r.number k)) r.number side)) o.near ∙ ap (race_from r k w word (Some o.writer)) o.is) ∙ none)
+    (sym (ap (λ (z : Option ℕ). race_from r k w word z (alternative_word (chip_of (rewound s r.number k)) r.number side)) o.near ∙ ap (race_from r k w word (Some o.writer)) o.is) ∙ none)
   where
     go : (b : Bool) → (o.writer == w.number) ≡ b
         → cond {A = List Race} b [] (record { reader = r; step = k; writer = w; word = word; other = node_id o.writer; offered = o.word } ∷ []) ≡ [] → o.writer ≡ w.number
@@ -148,11 +148,11 @@ over_any s r k w word side h = at side
     at Up = right_none left up (right_none down (left ++ up) (right_none right (down ++ (left ++ up)) h))
 
 -- the two sides are one
-one_offer : (s : State) (r : NodeId) (k : ℕ) (m : Made) (e : Event) (mid : List NodeRecord) (side other : Side) → IsOf m e → CanBe mid e → touches e r.number ≡ true
+one_offer : (s : State) (r : NodeId) (k : ℕ) (m : Made) (e : Event) (mid : List NodeRecord) (side other : Side) → IsOf m e → IsEnabled mid e → touches e r.number ≡ true
     → record_at mid r.number ≡ record_at (chip_of (rewound s r.number k)) r.number → races_told s r k (Some m) ≡ []
     → Offer (chip_of (rewound s r.number k)) r.number side → Offer (chip_of (rewound s r.number k)) r.number other → side ≡ other
 one_offer s r k (made.Own n j kind) e mid side other of can touch same none p q =
-    let own : CanBe mid (event.Own of.0) = subst (λ (z : Event). CanBe mid z) of.1 can in
+    let own : IsEnabled mid (event.Own of.0) = subst (λ (z : Event). IsEnabled mid z) of.1 can in
     let here : of.0.number ≡ r.number = own_touched of.0.number r.number (subst (λ (z : Event). touches z r.number ≡ true) of.1 touch) in
     let free : refusal (record_at mid r.number) ≡ None = subst (λ (z : ℕ). refusal (record_at mid z) ≡ None) here own in
     absurd (reads_none (record_at mid r.number).wait (record_at mid r.number).stop side free (subst (λ (z : NodeRecord). reads_from z.wait side ≡ true) (sym same) p.reads))
@@ -160,7 +160,7 @@ one_offer s r k (made.Pass w i x j word) e mid side other of can touch same none
     go (x.number == r.number) refl none
   where
     open_ : Open mid w x of.0
-    open_ = open_of mid w x of.0 (subst (λ (z : Event). CanBe mid z) of.1 can)
+    open_ = open_of mid w x of.0 (subst (λ (z : Event). IsEnabled mid z) of.1 can)
 
     writer_here : (x.number == r.number) ≡ false → w.number ≡ r.number
     writer_here not = elim (or_cases (w.number == r.number) ((x.number == r.number) || false) (subst (λ (z : Event). touches z r.number ≡ true) of.1 touch)) [
@@ -181,7 +181,7 @@ one_offer s r k (made.Pass w i x j word) e mid side other of can touch same none
 
 -- no two words are offered after a rollback of a step that exists
 none_two : (s : State) → Runs s → races_asked s None ≡ [] → (r : NodeId) (p : ℕ) (side other : Side) → p < steps_of r.number s.kept
-    → IsSome (offered (chip_of (rewound s r.number (suc p))) r.number side) → IsSome (offered (chip_of (rewound s r.number (suc p))) r.number other) → side ≡ other
+    → IsSome (alternative_word (chip_of (rewound s r.number (suc p))) r.number side) → IsSome (alternative_word (chip_of (rewound s r.number (suc p))) r.number other) → side ≡ other
 none_two s runs none r p side other within so si =
     one_offer s r (suc p) b.made b.event b.mid side other b.of b.can b.touch b.same told (offer_of chip r.number side so) (offer_of chip r.number other si)
   where
@@ -199,7 +199,7 @@ none_two s runs none r p side other within so si =
 
 -- ---- nothing looks
 
-none_look : (causes : List Cause) → has_look causes ≡ false → NoneLooks causes
+none_look : (causes : List Cause) → has_look causes ≡ false → HasNoLooks causes
 unfolding has_look
 none_look [] h = tt
 none_look (c ∷ cs) h = let p : (c.look ≡ false) × (has_look cs ≡ false) = or_parts c.look (has_look cs) h in (p.0, none_look cs p.1)
@@ -216,14 +216,14 @@ blind chip h (event.Own a) can =
     sym (ap (λ z. is_none z && looks (record_at chip a.number)) can) ∙ none_next chip 144 a.number h a.in_range
 blind chip h (event.Pass w r side) can = refl
 
-at_end : (chip : List NodeRecord) → first_ready chip ≡ None → IsAtEnd chip
+at_end : (chip : List NodeRecord) → first_ready chip ≡ None → IsTerminal chip
 at_end chip h = (no_next chip).1 none
   where
-    go : (n : NodeId) (e : Event) → next chip n ≡ Ok e → can_go chip n.number ≡ true
+    go : (n : NodeId) (e : Event) → next chip n ≡ Ok e → has_event chip n.number ≡ true
     go n e is = let l : n.number < 144 = n.in_range in let q : node_id n.number ≡ n = node_id-number n in grind (arith, lt-ltb)
 
-    idle : (n : NodeId) → can_go chip n.number ≡ false
-    idle n = (let q : n.number ≡ (0 + n.number) % 144 = (let l : n.number < 144 = n.in_range in omega (arith, l)) in ap (can_go chip) q) ∙ none_of (can_go chip) 0 144 n.number h n.in_range
+    idle : (n : NodeId) → has_event chip n.number ≡ false
+    idle n = (let q : n.number ≡ (0 + n.number) % 144 = (let l : n.number < 144 = n.in_range in omega (arith, l)) in ap (has_event chip) q) ∙ none_of (has_event chip) 0 144 n.number h n.in_range
 
     none : (n : NodeId) (e : Event) → next chip n ≡ Ok e → ⊥
     none n e is = true≢false (sym (go n e is) ∙ idle n)
@@ -233,7 +233,7 @@ at_end chip h = (no_next chip).1 none
 -- what is reported of a session: no step, and that nothing looks
 pub no_race : (s : State) → Runs s → races_asked s None ≡ [] → has_looks (causes_of s) (chip_of s) ≡ false → HasNoRace s.load s.kept
 no_race s runs none calm =
-    none_races_within s.load runs.last s.kept runs.told runs.run_is (subst (λ z. NoneLooks z) told_all (none_look (causes_of s) p.0))
+    none_races_within s.load runs.last s.kept runs.told runs.run_is (subst (λ z. HasNoLooks z) told_all (none_look (causes_of s) p.0))
     (subst (λ z. IsBlind z) (chip_is s runs) (blind (chip_of s) p.1)) free
   where
     p : (has_look (causes_of s) ≡ false) × (has_next_look (chip_of s) 144 ≡ false)
@@ -248,44 +248,44 @@ no_race s runs none calm =
         let here : replay s.load (rewound s r.number (suc k)).kept ≡ Some now = ap (λ z. replay s.load (events_in (rewound_list z r.number (suc k)))) told_all ∙ led in
         let at : now ≡ chip_of (rewound s r.number (suc k)) = sym (chip_at (replay s.load (rewound s r.number (suc k)).kept) now here) in
         ne (none_two s runs none r k side other (omega (arith, within))
-        (subst (λ z. IsSome (offered z r.number side)) at (is_offered now w r side canp))
-        (subst (λ z. IsSome (offered z r.number other)) at (is_offered now x r other canq)))
+        (subst (λ z. IsSome (alternative_word z r.number side)) at (is_offered now w r side canp))
+        (subst (λ z. IsSome (alternative_word z r.number other)) at (is_offered now x r other canq)))
 
-calm_session : (load : List NodeRecord) (limit : ℕ) (calls : List MachineCall) → races_asked (called_all (first load limit) calls) None ≡ []
-    → has_looks (causes_of (called_all (first load limit) calls)) (chip_of (called_all (first load limit) calls)) ≡ false → HasNoRace load (called_all (first load limit) calls).kept
+calm_session : (load : List NodeRecord) (limit : ℕ) (calls : List MachineCall) → races_asked (after_calls (initial_state load limit) calls) None ≡ []
+    → has_looks (causes_of (after_calls (initial_state load limit) calls)) (chip_of (after_calls (initial_state load limit) calls)) ≡ false → HasNoRace load (after_calls (initial_state load limit) calls).kept
 calm_session load limit calls none calm =
-    let s = called_all (first load limit) calls in
-    subst (λ z. HasNoRace z s.kept) (calls_load (first load limit) calls) (no_race s (first_runs load limit calls) none calm)
+    let s = after_calls (initial_state load limit) calls in
+    subst (λ z. HasNoRace z s.kept) (calls_load (initial_state load limit) calls) (no_race s (first_runs load limit calls) none calm)
 
-pub every_way : (load : List NodeRecord) (limit bound : ℕ) (calls others : List MachineCall) → races_asked (called_all (first load limit) calls) None ≡ []
-    → has_looks (causes_of (called_all (first load limit) calls)) (chip_of (called_all (first load limit) calls)) ≡ false → first_ready (chip_of (called_all (first load limit) calls)) ≡ None
-    → (later : List Event) × AreOrders load (called_all (first load limit) calls).kept ((called_all (first load bound) others).kept ++ later)
+pub every_way : (load : List NodeRecord) (limit bound : ℕ) (calls others : List MachineCall) → races_asked (after_calls (initial_state load limit) calls) None ≡ []
+    → has_looks (causes_of (after_calls (initial_state load limit) calls)) (chip_of (after_calls (initial_state load limit) calls)) ≡ false → first_ready (chip_of (after_calls (initial_state load limit) calls)) ≡ None
+    → (later : List Event) × AreReorderings load (after_calls (initial_state load limit) calls).kept ((after_calls (initial_state load bound) others).kept ++ later)
 every_way load limit bound calls others none calm quiet =
-    on_the_way load limit bound calls others (calm_session load limit calls none calm) (at_end (chip_of (called_all (first load limit) calls)) quiet)
+    on_the_way load limit bound calls others (calm_session load limit calls none calm) (at_end (chip_of (after_calls (initial_state load limit) calls)) quiet)
 
-pub every_end : (load : List NodeRecord) (limit bound : ℕ) (calls others : List MachineCall) → races_asked (called_all (first load limit) calls) None ≡ []
-    → has_looks (causes_of (called_all (first load limit) calls)) (chip_of (called_all (first load limit) calls)) ≡ false → first_ready (chip_of (called_all (first load limit) calls)) ≡ None
-    → first_ready (chip_of (called_all (first load bound) others)) ≡ None → chip_of (called_all (first load bound) others) ≡ chip_of (called_all (first load limit) calls)
+pub every_end : (load : List NodeRecord) (limit bound : ℕ) (calls others : List MachineCall) → races_asked (after_calls (initial_state load limit) calls) None ≡ []
+    → has_looks (causes_of (after_calls (initial_state load limit) calls)) (chip_of (after_calls (initial_state load limit) calls)) ≡ false → first_ready (chip_of (after_calls (initial_state load limit) calls)) ≡ None
+    → first_ready (chip_of (after_calls (initial_state load bound) others)) ≡ None → chip_of (after_calls (initial_state load bound) others) ≡ chip_of (after_calls (initial_state load limit) calls)
 every_end load limit bound calls others none calm quiet stop =
-    same_end load limit bound calls others (calm_session load limit calls none calm) (at_end (chip_of (called_all (first load limit) calls)) quiet) (at_end (chip_of (called_all (first load bound) others)) stop)
+    same_end load limit bound calls others (calm_session load limit calls none calm) (at_end (chip_of (after_calls (initial_state load limit) calls)) quiet) (at_end (chip_of (after_calls (initial_state load bound) others)) stop)
 
-pub no_other : (load : List NodeRecord) (limit bound : ℕ) (calls others : List MachineCall) → races_asked (called_all (first load limit) calls) None ≡ []
-    → has_looks (causes_of (called_all (first load limit) calls)) (chip_of (called_all (first load limit) calls)) ≡ false
-    → ((n : ℕ) → steps_of n (called_all (first load bound) others).kept ≤ steps_of n (called_all (first load limit) calls).kept)
-    → (later : List Event) × AreOrders load (called_all (first load limit) calls).kept ((called_all (first load bound) others).kept ++ later)
+pub no_other : (load : List NodeRecord) (limit bound : ℕ) (calls others : List MachineCall) → races_asked (after_calls (initial_state load limit) calls) None ≡ []
+    → has_looks (causes_of (after_calls (initial_state load limit) calls)) (chip_of (after_calls (initial_state load limit) calls)) ≡ false
+    → ((n : ℕ) → steps_of n (after_calls (initial_state load bound) others).kept ≤ steps_of n (after_calls (initial_state load limit) calls).kept)
+    → (later : List Event) × AreReorderings load (after_calls (initial_state load limit) calls).kept ((after_calls (initial_state load bound) others).kept ++ later)
 no_other load limit bound calls others none calm few =
-    let s = called_all (first load limit) calls in
-    let z = called_all (first load bound) others in
+    let s = after_calls (initial_state load limit) calls in
+    let z = after_calls (initial_state load bound) others in
     beginning_within load s.kept z.kept (some_from load limit calls) (calm_session load limit calls none calm) (some_from load bound others) few
   where
-    some_from : (load : List NodeRecord) (limit : ℕ) (calls : List MachineCall) → IsSome (replay load (called_all (first load limit) calls).kept)
+    some_from : (load : List NodeRecord) (limit : ℕ) (calls : List MachineCall) → IsSome (replay load (after_calls (initial_state load limit) calls).kept)
     some_from load limit calls =
-        subst (λ z. IsSome (replay z (called_all (first load limit) calls).kept)) (calls_load (first load limit) calls) (runs_some (called_all (first load limit) calls) (first_runs load limit calls))
+        subst (λ z. IsSome (replay z (after_calls (initial_state load limit) calls).kept)) (calls_load (initial_state load limit) calls) (runs_some (after_calls (initial_state load limit) calls) (first_runs load limit calls))
 
 -- ---- each reported race is one
 
 can_pass : (chip : List NodeRecord) (w r : NodeId) (side : Side) → neighbour_of r.number side ≡ Some w.number → writes_to (record_at chip w.number).wait side ≡ true
-    → reads_from (record_at chip r.number).wait side ≡ true → CanBe chip (event.Pass w r side)
+    → reads_from (record_at chip r.number).wait side ≡ true → IsEnabled chip (event.Pass w r side)
 can_pass chip w r side near writes reads =
     let there : neighbour_of w.number side ≡ Some r.number = neighbour_of-back r.number w.number side r.in_range near in
     let is : is_number (neighbour_of w.number side) r.number ≡ true = ap (λ (o : Option ℕ). is_number o r.number) there ∙ (let q : (r.number == r.number) ≡ true = grind (arith, eq-eqb) in q) in
@@ -299,12 +299,12 @@ all_one P x p (suc k) d l = absurd (omega (arith, l))
 
 over_made : (s : State) (r : NodeId) (k : ℕ) (w : NodeId) (word : ℕ) (side : Side) → All (IsOther s) (races_over s r k w word side)
 over_made s r k w word side =
-    go (neighbour_of r.number side) refl (offered (chip_of (rewound s r.number k)) r.number side) refl
+    go (neighbour_of r.number side) refl (alternative_word (chip_of (rewound s r.number k)) r.number side) refl
   where
     chip : List NodeRecord
     chip = chip_of (rewound s r.number k)
 
-    at : (x o : ℕ) → neighbour_of r.number side ≡ Some x → offered chip r.number side ≡ Some o → (b : Bool) → (x == w.number) ≡ b
+    at : (x o : ℕ) → neighbour_of r.number side ≡ Some x → alternative_word chip r.number side ≡ Some o → (b : Bool) → (x == w.number) ≡ b
         → All (IsOther s) (cond {A = List Race} b [] (record { reader = r; step = k; writer = w; word = word; other = node_id x; offered = o } ∷ []))
     at x o near is true same = All-nil (IsOther s)
     at x o near is false same =
@@ -321,7 +321,7 @@ over_made s r k w word side =
           differ = λ q. true≢false (sym (let e : (x == w.number) ≡ true = eq-eqb x w.number (sym number ∙ q) in e) ∙ same);
         })
 
-    go : (o : Option ℕ) → neighbour_of r.number side ≡ o → (u : Option ℕ) → offered chip r.number side ≡ u → All (IsOther s) (race_from r k w word o u)
+    go : (o : Option ℕ) → neighbour_of r.number side ≡ o → (u : Option ℕ) → alternative_word chip r.number side ≡ u → All (IsOther s) (race_from r k w word o u)
     go None near u is = All-nil (IsOther s)
     go (Some x) near None is = All-nil (IsOther s)
     go (Some x) near (Some o) is = at x o near is (x == w.number) refl

@@ -1,7 +1,7 @@
 -- Races: a node took a word, and another neighbour could have given it one in its place. Which it was depended on the order in
 -- which nodes happened to run (after Netzer and Miller, "Optimal tracing and replay for debugging message-passing parallel
 -- programs", 1992, who speak of messages). Without looks these are all races of the history: laws `every_order` and
--- `no_other_order`.
+-- `race_free_within_steps`.
 use Rattle.ga_event.specs.declared.event.Event.TheVariants as event
 use Rattle.ga_event.specs.declared.made.Made.TheVariants as made
 use Rattle.std.specs.Prelude.{ℕ, ◌&&◌, if◌then◌else◌, List, Option, Some, None, ◌≡◌, ◌≢◌, zero, suc, ◌+◌, ◌==◌, Bool, false, ◌||◌, [], ◌∷◌, ◌++◌, is_none, Ok}
@@ -20,22 +20,22 @@ use Rattle.ga_event.specs.declared.made.Made.{Made}
 use Rattle.ga_event.specs.Told.{steps_of}
 use Rattle.ga_lab.specs.Machine.{State, chip_of, history_of, rewound}
 use Rattle.ga_race_detector.specs.declared.races.Race.{Race}
-use Rattle.ga_races.specs.Orders.{can_go, first_in}
+use Rattle.ga_races.specs.Orders.{has_event, first_in}
 
 -- ---- the words that the neighbours of a node wait to give it
 
 -- the word that a writer waits to give a reader over a side, where that waits for it there
-abbrev pub given : NodeRecord → NodeRecord → Side → Option ℕ
-given reader writer side = if writes_to writer.wait side && reads_from reader.wait side then Some (t writer) else None
+abbrev pub word_offered_to : NodeRecord → NodeRecord → Side → Option ℕ
+word_offered_to reader writer side = if writes_to writer.wait side && reads_from reader.wait side then Some (t writer) else None
 
 -- the word that the neighbour of this number waits to give a node over a side, if there is such a neighbour
 abbrev pub offered_by : List NodeRecord → ℕ → Side → Option ℕ → Option ℕ
 offered_by chip reader side None = None
-offered_by chip reader side (Some writer) = given (record_at chip reader) (record_at chip writer) side
+offered_by chip reader side (Some writer) = word_offered_to (record_at chip reader) (record_at chip writer) side
 
 -- the word that can come over a side of a node
-abbrev pub offered : List NodeRecord → ℕ → Side → Option ℕ
-offered chip reader side = offered_by chip reader side (neighbour_of reader side)
+abbrev pub alternative_word : List NodeRecord → ℕ → Side → Option ℕ
+alternative_word chip reader side = offered_by chip reader side (neighbour_of reader side)
 
 -- the word that a neighbour would give the node, in place of the one that came from this writer
 abbrev pub race_from : NodeId → ℕ → NodeId → ℕ → Option ℕ → Option ℕ → List Race
@@ -48,7 +48,7 @@ race_from reader step writer word (Some other) (Some offer) =
 -- the race of a step that took a word, of the other word that a rollback of the step leaves offered over a side of the node
 abbrev pub races_over : State → NodeId → ℕ → NodeId → ℕ → Side → List Race
 races_over s reader step writer word side =
-    race_from reader step writer word (neighbour_of reader.number side) (offered (chip_of (rewound s reader.number step)) reader.number side)
+    race_from reader step writer word (neighbour_of reader.number side) (alternative_word (chip_of (rewound s reader.number step)) reader.number side)
 
 -- the races of a step that took a word, of the other words that a rollback of the step leaves offered over the sides of the
 -- node
@@ -105,7 +105,7 @@ has_looks causes chip = has_look causes || has_next_look chip 144
 
 -- the first node that has an event
 abbrev pub first_ready : List NodeRecord → Option NodeId
-first_ready chip = first_in (can_go chip) 0 144
+first_ready chip = first_in (has_event chip) 0 144
 
 -- after a rollback of the step, a step of the other neighbour transfers the other word to the node
 pub record IsOther (s : State) (race : Race) : Type 0 where

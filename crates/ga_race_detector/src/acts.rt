@@ -6,7 +6,7 @@ ghost use Rattle.ga_node.specs.State.{wait_of, IsWaitCode};
 ghost use Rattle.ga_grid.specs.Grid.{neighbour_of};
 ghost use Rattle.ga_ports.specs.declared.side.Side.{Side};
 ghost use Rattle.ga_grid.specs.Chip.{record_at};
-ghost use Rattle.ga_event.specs.Apply.{writes_to, shows, beside_in, seen_from, replay};
+ghost use Rattle.ga_event.specs.Apply.{writes_to, shows, beside_in, neighbour_states, replay};
 ghost use Rattle.ga_event.specs.Told.{steps_of};
 ghost use Rattle.ga_races.specs.HappensBefore.{causes_in, actions};
 ghost use Rattle.ga_races.specs.Acts.{actions_in};
@@ -15,12 +15,12 @@ ghost use Rattle.ga_lab.specs.Machine.{State, chip_of, causes_of, earlier};
 ghost use Rattle.ga_race_detector.specs.inner.Glances.{StoodSo, AllStood, IsAt, IsActAt, IsMoment, AreMoments};
 
 use crate::adding::add;
-use crate::moments::{Moment, first_part, last_part, no_moments};
+use crate::moments::{StepCounts, first_part, last_part, no_moments};
 use crate::writers::reads_by;
 use ga_event::{Cause, Event};
 use ga_grid::{NodeId, neighbour};
 use ga_lab::{Lab, LabFault};
-use ga_node::{Beside, Place, Seen};
+use ga_node::{NeighbourState, Place, Seen};
 use ga_ports::Side;
 use ga_races::{EventAccess, Sides};
 use ga_word::Word18;
@@ -28,11 +28,11 @@ use std::alloc::Global;
 
 /// The events of the history in order.
 #[derive(Drop)]
-pub(crate) struct Acts {
+pub(crate) struct KeptAccesses {
     /// The events of the history in order, each with its changes of what the neighbours of its nodes are shown.
     pub(crate) list: Vec<EventAccess>,
     /// The state before each event of the history.
-    pub(crate) moments: Vec<Moment>,
+    pub(crate) moments: Vec<StepCounts>,
 }
 
 // Of each node the number of its wait, and how many steps it had made, after a number of the events of the history.
@@ -80,16 +80,16 @@ fn shown(wait: u32, side: Side) -> u8
 }
 
 /// What a node whose wait has this number shows on a side.
-pub(crate) fn shown_by(code: u32, side: Side) -> Beside
+pub(crate) fn shown_by(code: u32, side: Side) -> NeighbourState
     requires { IsWaitCode code }
     ensures { result ≡ shows (wait_of code) side }
 {
     if reads_by(code, side) {
-        Beside::Reading
+        NeighbourState::Reading
     } else if writes_by(code, side) {
-        Beside::Writing
+        NeighbourState::Writing
     } else {
-        Beside::Idle
+        NeighbourState::Idle
     }
 }
 
@@ -184,22 +184,22 @@ impl Behind {
     }
 
     // The state of a node's neighbour on a side.
-    fn beside(&self, node: NodeId, side: Side) -> Beside
+    fn beside(&self, node: NodeId, side: Side) -> NeighbourState
         requires { (m : ℕ) → m < 144 → IsWaitCode (slice_index self.now.waits m) }
         ensures { (s : State) (p : ℕ) → AllStood s p self.now.waits self.now.steps →
             result ≡ beside_in (chip_of (earlier s p)) side (neighbour_of node.number side) }
     {
         match neighbour(node, side) {
             Some(other) => shown_by(self.wait_at(other), side),
-            None => Beside::Nobody,
+            None => NeighbourState::Nobody,
         }
     }
 
     // The states of a node's neighbours on each side.
-    #[tactic(auto, unfolding(ga_event::specs::Apply::seen_from))]
+    #[tactic(auto, unfolding(ga_event::specs::Apply::neighbour_states))]
     fn seen(&self, node: NodeId) -> Seen
         requires { (m : ℕ) → m < 144 → IsWaitCode (slice_index self.now.waits m) }
-        ensures { (s : State) (p : ℕ) → AllStood s p self.now.waits self.now.steps → result ≡ seen_from (chip_of (earlier s p)) node.number }
+        ensures { (s : State) (p : ℕ) → AllStood s p self.now.waits self.now.steps → result ≡ neighbour_states (chip_of (earlier s p)) node.number }
     {
         Seen {
             right: self.beside(node, Side::Right),
@@ -213,7 +213,7 @@ impl Behind {
     fn word(&self, node: NodeId, look: bool) -> Word18
         requires { (m : ℕ) → m < 144 → IsWaitCode (slice_index self.now.waits m) }
         ensures { look ≡ true → (s : State) (p : ℕ) → AllStood s p self.now.waits self.now.steps →
-            result ≡ io_word (seen_from (chip_of (earlier s p)) node.number) }
+            result ≡ io_word (neighbour_states (chip_of (earlier s p)) node.number) }
     {
         if !look {
             return Word18::truncated(0);
@@ -222,7 +222,7 @@ impl Behind {
     }
 
     // How many steps the nodes of an event had made before it, and the word that it reads in `io` if it looks.
-    fn moment(&self, cause: &Cause) -> Moment
+    fn moment(&self, cause: &Cause) -> StepCounts
         requires { (m : ℕ) → m < 144 → IsWaitCode (slice_index self.now.waits m) }
         ensures { (s : State) (p : ℕ) → AllStood s p self.now.waits self.now.steps → IsMoment s p cause.now result }
     {
@@ -231,7 +231,7 @@ impl Behind {
         let first = self.steps_at(node);
         let last = self.steps_at(other);
         let word = self.word(node, cause.look);
-        Moment { first, last, word }
+        StepCounts { first, last, word }
     }
 
     // Walks back over the last step of a node, and returns on which sides it changed what the node shows.
@@ -341,7 +341,11 @@ fn plain_acts(alloc: Global, causes: &[Cause]) -> Result<Vec<EventAccess>, LabFa
 ///
 /// # Errors
 /// `Memory` alone.
-pub(crate) fn acts_of(alloc: Global, lab: &Lab, causes: &[Cause]) -> Result<Acts, LabFault>
+pub(crate) fn kept_accesses(
+    alloc: Global,
+    lab: &Lab,
+    causes: &[Cause],
+) -> Result<KeptAccesses, LabFault>
     requires all { causes.now ≡ causes_of lab.now }
     ensures size { IfOk result (λ acts. length acts.list.items ≡ length causes.now) }
     ensures alike { IfOk result (λ acts. AreAlike (actions_in acts.list.items) (actions lab.now.load lab.now.kept)) }
@@ -361,7 +365,7 @@ pub(crate) fn acts_of(alloc: Global, lab: &Lab, causes: &[Cause]) -> Result<Acts
         acts[place] = act;
         moments[place] = moment;
     }
-    Ok(Acts {
+    Ok(KeptAccesses {
         list: acts,
         moments,
     })

@@ -6,7 +6,7 @@ ghost use Rattle.ga_event.specs.declared.event.Cause.{Cause};
 ghost use Rattle.ga_causal.specs.Steps.{touching};
 ghost use Rattle.ga_race_detector.specs.inner.Glances.{around_over, lists_over, IsAround, AreAround};
 
-use crate::left::{Depths, LeftOf, with_step};
+use crate::left::{Depths, StepsLeft, with_step};
 use ga_event::Cause;
 use ga_grid::{NodeId, neighbour};
 use ga_lab::LabFault;
@@ -26,7 +26,7 @@ pub(crate) struct Around {
 
 /// How many steps of a node and of each of its neighbours would be left, for a rollback of each step of one node.
 #[derive(Drop)]
-pub(crate) struct LeftAround {
+pub(crate) struct StepsLeftNearby {
     node: Vec<u32>,
     right: Vec<u32>,
     down: Vec<u32>,
@@ -71,11 +71,11 @@ fn beside_or(node: NodeId, side: Side) -> NodeId
 // itself takes its place.
 #[derive(Drop)]
 struct Sweep {
-    here: LeftOf,
-    right: LeftOf,
-    down: LeftOf,
-    left: LeftOf,
-    up: LeftOf,
+    here: StepsLeft,
+    right: StepsLeft,
+    down: StepsLeft,
+    left: StepsLeft,
+    up: StepsLeft,
 }
 
 impl Sweep {
@@ -93,11 +93,11 @@ impl Sweep {
         let left = beside_or(node, Side::Left);
         let up = beside_or(node, Side::Up);
         Sweep {
-            here: LeftOf::none(alloc, node),
-            right: LeftOf::none(alloc, right),
-            down: LeftOf::none(alloc, down),
-            left: LeftOf::none(alloc, left),
-            up: LeftOf::none(alloc, up),
+            here: StepsLeft::none(alloc, node),
+            right: StepsLeft::none(alloc, right),
+            down: StepsLeft::none(alloc, down),
+            left: StepsLeft::none(alloc, left),
+            up: StepsLeft::none(alloc, up),
         }
     }
 
@@ -130,7 +130,7 @@ impl Sweep {
     }
 
     // The lists after the last event, where the node whose steps are rolled back made `made` steps.
-    fn end(self, made: u32) -> Result<LeftAround, LabFault>
+    fn end(self, made: u32) -> Result<StepsLeftNearby, LabFault>
         ensures here { IfOk result (λ lists. IsFilled self.here.list.items lists.node.items made self.here.count) }
         ensures beside { IfOk result (λ lists. (side : Side) →
             IsFilled (sweep_over self side).list.items (lists_over lists side) made (sweep_over self side).count) }
@@ -148,7 +148,7 @@ impl Sweep {
         let down = down.end(made)?;
         let left = left.end(made)?;
         let up = up.end(made)?;
-        Ok(LeftAround {
+        Ok(StepsLeftNearby {
             node,
             right,
             down,
@@ -158,7 +158,7 @@ impl Sweep {
     }
 }
 
-impl LeftAround {
+impl StepsLeftNearby {
     /// How many steps of `node` and its neighbours would be left, for a rollback of each step of `from`. Takes memory linear in
     /// the number of these steps, and time linear in the number of events.
     ///

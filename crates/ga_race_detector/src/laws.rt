@@ -8,41 +8,41 @@ ghost use Rattle.ga_grid.specs.declared.node_id.NodeId.{NodeId};
 ghost use Rattle.ga_event.specs.declared.event.Event.{Event};
 ghost use Rattle.ga_event.specs.Told.{steps_of};
 ghost use Rattle.ga_event.specs.Next.{next};
-ghost use Rattle.ga_causal.specs.Dependence.{NoneLooks};
-ghost use Rattle.ga_races.specs.Orders.{AreOrders, IsAtEnd, HasNoRace};
-ghost use Rattle.ga_lab.specs.Machine.{State, first, chip_of, causes_of, rewound};
-ghost use Rattle.ga_lab.specs.Calls.{MachineCall, called_all, IsReached};
-ghost use Rattle.ga_race_detector.specs.Races.{offered, races_asked, has_looks, first_ready, IsOther};
+ghost use Rattle.ga_causal.specs.Dependence.{HasNoLooks};
+ghost use Rattle.ga_races.specs.Orders.{AreReorderings, IsTerminal, HasNoRace};
+ghost use Rattle.ga_lab.specs.Machine.{State, initial_state, chip_of, causes_of, rewound};
+ghost use Rattle.ga_lab.specs.Calls.{MachineCall, after_calls, IsReached};
+ghost use Rattle.ga_race_detector.specs.Races.{alternative_word, races_asked, has_looks, first_ready, IsOther};
 
 /// If the history of one session has no race, and no node of its chip has an event, every other session from that load,
 /// whatever was stepped, undone or rewound in it, is on the way there: its history can be continued to that of the first in
 /// another order. Once no node has an event there either, its chip is the same: the nodes that are stopped are stopped in both.
 #[tactic(auto, using(crate::proofs::Offering::on_the_way, crate::proofs::Offering::same_end))]
-pub fn any_session()
+pub fn race_free_session_covers_all()
     ensures way { (load : List NodeRecord) (limit bound : ℕ) (calls others : List MachineCall) →
-        let s = called_all (first load limit) calls in
-        let z = called_all (first load bound) others in
-        HasNoRace load s.kept → IsAtEnd (chip_of s) →
-        (later : List Event) × AreOrders load s.kept (z.kept ++ later) }
+        let s = after_calls (initial_state load limit) calls in
+        let z = after_calls (initial_state load bound) others in
+        HasNoRace load s.kept → IsTerminal (chip_of s) →
+        (later : List Event) × AreReorderings load s.kept (z.kept ++ later) }
     ensures chip { (load : List NodeRecord) (limit bound : ℕ) (calls others : List MachineCall) →
-        let s = called_all (first load limit) calls in
-        let z = called_all (first load bound) others in
-        HasNoRace load s.kept → IsAtEnd (chip_of s) → IsAtEnd (chip_of z) → chip_of z ≡ chip_of s }
+        let s = after_calls (initial_state load limit) calls in
+        let z = after_calls (initial_state load bound) others in
+        HasNoRace load s.kept → IsTerminal (chip_of s) → IsTerminal (chip_of z) → chip_of z ≡ chip_of s }
 {}
 
 /// No event is enabled exactly if no node has a next one: if each `step` is refused.
-pub fn ends()
+pub fn terminal_iff_no_next_event()
     ensures { (chip : List NodeRecord) →
-        (IsAtEnd chip ↔ ((n : NodeId) (event : Event) → next chip n ≡ Ok event → ⊥)) }
+        (IsTerminal chip ↔ ((n : NodeId) (event : Event) → next chip n ≡ Ok event → ⊥)) }
 {}
 
 /// The history of a session has no race if no event of it looks, no node has an event, and no rollback of a node's step leaves
-/// two words offered to the node (`offered`): then every other session is on the way to the same chip (`any_session`).
-pub fn none_offered()
-    ensures { (s : State) → IsReached s → NoneLooks (causes_of s) → IsAtEnd (chip_of s) →
+/// two words offered to the node (`alternative_word`): then every other session is on the way to the same chip (`race_free_session_covers_all`).
+pub fn no_alternative_no_race()
+    ensures { (s : State) → IsReached s → HasNoLooks (causes_of s) → IsTerminal (chip_of s) →
         ((r : NodeId) (k : ℕ) (side other : Side) → side ≢ other →
-        IsSome (offered (chip_of (rewound s r.number k)) r.number side) →
-        IsSome (offered (chip_of (rewound s r.number k)) r.number other) → ⊥) →
+        IsSome (alternative_word (chip_of (rewound s r.number k)) r.number side) →
+        IsSome (alternative_word (chip_of (rewound s r.number k)) r.number other) → ⊥) →
         HasNoRace s.load s.kept }
 {}
 
@@ -51,15 +51,15 @@ pub fn none_offered()
 /// node has an event there either, its chip is the same. This is the conclusion from a result of `find_races` without races,
 /// for a run that has ended.
 #[tactic(auto, using(crate::proofs::Untold::every_way, crate::proofs::Untold::every_end))]
-pub fn every_order()
+pub fn reported_race_free_end_is_unique()
     ensures way { (load : List NodeRecord) (limit bound : ℕ) (calls others : List MachineCall) →
-        let s = called_all (first load limit) calls in
-        let z = called_all (first load bound) others in
+        let s = after_calls (initial_state load limit) calls in
+        let z = after_calls (initial_state load bound) others in
         races_asked s None ≡ [] → has_looks (causes_of s) (chip_of s) ≡ false → first_ready (chip_of s) ≡ None →
-        (later : List Event) × AreOrders load s.kept (z.kept ++ later) }
+        (later : List Event) × AreReorderings load s.kept (z.kept ++ later) }
     ensures chip { (load : List NodeRecord) (limit bound : ℕ) (calls others : List MachineCall) →
-        let s = called_all (first load limit) calls in
-        let z = called_all (first load bound) others in
+        let s = after_calls (initial_state load limit) calls in
+        let z = after_calls (initial_state load bound) others in
         races_asked s None ≡ [] → has_looks (causes_of s) (chip_of s) ≡ false → first_ready (chip_of s) ≡ None →
         first_ready (chip_of z) ≡ None → chip_of z ≡ chip_of s }
 {}
@@ -67,18 +67,18 @@ pub fn every_order()
 /// Take a session of which no race is reported (`races_asked`), and of which no event of the history and no next event looks.
 /// Every other session from that load in which no node made more steps is on the way there.
 #[tactic(auto, using(crate::proofs::Untold::no_other))]
-pub fn no_other_order()
+pub fn race_free_within_steps()
     ensures { (load : List NodeRecord) (limit bound : ℕ) (calls others : List MachineCall) →
-        let s = called_all (first load limit) calls in
-        let z = called_all (first load bound) others in
+        let s = after_calls (initial_state load limit) calls in
+        let z = after_calls (initial_state load bound) others in
         races_asked s None ≡ [] → has_looks (causes_of s) (chip_of s) ≡ false →
         ((n : ℕ) → steps_of n z.kept ≤ steps_of n s.kept) →
-        (later : List Event) × AreOrders load s.kept (z.kept ++ later) }
+        (later : List Event) × AreReorderings load s.kept (z.kept ++ later) }
 {}
 
 /// Each reported race is one, with looks in the history or not: after a rollback of the step, a step of the other neighbour is
 /// the pass to the node, of the other word.
 #[tactic(auto, using(crate::proofs::Untold::all_made))]
-pub fn other_word()
+pub fn race_is_realizable()
     ensures { (s : State) (only : Option NodeId) → All (IsOther s) (races_asked s only) }
 {}

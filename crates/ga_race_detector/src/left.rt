@@ -152,13 +152,13 @@ fn fill(list: &mut Vec<u32>, to: u32, number: u32) -> Result<(), LabFault>
 
 /// How many steps of one node a rollback of each of the first steps of another would leave, for the events so far.
 #[derive(Drop)]
-pub(crate) struct LeftOf {
+pub(crate) struct StepsLeft {
     node: NodeId,
     count: u32,
     list: Vec<u32>,
 }
 
-impl LeftOf {
+impl StepsLeft {
     ghost use Rattle.std.specs.Prelude.{◌≡◌, ◌<◌, ◌+◌, [], ◌^◌, OnOk, IfOk, IfErr};
     ghost use Rattle.ga_race_detector.specs.inner.Writers.{IsFilled, IsTaken};
 
@@ -168,7 +168,7 @@ impl LeftOf {
         ensures count { result.count ≡ 0 }
         ensures list { result.list.items ≡ [] }
     {
-        LeftOf {
+        StepsLeft {
             node,
             count: 0,
             list: Vec::new(alloc),
@@ -202,7 +202,7 @@ impl LeftOf {
         ensures ok { IfOk result (λ list. IsFilled self.list.items list.items made self.count) }
         ensures err { IfErr result (λ why. why ≡ LabFault.Memory) }
     {
-        let LeftOf { count, list, .. } = self;
+        let StepsLeft { count, list, .. } = self;
         let mut list = list;
         fill(&mut list, made, count)?;
         Ok(list)
@@ -224,7 +224,7 @@ pub(crate) fn steps_left(
     ensures left { IfOk result (λ left. AreLeft causes.now node.number other.number left.items) }
     ensures err { IfErr result (λ why. why ≡ LabFault.Memory) }
 {
-    let mut left = LeftOf::none(alloc, other);
+    let mut left = StepsLeft::none(alloc, other);
     let mut depths = Depths::none();
     let mut made = 0u32;
     'causes: for cause in causes {

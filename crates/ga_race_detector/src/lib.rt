@@ -3,16 +3,16 @@
 
 mod acts;
 mod adding;
+mod alternatives;
 mod around;
-mod glances;
 pub mod laws;
 mod left;
+mod look_changes;
 mod moments;
-mod offers;
 mod races;
 mod readings;
 mod writers;
 
-pub use offers::offered;
+pub use alternatives::alternative_word;
 pub use races::{Race, Races, find_races};
-pub use readings::Reading;
+pub use readings::LookRace;

@@ -12,7 +12,7 @@ use std::alloc::Global;
 
 /// How many steps the nodes of an event had made before it, and what it reads in `io` if it looks.
 #[derive(Clone, Copy, PartialEq, Eq, Debug)]
-pub(crate) struct Moment {
+pub(crate) struct StepCounts {
     /// How many steps the node of the event had made, of a pass its writer.
     pub(crate) first: u32,
     /// How many steps the node of the event had made, of a pass its reader.
@@ -42,7 +42,7 @@ pub(crate) fn last_part(event: Event) -> NodeId
 }
 
 /// The moment of an event.
-pub(crate) fn moment_at(moments: &[Moment], place: usize) -> Moment
+pub(crate) fn moment_at(moments: &[StepCounts], place: usize) -> StepCounts
     requires { place < length moments.now }
     ensures { result ≡ slice_index_or moments.now place no_moment }
 {
@@ -53,7 +53,7 @@ pub(crate) fn moment_at(moments: &[Moment], place: usize) -> Moment
 ///
 /// # Errors
 /// `Memory` alone.
-pub(crate) fn no_moments(alloc: Global, many: usize) -> Result<Vec<Moment>, LabFault>
+pub(crate) fn no_moments(alloc: Global, many: usize) -> Result<Vec<StepCounts>, LabFault>
     ensures size { IfOk result (λ list. length list.items ≡ many) }
     ensures err { IfErr result (λ why. why ≡ LabFault.Memory) }
 {
@@ -64,7 +64,7 @@ pub(crate) fn no_moments(alloc: Global, many: usize) -> Result<Vec<Moment>, LabF
     'many: for _place in 0..many {
         add(
             &mut list,
-            Moment {
+            StepCounts {
                 first: 0,
                 last: 0,
                 word: Word18::truncated(0),

@@ -2,16 +2,16 @@
 
 ghost use Rattle.std.specs.Prelude.{◌≡◌, ◌<◌, ◌^◌, length, ◌++◌, [], ℕ, true, false, is_none, Some, IfSome, IfOk, OnOk, IfErr};
 ghost use Rattle.ga_grid.specs.Chip.{records_of};
-ghost use Rattle.ga_lab.specs.Machine.{State, chip_of, causes_of, stands};
+ghost use Rattle.ga_lab.specs.Machine.{State, chip_of, causes_of, has_step};
 ghost use Rattle.std.specs.List.{All};
 ghost use Rattle.ga_race_detector.specs.Readings.{IsTold, NoneMissed};
 ghost use Rattle.ga_race_detector.specs.inner.Writers.{IsBeside};
 ghost use Rattle.ga_race_detector.specs.Races.{race_from, races_over, races_around, races_told, races_of, races_below, races_asked, has_look, looks_next, has_next_look, has_looks, first_ready};
 
 use crate::adding::add;
+use crate::alternatives::{alternative_word, offered_behind};
 use crate::left::LeftBeside;
-use crate::offers::{offered, offered_behind};
-use crate::readings::{Reading, find_readings};
+use crate::readings::{LookRace, find_look_races};
 use crate::writers::{Writers, may_come, writers_of};
 use ga_event::{Cause, next_event};
 use ga_grid::{Chip, NodeId, neighbour};
@@ -44,7 +44,7 @@ pub struct Races {
     /// The races in the order of the nodes' numbers, of a node in that of its steps, of a step in the order right, down, left, up.
     pub list: Vec<Race>,
     /// The looks that could have read another word, in the order of the later of the look and the change.
-    pub readings: Vec<Reading>,
+    pub readings: Vec<LookRace>,
     /// Whether an event of the history looks, or one that comes next: then there may be other races than those listed.
     pub looks: bool,
     /// Whether no node of the chip has an event.
@@ -106,7 +106,7 @@ fn add_over(
     side: Side,
 ) -> Result<(), LabFault>
     requires beside { IsBeside lab.old taken.now.reader.number beside.now }
-    requires stands { stands lab.old taken.now.reader.number taken.now.step ≡ true }
+    requires stands { has_step lab.old taken.now.reader.number taken.now.step ≡ true }
     ensures ok { OnOk result (list.new.items ≡ list.old.items
         ++ races_over lab.old taken.now.reader taken.now.step taken.now.writer taken.now.word side) }
     ensures err { IfErr result (λ why. why ≡ LabFault.Memory) }
@@ -130,7 +130,7 @@ fn add_over(
                     );
                     add_from(list, taken, other, offer)
                 }
-                None => match offered(lab, taken.reader, taken.step, side) {
+                None => match alternative_word(lab, taken.reader, taken.step, side) {
                     Ok(offer) => add_from(list, taken, other, offer),
                     Err(_) => Ok(()),
                 },
@@ -148,7 +148,7 @@ fn add_around(
     taken: &Taken,
 ) -> Result<(), LabFault>
     requires beside { IsBeside lab.old taken.now.reader.number beside.now }
-    requires stands { stands lab.old taken.now.reader.number taken.now.step ≡ true }
+    requires stands { has_step lab.old taken.now.reader.number taken.now.step ≡ true }
     ensures ok { OnOk result (list.new.items ≡ list.old.items
         ++ races_around lab.old taken.now.reader taken.now.step taken.now.writer taken.now.word) }
     ensures err { IfErr result (λ why. why ≡ LabFault.Memory) }
@@ -171,7 +171,7 @@ fn add_told(
     made: &Made,
 ) -> Result<(), LabFault>
     requires beside { IsBeside lab.old node.number beside.now }
-    requires stands { stands lab.old node.number step ≡ true }
+    requires stands { has_step lab.old node.number step ≡ true }
     ensures ok { OnOk result (list.new.items ≡ list.old.items ++ races_told lab.old node step (Some made.now)) }
     ensures err { IfErr result (λ why. why ≡ LabFault.Memory) }
     ensures same { lab.new ≡ lab.old }
@@ -211,7 +211,7 @@ fn takes_some(lab: &Lab, node: NodeId) -> bool
 {
     let steps = lab.steps(node);
     'steps: for place in 0..steps {
-        match lab.told(node, place) {
+        match lab.made_by_step(node, place) {
             Some(made) => {
                 if takes(&made, node) {
                     return true;
@@ -255,7 +255,7 @@ fn add_node(
     let steps = lab.steps(node);
     let beside = besides_of(alloc, lab, causes, node)?;
     'steps: for place in 0..steps {
-        match lab.told(node, place) {
+        match lab.made_by_step(node, place) {
             Some(made) => add_told(list, lab, &beside, node, place + 1, &made)?,
             None => return Ok(()),
         }
@@ -380,7 +380,7 @@ pub fn find_races(alloc: Global, lab: &mut Lab, only: Option<NodeId>) -> Result<
     let causes = kept_causes(lab)?;
     let list = find_taken(alloc, lab, causes.as_slice(), only)?;
     let looks = has_look(causes.as_slice());
-    let readings = find_readings(alloc, lab, causes.as_slice(), looks, only)?;
+    let readings = find_look_races(alloc, lab, causes.as_slice(), looks, only)?;
     Ok(Races {
         list,
         readings,

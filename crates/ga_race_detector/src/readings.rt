@@ -4,33 +4,33 @@ ghost use Rattle.std.specs.Prelude.{◌≡◌, ◌<◌, ◌+◌, ◌^◌, ℕ, L
 ghost use Rattle.std.specs.List.{All};
 ghost use Rattle.ga_grid.specs.Grid.{neighbour_of};
 ghost use Rattle.ga_grid.specs.Chip.{record_at};
-ghost use Rattle.ga_event.specs.Apply.{shows, beside_in, seen_from};
+ghost use Rattle.ga_event.specs.Apply.{shows, beside_in, neighbour_states};
 ghost use Rattle.ga_event.specs.Told.{steps_of};
 ghost use Rattle.ga_event.specs.declared.event.Cause.{Cause};
-ghost use Rattle.ga_races.specs.declared.near.Near.{Near};
+ghost use Rattle.ga_races.specs.declared.racing_pairs.RacingPair.{RacingPair};
 ghost use Rattle.ga_lab.specs.Machine.{chip_of, causes_of, earlier, rewound};
-ghost use Rattle.ga_race_detector.specs.declared.glances.Glance.{Glance};
+ghost use Rattle.ga_race_detector.specs.declared.look_changes.LookChange.{LookChange};
 ghost use Rattle.ga_race_detector.specs.Races.{has_look};
 ghost use Rattle.ga_race_detector.specs.Readings.{IsOtherwise, IsTold, NoneMissed};
 ghost use Rattle.ga_race_detector.specs.inner.Glances.{IsAtNear, IsAround, AreAround, taken_of, IsGlance, IsGlanced, IsAroundOf, HasStep, AreKnown, IsOtherWord, AreRead};
 
-use crate::acts::{acts_of, shown_by};
+use crate::acts::{kept_accesses, shown_by};
 use crate::adding::add;
-use crate::around::{Around, LeftAround};
-use crate::glances::{Glance, glance_at, glances_of};
+use crate::around::{Around, StepsLeftNearby};
+use crate::look_changes::{LookChange, glance_at, glances_of};
 use ga_event::{Cause, is_reading, is_writing};
 use ga_grid::{NodeId, neighbour};
 use ga_lab::{Lab, LabFault, Made};
-use ga_node::{Beside, Place, Seen, Wait};
+use ga_node::{NeighbourState, Place, Seen, Wait};
 use ga_ports::Side;
-use ga_races::find_near;
+use ga_races::find_racing_pairs;
 use ga_word::Word18;
 use std::alloc::Global;
 
 /// A look of a node, and another word that it could have read: after a rollback of the one step, the node looks again, and
 /// reads this.
 #[derive(Clone, Copy, PartialEq, Eq, Debug)]
-pub struct Reading {
+pub struct LookRace {
     /// The node that looked.
     pub node: NodeId,
     /// The step by which the node looked.
@@ -48,21 +48,21 @@ pub struct Reading {
 }
 
 // What a node that waits so shows on a side.
-fn shows(wait: &Wait, side: Side) -> Beside
+fn shows(wait: &Wait, side: Side) -> NeighbourState
     ensures { result ≡ shows wait.now side }
 {
     if is_reading(wait, side) {
-        Beside::Reading
+        NeighbourState::Reading
     } else if is_writing(wait, side) {
-        Beside::Writing
+        NeighbourState::Writing
     } else {
-        Beside::Idle
+        NeighbourState::Idle
     }
 }
 
 // What a node showed on a side after `steps` of its steps, by the old wait that the next step overwrote, if it did.
 #[tactic(auto, using(crate::proofs::Silent::steps_take))]
-fn shown_before(lab: &Lab, node: NodeId, steps: u32, side: Side) -> Beside
+fn shown_before(lab: &Lab, node: NodeId, steps: u32, side: Side) -> NeighbourState
     ensures { (place : ℕ) → steps_of node.number (take place lab.now.kept) ≡ steps →
         result ≡ shows (record_at (chip_of (earlier lab.now place)) node.number).wait side }
 {
@@ -77,36 +77,36 @@ fn shown_before(lab: &Lab, node: NodeId, steps: u32, side: Side) -> Beside
 }
 
 // What a node showed on a side after `steps` of its steps: if its next step is its own, it waits for nothing.
-fn shown_at(lab: &Lab, node: NodeId, steps: u32, side: Side) -> Beside
+fn shown_at(lab: &Lab, node: NodeId, steps: u32, side: Side) -> NeighbourState
     ensures { (place : ℕ) → steps_of node.number (take place lab.now.kept) ≡ steps →
         result ≡ shows (record_at (chip_of (earlier lab.now place)) node.number).wait side }
 {
     let now = lab.node(node);
     let _many = lab.steps(node);
-    match lab.told(node, steps) {
-        Some(Made::Own { .. }) => Beside::Idle,
+    match lab.made_by_step(node, steps) {
+        Some(Made::Own { .. }) => NeighbourState::Idle,
         Some(Made::Pass { .. }) => shown_before(lab, node, steps, side),
         None => shows(&now.wait(), side),
     }
 }
 
 // The state of the neighbour on a side of the node, if these steps of each neighbour were left.
-fn beside_behind(lab: &Lab, around: &Around, node: NodeId, side: Side) -> Beside
+fn beside_behind(lab: &Lab, around: &Around, node: NodeId, side: Side) -> NeighbourState
     ensures { (b k : ℕ) → IsAround (causes_of lab.now) b k node.number around.now →
         result ≡ beside_in (chip_of (rewound lab.now b k)) side (neighbour_of node.number side) }
 {
     let _stands = lab.node(node);
     match neighbour(node, side) {
         Some(other) => shown_at(lab, other, around.over(side), side),
-        None => Beside::Nobody,
+        None => NeighbourState::Nobody,
     }
 }
 
 // The states of the neighbours on each side of the node, if these steps of each neighbour were left.
-#[tactic(auto, unfolding(ga_event::specs::Apply::seen_from))]
+#[tactic(auto, unfolding(ga_event::specs::Apply::neighbour_states))]
 fn seen_behind(lab: &Lab, around: &Around, node: NodeId) -> Seen
     ensures { (b k : ℕ) → IsAround (causes_of lab.now) b k node.number around.now →
-        result ≡ seen_from (chip_of (rewound lab.now b k)) node.number }
+        result ≡ neighbour_states (chip_of (rewound lab.now b k)) node.number }
 {
     Seen {
         right: beside_behind(lab, around, node, Side::Right),
@@ -118,8 +118,8 @@ fn seen_behind(lab: &Lab, around: &Around, node: NodeId) -> Seen
 
 // The word that a look would read after a rollback of its step or of the change, if that leaves all steps of its node before
 // it: then the look comes next.
-fn other_word(lab: &Lab, glance: &Glance, around: &Around) -> Option<Word18>
-    requires glance { (near : Near) × IsGlance lab.now near glance.now }
+fn other_io_word(lab: &Lab, glance: &LookChange, around: &Around) -> Option<Word18>
+    requires glance { (near : RacingPair) × IsGlance lab.now near glance.now }
     requires around { IsAroundOf (causes_of lab.now) glance.now around.now }
     ensures is { IfSome result (λ word. IsOtherWord lab.now glance.now word) }
     ensures some { steps_of glance.now.node.number (rewound lab.now (taken_of glance.now).0.number (taken_of glance.now).1).kept + 1 ≡ glance.now.step →
@@ -133,20 +133,20 @@ fn other_word(lab: &Lab, glance: &Glance, around: &Around) -> Option<Word18>
 }
 
 // A look and a change, as they are reported, if the look reads another word.
-fn reading_of(lab: &Lab, glance: &Glance, around: &Around) -> Option<Reading>
-    requires glance { (near : Near) × IsGlance lab.now near glance.now }
+fn reading_of(lab: &Lab, glance: &LookChange, around: &Around) -> Option<LookRace>
+    requires glance { (near : RacingPair) × IsGlance lab.now near glance.now }
     requires around { IsAroundOf (causes_of lab.now) glance.now around.now }
     ensures told { IfSome result (λ reading. IsOtherwise lab.now reading) }
     ensures node { IfSome result (λ reading. reading.node ≡ glance.now.node) }
-    ensures found { (near : Near) (reading : Reading) → IsGlance lab.now near glance.now → IsOtherwise lab.now reading →
+    ensures found { (near : RacingPair) (reading : LookRace) → IsGlance lab.now near glance.now → IsOtherwise lab.now reading →
         IsAtNear lab.now near reading → result ≡ Some reading }
 {
     let _stands = lab.node(glance.node);
-    let other = other_word(lab, glance, around)?;
+    let other = other_io_word(lab, glance, around)?;
     if other.get() == glance.word.get() {
         return None;
     }
-    Some(Reading {
+    Some(LookRace {
         node: glance.node,
         step: glance.step,
         word: glance.word,
@@ -159,9 +159,9 @@ fn reading_of(lab: &Lab, glance: &Glance, around: &Around) -> Option<Reading>
 
 // Adds the reading of a look and a change to a list, if the look reads another word.
 fn add_reading(
-    list: &mut Vec<Reading>,
+    list: &mut Vec<LookRace>,
     lab: &Lab,
-    glance: &Glance,
+    glance: &LookChange,
     around: &Around,
     only: Option<NodeId>,
 ) -> Result<(), LabFault>
@@ -169,8 +169,8 @@ fn add_reading(
     requires around { IsAroundOf (causes_of lab.now) glance.now around.now }
     requires told { All (IsTold lab.now only) list.old.items }
     ensures told { OnOk result (All (IsTold lab.now only) list.new.items) }
-    ensures kept { OnOk result ((reading : Reading) → Contains list.old.items reading → Contains list.new.items reading) }
-    ensures found { OnOk result ((near : Near) (reading : Reading) → IsGlance lab.now near glance.now → IsTold lab.now only reading →
+    ensures kept { OnOk result ((reading : LookRace) → Contains list.old.items reading → Contains list.new.items reading) }
+    ensures found { OnOk result ((near : RacingPair) (reading : LookRace) → IsGlance lab.now near glance.now → IsTold lab.now only reading →
         IsAtNear lab.now near reading → Contains list.new.items reading) }
     ensures err { IfErr result (λ why. why ≡ LabFault.Memory) }
 {
@@ -197,15 +197,21 @@ fn none_known(alloc: Global, many: usize) -> Result<Vec<Option<Around>>, LabFaul
 }
 
 // Stores how many steps around a look would be left, if these lists, of another look, are of the same nodes.
-fn note(known: &mut Vec<Option<Around>>, lists: &LeftAround, of: &Glance, other: &Glance, at: usize)
+fn note(
+    known: &mut Vec<Option<Around>>,
+    lists: &StepsLeftNearby,
+    of: &LookChange,
+    other: &LookChange,
+    at: usize,
+)
     requires within { at < length known.old.items }
     requires first { 0 < (taken_of other.now).1 }
     ensures size { length known.new.items ≡ length known.old.items }
-    ensures known { (causes : List Cause) (glances : List Glance) → AreAround causes (taken_of of.now).0.number of.now.node.number lists.now →
+    ensures known { (causes : List Cause) (glances : List LookChange) → AreAround causes (taken_of of.now).0.number of.now.node.number lists.now →
         HasStep causes other.now → at < length glances → other.now ≡ slice_index_or glances at other.now →
         AreKnown causes glances known.old.items → AreKnown causes glances known.new.items }
 {
-    if other.hangs_with(of) {
+    if other.is_related(of) {
         let step = other.taken().1;
         let around = lists.at(step);
         known[at] = Some(around);
@@ -217,7 +223,7 @@ fn note(known: &mut Vec<Option<Around>>, lists: &LeftAround, of: &Glance, other:
 fn around_of(
     alloc: Global,
     causes: &[Cause],
-    glances: &[Glance],
+    glances: &[LookChange],
     known: &mut Vec<Option<Around>>,
     place: usize,
 ) -> Result<Around, LabFault>
@@ -226,7 +232,7 @@ fn around_of(
     requires within { place < length glances.now }
     requires size { length known.old.items ≡ length glances.now }
     requires known { AreKnown causes.now glances.now known.old.items }
-    ensures around { IfOk result (λ around. (glance : Glance) → glance ≡ slice_index_or glances.now place glance → IsAroundOf causes.now glance around) }
+    ensures around { IfOk result (λ around. (glance : LookChange) → glance ≡ slice_index_or glances.now place glance → IsAroundOf causes.now glance around) }
     ensures size { OnOk result (length known.new.items ≡ length glances.now) }
     ensures known { OnOk result (AreKnown causes.now glances.now known.new.items) }
     ensures err { IfErr result (λ why. why ≡ LabFault.Memory) }
@@ -236,7 +242,7 @@ fn around_of(
     }
     let of = glance_at(glances, place);
     let taken = of.taken();
-    let lists = LeftAround::of(alloc, causes, taken.0, of.node)?;
+    let lists = StepsLeftNearby::of(alloc, causes, taken.0, of.node)?;
     'others: for at in place..glances.len() {
         let other = glance_at(glances, at);
         note(known, &lists, &of, &other, at);
@@ -249,9 +255,9 @@ fn readings_of(
     alloc: Global,
     lab: &Lab,
     causes: &[Cause],
-    glances: &[Glance],
+    glances: &[LookChange],
     only: Option<NodeId>,
-) -> Result<Vec<Reading>, LabFault>
+) -> Result<Vec<LookRace>, LabFault>
     requires all { causes.now ≡ causes_of lab.now }
     requires few { length causes.now < 2 ^ 32 }
     requires glances { All (IsGlanced lab.now only) glances.now }
@@ -277,13 +283,13 @@ fn readings_of(
 ///
 /// # Errors
 /// `Memory` alone.
-pub(crate) fn find_readings(
+pub(crate) fn find_look_races(
     alloc: Global,
     lab: &Lab,
     causes: &[Cause],
     looks: bool,
     only: Option<NodeId>,
-) -> Result<Vec<Reading>, LabFault>
+) -> Result<Vec<LookRace>, LabFault>
     requires all { causes.now ≡ causes_of lab.now }
     requires few { length causes.now < 2 ^ 32 }
     requires looks { looks ≡ has_look causes.now }
@@ -295,8 +301,8 @@ pub(crate) fn find_readings(
         return Ok(Vec::new(alloc));
     }
     let _stands = lab.node(NodeId::new(0));
-    let acts = acts_of(alloc, lab, causes)?;
-    let nears = match find_near(alloc, acts.list.as_slice()) {
+    let acts = kept_accesses(alloc, lab, causes)?;
+    let nears = match find_racing_pairs(alloc, acts.list.as_slice()) {
         Ok(nears) => nears,
         Err(_) => return Err(LabFault::Memory),
     };

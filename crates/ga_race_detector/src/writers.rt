@@ -6,8 +6,8 @@ ghost use Rattle.ga_event.specs.Apply.{reads_from};
 ghost use Rattle.ga_grid.specs.Chip.{record_at};
 ghost use Rattle.ga_event.specs.Told.{steps_of};
 ghost use Rattle.ga_grid.specs.Grid.{neighbour_of};
-ghost use Rattle.ga_lab.specs.Machine.{chip_of, rewound, stands};
-ghost use Rattle.ga_race_detector.specs.Races.{offered};
+ghost use Rattle.ga_lab.specs.Machine.{chip_of, rewound, has_step};
+ghost use Rattle.ga_race_detector.specs.Races.{alternative_word};
 ghost use Rattle.ga_race_detector.specs.inner.Writers.{at_side, NeverOffers, AreSilent};
 
 use ga_event::{is_reading, is_writing};
@@ -48,7 +48,7 @@ impl Writers {
 
 // Whether the node waits to write over the side, or did at load or after some of its steps.
 fn has_written(lab: &Lab, node: NodeId, side: Side) -> bool
-    ensures { result ≡ false → (n k : ℕ) → neighbour_of n side ≡ Some node.number → offered (chip_of (rewound lab.now n k)) n side ≡ None }
+    ensures { result ≡ false → (n k : ℕ) → neighbour_of n side ≡ Some node.number → alternative_word (chip_of (rewound lab.now n k)) n side ≡ None }
 {
     let _stands = lab.node(node);
     let mut walk = lab.walk(node, lab.steps(node));
@@ -98,7 +98,7 @@ pub(crate) fn reads_by(code: u32, side: Side) -> bool
 
 // Whether the node waited to read over the side right before its step, by a copy of the node walked back.
 fn read_then(lab: &Lab, node: NodeId, step: u32, side: Side) -> bool
-    requires { stands lab.now node.number step ≡ true }
+    requires { has_step lab.now node.number step ≡ true }
     ensures { result ≡ reads_from (record_at (chip_of (rewound lab.now node.number step)) node.number).wait side }
 {
     let _stands = lab.node(node);
@@ -111,7 +111,7 @@ fn read_then(lab: &Lab, node: NodeId, step: u32, side: Side) -> bool
 // Whether the node waited to read over the side right before its step, by the old wait in the step's entry, if it is there.
 #[tactic(auto, using(crate::proofs::Silent::waited, ga_lab::proofs::Called::runs_of))]
 fn reads_before(lab: &Lab, node: NodeId, step: u32, side: Side) -> bool
-    requires { stands lab.now node.number step ≡ true }
+    requires { has_step lab.now node.number step ≡ true }
     ensures { result ≡ reads_from (record_at (chip_of (rewound lab.now node.number step)) node.number).wait side }
 {
     let _stands = lab.node(node);
@@ -126,8 +126,8 @@ fn reads_before(lab: &Lab, node: NodeId, step: u32, side: Side) -> bool
 #[tactic(auto, using(crate::proofs::Silent::unread))]
 pub(crate) fn may_come(lab: &Lab, writers: &Writers, node: NodeId, step: u32, side: Side) -> bool
     requires silent { AreSilent lab.now node.number writers.now }
-    requires stands { stands lab.now node.number step ≡ true }
-    ensures none { result ≡ false → offered (chip_of (rewound lab.now node.number step)) node.number side ≡ None }
+    requires stands { has_step lab.now node.number step ≡ true }
+    ensures none { result ≡ false → alternative_word (chip_of (rewound lab.now node.number step)) node.number side ≡ None }
     ensures reads { result ≡ true → reads_from (record_at (chip_of (rewound lab.now node.number step)) node.number).wait side ≡ true }
 {
     if !writers.at(side) {

@@ -13,28 +13,28 @@ use Rattle.ga_event.specs.Touches.{nodes_of, touches}
 use Rattle.ga_event.specs.Apply.{is_number}
 use Rattle.ga_races.specs.declared.act.EventAccess.{EventAccess}
 use Rattle.ga_races.specs.declared.act.Sides.{Sides}
-use Rattle.ga_races.specs.declared.near.Near.{Near}
-use Rattle.ga_races.specs.HappensBefore.{Action, action_at, is_shown, are_bound, directly, AreNear}
+use Rattle.ga_races.specs.declared.racing_pairs.RacingPair.{RacingPair}
+use Rattle.ga_races.specs.HappensBefore.{Action, action_at, is_shown, are_dependent, directly, AreRacing}
 use Rattle.ga_races.specs.Acts.{side_leads_to, shown_by, action_in, actions_in, is_own_of, is_look_of, IsNearLook}
 use Rattle.ga_races.specs.inner.{has_looked, IsMore, OfPair, OfLook, OfChange, OverSide, OverSides, AtPlace, BelowPlace, LooksAreMarked}
 use Rattle.ga_races.proofs.Reaching.{or4_cases, and_both, bound_by_node, bound_by_look, bound_by_change}
 
 -- ---- parts
 
-pub nothing : (acts : List EventAccess) (asked : Near → Type 0) (xs : List Near) → ((z : Near) → asked z → IsNearLook acts z → ⊥) → IsMore acts asked xs xs
+pub nothing : (acts : List EventAccess) (asked : RacingPair → Type 0) (xs : List RacingPair) → ((z : RacingPair) → asked z → IsNearLook acts z → ⊥) → IsMore acts asked xs xs
 nothing acts asked xs none = record { kept = λ z h. h; sound = λ z h. inl h; all = λ z a f. absurd (none z a f) }
 
-pub weaker : (acts : List EventAccess) (p r : Near → Type 0) (a b : List Near) → IsMore acts p a b → ((z : Near) → r z → IsNearLook acts z → p z) → IsMore acts r a b
+pub weaker : (acts : List EventAccess) (p r : RacingPair → Type 0) (a b : List RacingPair) → IsMore acts p a b → ((z : RacingPair) → r z → IsNearLook acts z → p z) → IsMore acts r a b
 weaker acts p r a b m asks = record { kept = m.kept; sound = m.sound; all = λ z x f. m.all z (asks z x f) f }
 
-pub chained : (acts : List EventAccess) (p q r : Near → Type 0) (a b c : List Near) → IsMore acts p a b → IsMore acts q b c → ((z : Near) → r z → IsNearLook acts z → p z ⊎ q z) → IsMore acts r a c
+pub chained : (acts : List EventAccess) (p q r : RacingPair → Type 0) (a b c : List RacingPair) → IsMore acts p a b → IsMore acts q b c → ((z : RacingPair) → r z → IsNearLook acts z → p z ⊎ q z) → IsMore acts r a c
 chained acts p q r a b c m n asks = record { kept = λ z h. n.kept z (m.kept z h); sound = λ z h. from z (n.sound z h); all = λ z x f. into z f (asks z x f) }
   where
-    from : (z : Near) → Contains b z ⊎ IsNearLook acts z → Contains a z ⊎ IsNearLook acts z
+    from : (z : RacingPair) → Contains b z ⊎ IsNearLook acts z → Contains a z ⊎ IsNearLook acts z
     from z (inl h) = m.sound z h
     from z (inr f) = inr f
 
-    into : (z : Near) → IsNearLook acts z → p z ⊎ q z → Contains c z
+    into : (z : RacingPair) → IsNearLook acts z → p z ⊎ q z → Contains c z
     into z f (inl x) = n.kept z (m.all z x f)
     into z f (inr x) = n.all z x f
 
@@ -65,29 +65,29 @@ both_touch a b n h k =
     (own_touches a.cause.event n (and_parts a.cause.look (is_own_of a.cause.event n) h).1)
 
 -- a look and a change are no racing pair if an action between them is dependent with both
-parted : (xs : List Action) (first middle later : ℕ) → first < middle → middle < later → are_bound (action_at xs first) (action_at xs middle) ≡ true → are_bound (action_at xs middle) (action_at xs later) ≡ true
-    → AreNear xs first later → ⊥
+parted : (xs : List Action) (first middle later : ℕ) → first < middle → middle < later → are_dependent (action_at xs first) (action_at xs middle) ≡ true → are_dependent (action_at xs middle) (action_at xs later) ≡ true
+    → AreRacing xs first later → ⊥
 parted xs first middle later l k a b near =
     let within : later < length xs = near.bound.within in
     near.none middle (directly (record { before = l; within = omega (arith, k, within); bound = a })) (directly (record { before = k; within = within; bound = b }))
 
-first_near : (xs : List Action) (i j : ℕ) → i < j → AreNear xs i j ⊎ AreNear xs j i → AreNear xs i j
+first_near : (xs : List Action) (i j : ℕ) → i < j → AreRacing xs i j ⊎ AreRacing xs j i → AreRacing xs i j
 first_near xs i j l (inl n) = n
 first_near xs i j l (inr n) = absurd (let k : j < i = n.bound.before in omega (arith, l, k))
 
-second_near : (xs : List Action) (i j : ℕ) → j < i → AreNear xs i j ⊎ AreNear xs j i → AreNear xs j i
+second_near : (xs : List Action) (i j : ℕ) → j < i → AreRacing xs i j ⊎ AreRacing xs j i → AreRacing xs j i
 second_near xs i j l (inl n) = absurd (let k : i < j = n.bound.before in omega (arith, l, k))
 second_near xs i j l (inr n) = n
 
 -- ---- changes before a look
 
-pub changes_first : (acts : List EventAccess) (look place : ℕ) (xs : List Near) → look ≤ place → IsMore acts (OfLook look place) xs xs
+pub changes_first : (acts : List EventAccess) (look place : ℕ) (xs : List RacingPair) → look ≤ place → IsMore acts (OfLook look place) xs xs
 changes_first acts look place xs l = nothing acts (OfLook look place) xs (λ z r f. let a : z.change < look = r.1 in let b : place ≤ z.change = r.2 in absurd (omega (arith, l, a, b)))
 
-pub changes_next : (acts : List EventAccess) (look place next : ℕ) (a b c : List Near) → place ≤ next + 1 → IsMore acts (OfLook look place) a b → IsMore acts (OfPair look next) b c → IsMore acts (OfLook look next) a c
+pub changes_next : (acts : List EventAccess) (look place next : ℕ) (a b c : List RacingPair) → place ≤ next + 1 → IsMore acts (OfLook look place) a b → IsMore acts (OfPair look next) b c → IsMore acts (OfLook look next) a c
 changes_next acts look place next a b c l m n = chained acts (OfLook look place) (OfPair look next) (OfLook look next) a b c m n (λ z r f. asks z r)
   where
-    asks : (z : Near) → OfLook look next z → OfLook look place z ⊎ OfPair look next z
+    asks : (z : RacingPair) → OfLook look next z → OfLook look place z ⊎ OfPair look next z
     asks z r =
         let k : next ≤ z.change = r.2 in
         elim (cases_lt next z.change) [
@@ -95,20 +95,20 @@ changes_next acts look place next a b c l m n = chained acts (OfLook look place)
           | inr more ↦ inr (r.0, omega (arith, more, k))
         ]
 
-pub changes_end : (acts : List EventAccess) (look place : ℕ) (a b : List Near) → place ≤ 0 → IsMore acts (OfLook look place) a b → IsMore acts (OfLook look 0) a b
+pub changes_end : (acts : List EventAccess) (look place : ℕ) (a b : List RacingPair) → place ≤ 0 → IsMore acts (OfLook look place) a b → IsMore acts (OfLook look 0) a b
 changes_end acts look place a b l m = weaker acts (OfLook look place) (OfLook look 0) a b m (λ z r f. (r.0, r.1, omega (arith, l)))
 
 -- the last look before it was shown what came before that
-pub changes_stop : (acts : List EventAccess) (look place n : ℕ) (a b : List Near) → place < look → is_look_of (action_at (actions_in acts) place) n ≡ true → is_look_of (action_at (actions_in acts) look) n ≡ true
+pub changes_stop : (acts : List EventAccess) (look place n : ℕ) (a b : List RacingPair) → place < look → is_look_of (action_at (actions_in acts) place) n ≡ true → is_look_of (action_at (actions_in acts) look) n ≡ true
     → IsMore acts (OfLook look place) a b → IsMore acts (OfLook look 0) a b
 changes_stop acts look place n a b l first second m = weaker acts (OfLook look place) (OfLook look 0) a b m asks
   where
-    asks : (z : Near) → OfLook look 0 z → IsNearLook acts z → OfLook look place z
+    asks : (z : RacingPair) → OfLook look 0 z → IsNearLook acts z → OfLook look place z
     asks z r f = elim (cases_lt z.change place) [
       | inr more ↦ (r.0, r.1, more)
       | inl less ↦ (let same_node : n ≡ f.node = look_same (action_at (actions_in acts) look) n f.node second (subst (λ (k : ℕ). is_look_of (action_at (actions_in acts) k) f.node ≡ true) r.0 f.look) in
-          let near : AreNear (actions_in acts) z.change look =
-          second_near (actions_in acts) look z.change r.1 (subst (λ (k : ℕ). AreNear (actions_in acts) k z.change ⊎ AreNear (actions_in acts) z.change k) r.0 f.order) in
+          let near : AreRacing (actions_in acts) z.change look =
+          second_near (actions_in acts) look z.change r.1 (subst (λ (k : ℕ). AreRacing (actions_in acts) k z.change ⊎ AreRacing (actions_in acts) z.change k) r.0 f.order) in
           absurd (parted (actions_in acts) z.change place look less l
           (bound_by_change (action_at (actions_in acts) z.change) (action_at (actions_in acts) place)
           (shown_to (action_at (actions_in acts) place) (action_at (actions_in acts) z.change) n first (subst (λ (k : ℕ). (action_at (actions_in acts) z.change).changes k ≡ true) (sym same_node) f.change)))
@@ -120,16 +120,16 @@ changes_stop acts look place n a b l first second m = weaker acts (OfLook look p
 
 module _ (acts : List EventAccess) (change place n : ℕ) (l : place < change) (changes : (action_at (actions_in acts) change).changes n ≡ true)
     (none : (q : ℕ) → place < q → q < change → is_look_of (action_at (actions_in acts) q) n ≡ false) where
-  near_of : (z : Near) → OfChange acts change n z → IsNearLook acts z → AreNear (actions_in acts) z.look change
-  near_of z r f = first_near (actions_in acts) z.look change r.1 (subst (λ (k : ℕ). AreNear (actions_in acts) z.look k ⊎ AreNear (actions_in acts) k z.look) r.0 f.order)
+  near_of : (z : RacingPair) → OfChange acts change n z → IsNearLook acts z → AreRacing (actions_in acts) z.look change
+  near_of z r f = first_near (actions_in acts) z.look change r.1 (subst (λ (k : ℕ). AreRacing (actions_in acts) z.look k ⊎ AreRacing (actions_in acts) k z.look) r.0 f.order)
 
-  later_none : (z : Near) → OfChange acts change n z → place < z.look → ⊥
+  later_none : (z : RacingPair) → OfChange acts change n z → place < z.look → ⊥
   later_none z r k = both_ways (is_look_of (action_at (actions_in acts) z.look) n) (none z.look k r.1) r.2
 
-  pub look_found : (a b : List Near) → is_look_of (action_at (actions_in acts) place) n ≡ true → IsMore acts (OfPair place change) a b → IsMore acts (OfChange acts change n) a b
+  pub look_found : (a b : List RacingPair) → is_look_of (action_at (actions_in acts) place) n ≡ true → IsMore acts (OfPair place change) a b → IsMore acts (OfChange acts change n) a b
   look_found a b look m = weaker acts (OfPair place change) (OfChange acts change n) a b m asks
     where
-      asks : (z : Near) → OfChange acts change n z → IsNearLook acts z → OfPair place change z
+      asks : (z : RacingPair) → OfChange acts change n z → IsNearLook acts z → OfPair place change z
       asks z r f = elim (cases_order z.look place) [
         | inl same ↦ (same, r.0)
         | inr (inr more) ↦ absurd (later_none z r more)
@@ -139,12 +139,12 @@ module _ (acts : List EventAccess) (change place n : ℕ) (l : place < change) (
             (near_of z r f))
       ]
 
-  pub look_hidden : (a : List Near) → is_look_of (action_at (actions_in acts) place) n ≡ false
+  pub look_hidden : (a : List RacingPair) → is_look_of (action_at (actions_in acts) place) n ≡ false
       → ((action_at (actions_in acts) place).changes n && list_any (touches (action_at (actions_in acts) place).cause.event) (nodes_of (action_at (actions_in acts) change).cause.event)) ≡ true
       → IsMore acts (OfChange acts change n) a a
   look_hidden a out hides = nothing acts (OfChange acts change n) a asks
     where
-      asks : (z : Near) → OfChange acts change n z → IsNearLook acts z → ⊥
+      asks : (z : RacingPair) → OfChange acts change n z → IsNearLook acts z → ⊥
       asks z r f =
           let p = and_parts ((action_at (actions_in acts) place).changes n) (list_any (touches (action_at (actions_in acts) place).cause.event) (nodes_of (action_at (actions_in acts) change).cause.event)) hides in
           elim (cases_order z.look place) [
@@ -156,16 +156,16 @@ module _ (acts : List EventAccess) (change place n : ℕ) (l : place < change) (
                 (near_of z r f)
           ]
 
-pub look_none : (acts : List EventAccess) (change place n : ℕ) (a : List Near) → place ≤ 0 → ((q : ℕ) → place ≤ q → q < change → is_look_of (action_at (actions_in acts) q) n ≡ false) → IsMore acts (OfChange acts change n) a a
+pub look_none : (acts : List EventAccess) (change place n : ℕ) (a : List RacingPair) → place ≤ 0 → ((q : ℕ) → place ≤ q → q < change → is_look_of (action_at (actions_in acts) q) n ≡ false) → IsMore acts (OfChange acts change n) a a
 look_none acts change place n a l none =
     nothing acts (OfChange acts change n) a (λ z r f. both_ways (is_look_of (action_at (actions_in acts) z.look) n) (none z.look (omega (arith, l)) r.1) r.2)
 
 -- ---- the looks that a change is shown to
 
-abbrev OverThree : List EventAccess → ℕ → ℕ → Sides → Near → Type 0
+abbrev OverThree : List EventAccess → ℕ → ℕ → Sides → RacingPair → Type 0
 OverThree acts change m sides z = (OverSide acts change m Right sides.right z ⊎ OverSide acts change m Down sides.down z) ⊎ OverSide acts change m Left sides.left z
 
-pub four_sides : (acts : List EventAccess) (change m : ℕ) (sides : Sides) (a b c d e : List Near) → IsMore acts (OverSide acts change m Right sides.right) a b → IsMore acts (OverSide acts change m Down sides.down) b c
+pub four_sides : (acts : List EventAccess) (change m : ℕ) (sides : Sides) (a b c d e : List RacingPair) → IsMore acts (OverSide acts change m Right sides.right) a b → IsMore acts (OverSide acts change m Down sides.down) b c
     → IsMore acts (OverSide acts change m Left sides.left) c d → IsMore acts (OverSide acts change m Up sides.up) d e → IsMore acts (OverSides acts change m sides) a e
 four_sides acts change m sides a b c d e r w l u =
     chained acts (OverThree acts change m sides) (OverSide acts change m Up sides.up) (OverSides acts change m sides) a d e
@@ -174,7 +174,7 @@ four_sides acts change m sides a b c d e r w l u =
     l (λ z x f. x))
     u (λ z x f. asks z x)
   where
-    asks : (z : Near) → OverSides acts change m sides z → OverThree acts change m sides z ⊎ OverSide acts change m Up sides.up z
+    asks : (z : RacingPair) → OverSides acts change m sides z → OverThree acts change m sides z ⊎ OverSide acts change m Up sides.up z
     asks z x = elim (or4_cases (sides.right && is_number (neighbour_of m Right) x.0) (sides.down && is_number (neighbour_of m Down) x.0) (sides.left && is_number (neighbour_of m Left) x.0) (sides.up && is_number (neighbour_of m Up) x.0) x.2) [
       | inl y ↦ inl (inl (inl (x.0, x.1, y)))
       | inr (inl y) ↦ inl (inl (inr (x.0, x.1, y)))
@@ -184,7 +184,7 @@ four_sides acts change m sides a b c d e r w l u =
 
 -- ---- what is near to a place
 
-change_here : (acts : List EventAccess) (place : ℕ) (act : EventAccess) (z : Near) (f : IsNearLook acts z) → action_in act ≡ action_at (actions_in acts) place → z.change ≡ place → shown_by act.cause.event act.first act.second f.node ≡ true
+change_here : (acts : List EventAccess) (place : ℕ) (act : EventAccess) (z : RacingPair) (f : IsNearLook acts z) → action_in act ≡ action_at (actions_in acts) place → z.change ≡ place → shown_by act.cause.event act.first act.second f.node ≡ true
 change_here acts place act z f is at = ap (λ (a : Action). a.changes f.node) is ∙ subst (λ (k : ℕ). (action_at (actions_in acts) k).changes f.node ≡ true) at f.change
 
 pub changes_own : (acts : List EventAccess) (place : ℕ) (act : EventAccess) (node : NodeId) → action_in act ≡ action_at (actions_in acts) place → act.cause.event ≡ Own node
@@ -201,24 +201,24 @@ pub changes_reader : (acts : List EventAccess) (place : ℕ) (act : EventAccess)
 changes_reader acts place act w r side is pass n h =
     sym (ap (λ (a : Action). a.changes n) is) ∙ ap (λ (e : Event). shown_by e act.first act.second n) pass ∙ or_right (side_leads_to act.first w.number n) (side_leads_to act.second r.number n) h
 
-pub own_at : (acts : List EventAccess) (place : ℕ) (act : EventAccess) (node : NodeId) (a b c : List Near) → action_in act ≡ action_at (actions_in acts) place → act.cause.event ≡ Own node
+pub own_at : (acts : List EventAccess) (place : ℕ) (act : EventAccess) (node : NodeId) (a b c : List RacingPair) → action_in act ≡ action_at (actions_in acts) place → act.cause.event ≡ Own node
     → IsMore acts (OfLook place 0) a b → IsMore acts (OverSides acts place node.number act.first) b c → IsMore acts (AtPlace place) a c
 own_at acts place act node a b c is own m n = chained acts (OfLook place 0) (OverSides acts place node.number act.first) (AtPlace place) a b c m n asks
   where
-    asks : (z : Near) → AtPlace place z → IsNearLook acts z → OfLook place 0 z ⊎ OverSides acts place node.number act.first z
+    asks : (z : RacingPair) → AtPlace place z → IsNearLook acts z → OfLook place 0 z ⊎ OverSides acts place node.number act.first z
     asks z (inl x) f = inl (x.0, x.1, omega arith)
     asks z (inr x) f = inr (f.node, (x.0, x.1, f.look), sym (ap (λ (e : Event). shown_by e act.first act.second f.node) own) ∙ change_here acts place act z f is x.0)
 
-pub pass_at : (acts : List EventAccess) (place : ℕ) (act : EventAccess) (w r : NodeId) (side : Side) (a b c : List Near) → action_in act ≡ action_at (actions_in acts) place → act.cause.event ≡ Pass w r side
+pub pass_at : (acts : List EventAccess) (place : ℕ) (act : EventAccess) (w r : NodeId) (side : Side) (a b c : List RacingPair) → action_in act ≡ action_at (actions_in acts) place → act.cause.event ≡ Pass w r side
     → IsMore acts (OverSides acts place w.number act.first) a b → IsMore acts (OverSides acts place r.number act.second) b c → IsMore acts (AtPlace place) a c
 pass_at acts place act w r side a b c is pass m n = chained acts (OverSides acts place w.number act.first) (OverSides acts place r.number act.second) (AtPlace place) a b c m n asks
   where
-    no_look : (z : Near) → z.look ≡ place → IsNearLook acts z → ⊥
+    no_look : (z : RacingPair) → z.look ≡ place → IsNearLook acts z → ⊥
     no_look z at f =
         let k : is_look_of (action_in act) f.node ≡ true = ap (λ (x : Action). is_look_of x f.node) is ∙ subst (λ (k : ℕ). is_look_of (action_at (actions_in acts) k) f.node ≡ true) at f.look in
         both_ways (is_own_of act.cause.event f.node) (ap (λ (e : Event). is_own_of e f.node) pass) (and_parts act.cause.look (is_own_of act.cause.event f.node) k).1
 
-    asks : (z : Near) → AtPlace place z → IsNearLook acts z → OverSides acts place w.number act.first z ⊎ OverSides acts place r.number act.second z
+    asks : (z : RacingPair) → AtPlace place z → IsNearLook acts z → OverSides acts place w.number act.first z ⊎ OverSides acts place r.number act.second z
     asks z (inl x) f = absurd (no_look z x.0 f)
     asks z (inr x) f = elim (or_cases (side_leads_to act.first w.number f.node) (side_leads_to act.second r.number f.node) (sym (ap (λ (e : Event). shown_by e act.first act.second f.node) pass) ∙ change_here acts place act z f is x.0)) [
       | inl h ↦ inl (f.node, (x.0, x.1, f.look), h)
@@ -227,14 +227,14 @@ pass_at acts place act w r side a b c is pass m n = chained acts (OverSides acts
 
 -- ---- the whole list
 
-pub place_next : (acts : List EventAccess) (place : ℕ) (a b c : List Near) → IsMore acts (BelowPlace place) a b → IsMore acts (AtPlace place) b c → IsMore acts (BelowPlace (place + 1)) a c
+pub place_next : (acts : List EventAccess) (place : ℕ) (a b c : List RacingPair) → IsMore acts (BelowPlace place) a b → IsMore acts (AtPlace place) b c → IsMore acts (BelowPlace (place + 1)) a c
 place_next acts place a b c m n = chained acts (BelowPlace place) (AtPlace place) (BelowPlace (place + 1)) a b c m n asks
   where
-    apart : (z : Near) → AreNear (actions_in acts) z.look z.change ⊎ AreNear (actions_in acts) z.change z.look → z.look ≡ z.change → ⊥
+    apart : (z : RacingPair) → AreRacing (actions_in acts) z.look z.change ⊎ AreRacing (actions_in acts) z.change z.look → z.look ≡ z.change → ⊥
     apart z (inl f) q = let k : z.look < z.change = f.bound.before in omega (arith, k, q)
     apart z (inr f) q = let k : z.change < z.look = f.bound.before in omega (arith, k, q)
 
-    asks : (z : Near) → BelowPlace (place + 1) z → IsNearLook acts z → BelowPlace place z ⊎ AtPlace place z
+    asks : (z : RacingPair) → BelowPlace (place + 1) z → IsNearLook acts z → BelowPlace place z ⊎ AtPlace place z
     asks z r f =
         let a : z.look < place + 1 = r.0 in
         let b : z.change < place + 1 = r.1 in
@@ -249,7 +249,7 @@ place_next acts place a b c m n = chained acts (BelowPlace place) (AtPlace place
           ]
         ]
 
-pub none_first : (acts : List EventAccess) (xs : List Near) → IsMore acts (BelowPlace 0) xs xs
+pub none_first : (acts : List EventAccess) (xs : List RacingPair) → IsMore acts (BelowPlace 0) xs xs
 none_first acts xs = nothing acts (BelowPlace 0) xs (λ z r f. let a : z.look < 0 = r.0 in absurd (omega (arith, a)))
 
 pub marks_next : (acts : List EventAccess) (place : ℕ) (act : EventAccess) (old new : ℕ → Bool) → action_in act ≡ action_at (actions_in acts) place → ((n : ℕ) → new n ≡ (old n || has_looked (action_in act) n))
@@ -262,7 +262,7 @@ marks_next acts place act old new is more marked q n l look = elim (cases_lt q p
       more n ∙ or_right (old n) (has_looked (action_in act) n) (and_both act.cause.look (touches act.cause.event n) p.0 (own_touches act.cause.event n p.1)))
 ]
 
-pub all_found : (acts : List EventAccess) (place : ℕ) (xs : List Near) → length acts ≤ place → IsMore acts (BelowPlace place) [] xs → (z : Near) → (Contains xs z → IsNearLook acts z) × (IsNearLook acts z → Contains xs z)
+pub all_found : (acts : List EventAccess) (place : ℕ) (xs : List RacingPair) → length acts ≤ place → IsMore acts (BelowPlace place) [] xs → (z : RacingPair) → (Contains xs z → IsNearLook acts z) × (IsNearLook acts z → Contains xs z)
 all_found acts place xs l m z = (λ h. from (m.sound z h), λ f. m.all z (within f.order) f)
   where
     from : Contains [] z ⊎ IsNearLook acts z → IsNearLook acts z
@@ -272,7 +272,7 @@ all_found acts place xs l m z = (λ h. from (m.sound z h), λ f. m.all z (within
     size : length (actions_in acts) ≡ length acts
     size = length-map acts action_in
 
-    within : AreNear (actions_in acts) z.look z.change ⊎ AreNear (actions_in acts) z.change z.look → BelowPlace place z
+    within : AreRacing (actions_in acts) z.look z.change ⊎ AreRacing (actions_in acts) z.change z.look → BelowPlace place z
     within (inl f) =
         let k : z.look < z.change = f.bound.before in
         let j : z.change < length (actions_in acts) = f.bound.within in

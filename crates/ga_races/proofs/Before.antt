@@ -6,13 +6,13 @@ use Rattle.std.proofs.lemmas.Option.{same_Some}
 use Rattle.ga_node.specs.Record.{NodeRecord}
 use Rattle.ga_event.specs.declared.event.Event.{Event}
 use Rattle.ga_event.specs.declared.event.Cause.{Cause}
-use Rattle.ga_event.specs.Apply.{Told, after, cause_of, run, replay}
-use Rattle.ga_causal.proofs.Shuffles.{touched_of}
+use Rattle.ga_event.specs.Apply.{EventOutcome, after, cause_of, run, replay}
+use Rattle.ga_causal.proofs.Equivalences.{touched_of}
 use Rattle.ga_causal.proofs.Runs.{causes, first_of_run}
 use Rattle.ga_causal.proofs.Words.{after_is}
-use Rattle.ga_races.specs.Orders.{CanBe, AreFree, AreOrders, same, swapped, later, joined}
-use Rattle.ga_races.specs.HappensBefore.{Action, action_of, actions, causes_in, action_at, are_bound, IsBound, HappensBefore, directly, through, IsStepOf, StandsBefore}
-use Rattle.ga_races.proofs.Frees.{replay_more, first_of, can_still, free_chip, apart-sym}
+use Rattle.ga_races.specs.Orders.{IsEnabled, AreIndependentOn, AreReorderings, same, swapped, later, joined}
+use Rattle.ga_races.specs.HappensBefore.{Action, action_of, actions, causes_in, action_at, are_dependent, IsDirectlyBefore, HappensBefore, directly, through, IsStepOf, StandsBefore}
+use Rattle.ga_races.proofs.Independence.{replay_more, first_of, still_enabled, independent_on_chip, apart-sym}
 use Rattle.ga_races.proofs.Orders.{some_of}
 use Rattle.ga_races.proofs.Exact.{replay_into}
 use Rattle.ga_races.proofs.Bound.{Apart, action_still, free_of}
@@ -21,7 +21,7 @@ use Rattle.ga_races.proofs.Moves.{Moves, flip, lifted, moves_same, moves_behind,
 -- ---- one pass over the list: whether an action depends directly on one of those that are reached
 
 abbrev pub meets_some : List Action → Action → Bool
-meets_some held a = list_any (λ b. are_bound b a) held
+meets_some held a = list_any (λ b. are_dependent b a) held
 
 abbrev pub reached : List Action → List Action → ℕ → Bool
 reached held [] j = false
@@ -60,13 +60,13 @@ held_more all first place (b ∷ held) a h k = (h.0, held_more all first place h
 
 bound_held : (all : List Action) (first place : ℕ) (held : List Action) (a : Action) → AreHeld all first place held → action_at all place ≡ a → place < length all → meets_some held a ≡ true → HappensBefore all first place
 bound_held all first place [] a h is l t = absurd (both_ways false refl t)
-bound_held all first place (b ∷ held) a h is l t = elim (or_cases (are_bound b a) (meets_some held a) t) [
-  | inl q ↦ go h.0.from (record { before = h.0.before; within = l; bound = ap₂ are_bound h.0.is is ∙ q })
+bound_held all first place (b ∷ held) a h is l t = elim (or_cases (are_dependent b a) (meets_some held a) t) [
+  | inl q ↦ go h.0.from (record { before = h.0.before; within = l; bound = ap₂ are_dependent h.0.is is ∙ q })
   | inr q ↦ bound_held all first place held a h.1 is l q
 ]
   where
-    go : (first ≡ h.0.at) ⊎ HappensBefore all first h.0.at → IsBound all h.0.at place → HappensBefore all first place
-    go (inl q) d = directly (subst (λ (z : ℕ). IsBound all z place) (sym q) d)
+    go : (first ≡ h.0.at) ⊎ HappensBefore all first h.0.at → IsDirectlyBefore all h.0.at place → HappensBefore all first place
+    go (inl q) d = directly (subst (λ (z : ℕ). IsDirectlyBefore all z place) (sym q) d)
     go (inr k) d = through k d
 
 -- the list from a place on
@@ -123,18 +123,18 @@ actions_into [] ys c d h = ap (λ z. actions z ys) (same_Some c d h)
 actions_into (f ∷ fs) ys c d h = let p = first_of c f fs d h in ap (λ (z : List Action). action_of c f ∷ z) (actions_into fs ys (after c f).0 d p.then)
 
 pub record IsOver (c d : List NodeRecord) (fs : List Event) (y : Event) (zs : List Event) : Type 0 where
-  pub can : CanBe c y
+  pub can : IsEnabled c y
   pub still : action_of c y ≡ action_of d y
   pub kept : actions (after c y).0 fs ≡ actions c fs
   pub led : replay (after c y).0 fs ≡ Some (after d y).0
-  pub order : AreOrders c (fs ++ y ∷ zs) (y ∷ fs ++ zs)
+  pub order : AreReorderings c (fs ++ y ∷ zs) (y ∷ fs ++ zs)
   pub to : ℕ → ℕ
   pub moves : Moves to (actions c (fs ++ y ∷ zs)) (actions c (y ∷ fs ++ zs))
   pub first : to (length fs) ≡ 0
   pub behind : (p : ℕ) → p < length fs → to p ≡ suc p
   pub beyond : (p : ℕ) → length fs < p → to p ≡ p
 
-over_none : (c d : List NodeRecord) (y : Event) (zs : List Event) → c ≡ d → CanBe d y → IsOver c d [] y zs
+over_none : (c d : List NodeRecord) (y : Event) (zs : List Event) → c ≡ d → IsEnabled d y → IsOver c d [] y zs
 over_none c d y zs q can = subst (λ z. IsOver z d [] y zs) (sym q) (record {
   can = can;
   still = refl;
@@ -148,12 +148,12 @@ over_none c d y zs q can = subst (λ z. IsOver z d [] y zs) (sym q) (record {
   beyond = λ p l. refl;
 })
 
-over_more : (c d : List NodeRecord) (f : Event) (fs : List Event) (y : Event) (zs : List Event) → CanBe c f → IsOver (after c f).0 d fs y zs → are_bound (action_of c f) (action_of d y) ≡ false → IsOver c d (f ∷ fs) y zs
+over_more : (c d : List NodeRecord) (f : Event) (fs : List Event) (y : Event) (zs : List Event) → IsEnabled c f → IsOver (after c f).0 d fs y zs → are_dependent (action_of c f) (action_of d y) ≡ false → IsOver c d (f ∷ fs) y zs
 over_more c d f fs y zs canf o none = record {
   can = cany;
   still = sym (action_still c f y canf cany free.apart free.second) ∙ o.still;
-  kept = ap₂ (λ (a : Action) (z : List NodeRecord). a ∷ actions z fs) (action_still c y f cany canf back free.first) (sym (free_chip c f y canf cany free)) ∙ ap (λ (z : List Action). action_of c f ∷ z) o.kept;
-  led = replay_more (after c y).0 f fs (can_still c f y free.apart cany canf) ∙ ap (λ z. replay z fs) (sym (free_chip c f y canf cany free)) ∙ o.led;
+  kept = ap₂ (λ (a : Action) (z : List NodeRecord). a ∷ actions z fs) (action_still c y f cany canf back free.first) (sym (independent_on_chip c f y canf cany free)) ∙ ap (λ (z : List Action). action_of c f ∷ z) o.kept;
+  led = replay_more (after c y).0 f fs (still_enabled c f y free.apart cany canf) ∙ ap (λ z. replay z fs) (sym (independent_on_chip c f y canf cany free)) ∙ o.led;
   order = joined (later canf o.order) (swapped canf cany free);
   to = λ i. flip (lifted o.to i);
   moves = moves_chained (actions c (f ∷ fs ++ y ∷ zs)) (actions c (f ∷ y ∷ fs ++ zs)) (actions c (y ∷ f ∷ fs ++ zs)) (lifted o.to) flip
@@ -163,13 +163,13 @@ over_more c d f fs y zs canf o none = record {
   beyond = beyond;
 }
   where
-    both : CanBe c y × AreFree c f y
-    both = free_of c f y canf o.can (ap (are_bound (action_of c f)) o.still ∙ none)
+    both : IsEnabled c y × AreIndependentOn c f y
+    both = free_of c f y canf o.can (ap (are_dependent (action_of c f)) o.still ∙ none)
 
-    cany : CanBe c y
+    cany : IsEnabled c y
     cany = both.0
 
-    free : AreFree c f y
+    free : AreIndependentOn c f y
     free = both.1
 
     back : Apart y f
@@ -184,18 +184,18 @@ over_more c d f fs y zs canf o none = record {
     beyond (suc zero) l = absurd (omega (arith, l))
     beyond (suc (suc p)) l = ap (λ (i : ℕ). flip (suc i)) (o.beyond (suc p) (omega (arith, l)))
 
-pub over : (fs : List Event) (c d : List NodeRecord) (y : Event) (zs : List Event) → replay c fs ≡ Some d → CanBe d y → meets_some (actions c fs) (action_of d y) ≡ false → IsOver c d fs y zs
+pub over : (fs : List Event) (c d : List NodeRecord) (y : Event) (zs : List Event) → replay c fs ≡ Some d → IsEnabled d y → meets_some (actions c fs) (action_of d y) ≡ false → IsOver c d fs y zs
 over [] c d y zs h can none = over_none c d y zs (same_Some c d h) can
 over (f ∷ fs) c d y zs h can none =
     let p = first_of c f fs d h in
-    let q = or_parts (are_bound (action_of c f) (action_of d y)) (meets_some (actions (after c f).0 fs) (action_of d y)) none in
+    let q = or_parts (are_dependent (action_of c f) (action_of d y)) (meets_some (actions (after c f).0 fs) (action_of d y)) none in
     over_more c d f fs y zs p.can (over fs (after c f).0 d y zs p.then can q.1) q.0
 
 -- ---- an event that isn't reached comes before
 
 pub record IsTurned (c : List NodeRecord) (xs : List Event) (i j : ℕ) : Type 0 where
   pub others : List Event
-  pub order : AreOrders c xs others
+  pub order : AreReorderings c xs others
   pub to : ℕ → ℕ
   pub moves : Moves to (actions c xs) (actions c others)
   pub turned : to j < to i
@@ -225,7 +225,7 @@ turned_over c d fs y zs p j o l t = record {
 pub longer_by : (fs : List Event) (y : Event) → length (fs ++ y ∷ []) ≡ suc (length fs)
 longer_by fs y = length-append fs (y ∷ []) ∙ (let e : length fs + 1 ≡ suc (length fs) = omega arith in e)
 
-pulled_next : (c d : List NodeRecord) (fs : List Event) (y : Event) (es : List Event) (p j : ℕ) → replay c fs ≡ Some d → CanBe d y → p < length fs
+pulled_next : (c d : List NodeRecord) (fs : List Event) (y : Event) (es : List Event) (p j : ℕ) → replay c fs ≡ Some d → IsEnabled d y → p < length fs
     → (b : Bool) → meets_some (actions c fs) (action_of d y) ≡ b → cond b (reached (actions c fs ++ action_of d y ∷ []) (actions (after d y).0 es) j) (reached (actions c fs) (actions (after d y).0 es) j) ≡ false
     → (replay c (fs ++ y ∷ []) ≡ Some (after d y).0 → length (fs ++ y ∷ []) ≡ suc (length fs) → reached (actions c (fs ++ y ∷ [])) (actions (after d y).0 es) j ≡ false → IsTurned c ((fs ++ y ∷ []) ++ es) p (length (fs ++ y ∷ []) + j))
     → ((now : List NodeRecord) → replay now fs ≡ Some (after d y).0 → reached (actions now fs) (actions (after d y).0 es) j ≡ false → IsTurned now (fs ++ es) p (length fs + j))
@@ -270,14 +270,14 @@ turned_at (e ∷ es) c last (suc i) (suc j) h l m none =
 
 -- ---- as the law states it
 
-pub every_order : (c : List NodeRecord) (es fs : List Event) (i j : ℕ) → HappensBefore (actions c es) i j → AreOrders c es fs → StandsBefore c es fs i j
+pub every_order : (c : List NodeRecord) (es fs : List Event) (i j : ℕ) → HappensBefore (actions c es) i j → AreReorderings c es fs → StandsBefore c es fs i j
 every_order c es fs i j h order n k m l p q a b x y =
     let t = moves_of c es fs order in
     let r : t.0 i ≡ p = tallied_one (actions c fs) n k (t.0 i) p (tallied_moved (actions c es) (actions c fs) t.0 n k i t.1 (tallied_of (actions c es) n k i a)) (tallied_of (actions c fs) n k p x) in
     let s : t.0 j ≡ q = tallied_one (actions c fs) m l (t.0 j) q (tallied_moved (actions c es) (actions c fs) t.0 m l j t.1 (tallied_of (actions c es) m l j b)) (tallied_of (actions c fs) m l q y) in
     subst₂ (λ (u v : ℕ). u < v) r s (before_moved (actions c es) (actions c fs) t.0 i j t.1 h)
 
-some_order : (c : List NodeRecord) (es : List Event) (i j : ℕ) → IsTurned c es i j → (others : List Event) × AreOrders c es others × StandsBefore c es others j i
+some_order : (c : List NodeRecord) (es : List Event) (i j : ℕ) → IsTurned c es i j → (others : List Event) × AreReorderings c es others × StandsBefore c es others j i
 some_order c es i j t = (
   t.others,
   t.order,
@@ -295,7 +295,7 @@ before_of xs i j t = subst₂ (HappensBefore xs) (let e : 0 + i ≡ i = omega ar
 
 -- an event that doesn't happen before a later one comes after it in some order
 pub other_order : (c : List NodeRecord) (es : List Event) (i j : ℕ) → IsSome (replay c es) → i < j → j < length es → (HappensBefore (actions c es) i j → ⊥)
-    → (others : List Event) × AreOrders c es others × StandsBefore c es others j i
+    → (others : List Event) × AreReorderings c es others × StandsBefore c es others j i
 other_order c es i j h l m never =
     let a = some_of (replay c es) h in
     some_order c es i j (turned_at es c a.0 i j a.1 l m (false_from_ne_true (reached_from (actions c es) i j) (λ t. never (before_of (actions c es) i j t))))
@@ -318,7 +318,7 @@ named_of c es i l =
     let size : length (actions c es) ≡ length es = actions_length c es in
     record { node = t.node; number = suc (tally t.node (actions c es) i); tallied = record { within = omega (arith, l, size); touched = t.is; before = refl } }
 
-not_both : (c : List NodeRecord) (es : List Event) (i j : ℕ) → i < length es → j < length es → IsTurned c es i j → ((others : List Event) → AreOrders c es others → StandsBefore c es others i j) → ⊥
+not_both : (c : List NodeRecord) (es : List Event) (i j : ℕ) → i < length es → j < length es → IsTurned c es i j → ((others : List Event) → AreReorderings c es others → StandsBefore c es others i j) → ⊥
 not_both c es i j l m t every =
     let a = named_of c es i l in
     let b = named_of c es j m in
@@ -329,9 +329,9 @@ not_both c es i j l m t every =
     let q : t.to j < t.to i = t.turned in
     omega (arith, p, q)
 
-pub exact : (c : List NodeRecord) (es : List Event) (i j : ℕ) → IsSome (replay c es) → i < j → j < length es
-    → HappensBefore (actions c es) i j ↔ ((others : List Event) → AreOrders c es others → StandsBefore c es others i j)
-exact c es i j h l m = (
+pub no_race_if_confluent : (c : List NodeRecord) (es : List Event) (i j : ℕ) → IsSome (replay c es) → i < j → j < length es
+    → HappensBefore (actions c es) i j ↔ ((others : List Event) → AreReorderings c es others → StandsBefore c es others i j)
+no_race_if_confluent c es i j h l m = (
   λ b others order. every_order c es others i j b order,
   λ every. elim (cases_Bool (reached_from (actions c es) i j)) [
     | inl t ↦ before_of (actions c es) i j t
@@ -340,19 +340,19 @@ exact c es i j h l m = (
 )
 
 -- each step exists in each order
-pub stands : (c : List NodeRecord) (es fs : List Event) (n k i : ℕ) → AreOrders c es fs → IsStepOf c es n k i → (p : ℕ) × IsStepOf c fs n k p
+pub stands : (c : List NodeRecord) (es fs : List Event) (n k i : ℕ) → AreReorderings c es fs → IsStepOf c es n k i → (p : ℕ) × IsStepOf c fs n k p
 stands c es fs n k i h s =
     let t = moves_of c es fs h in
     (t.0 i, step_of (actions c fs) n k (t.0 i) (tallied_moved (actions c es) (actions c fs) t.0 n k i t.1 (tallied_of (actions c es) n k i s)))
 
 -- the actions are the causes of the run
-pub causes_of_run : (es : List Event) (c last : List NodeRecord) (ts : List (Cause × Told)) → run c es ≡ Some (last, ts) → causes_in (actions c es) ≡ causes ts
-causes_of_run [] c last ts h = ap (λ (z : List NodeRecord × List (Cause × Told)). causes z.1) (same_Some (c, []) (last, ts) h)
+pub causes_of_run : (es : List Event) (c last : List NodeRecord) (ts : List (Cause × EventOutcome)) → run c es ≡ Some (last, ts) → causes_in (actions c es) ≡ causes ts
+causes_of_run [] c last ts h = ap (λ (z : List NodeRecord × List (Cause × EventOutcome)). causes z.1) (same_Some (c, []) (last, ts) h)
 causes_of_run (e ∷ es) c last ts h =
     let m = first_of_run c e es last ts h in
     ap (λ (z : List Cause). cause_of c e ∷ z)
-    (ap (λ (d : List NodeRecord). causes_in (actions d es)) (ap (λ (z : List NodeRecord × Told). z.0) (after_is c m.mid e m.told m.first)) ∙ causes_of_run es m.mid last m.others m.then)
-    ∙ ap (λ (z : List (Cause × Told)). causes z) (sym m.all)
+    (ap (λ (d : List NodeRecord). causes_in (actions d es)) (ap (λ (z : List NodeRecord × EventOutcome). z.0) (after_is c m.mid e m.told m.first)) ∙ causes_of_run es m.mid last m.others m.then)
+    ∙ ap (λ (z : List (Cause × EventOutcome)). causes z) (sym m.all)
 
 -- each event is a step
 pub step_named : (c : List NodeRecord) (es : List Event) (i : ℕ) → i < length es → (n : ℕ) × (k : ℕ) × IsStepOf c es n k i

@@ -11,15 +11,15 @@ use Rattle.ga_node.specs.Record.{NodeRecord}
 use Rattle.ga_node.specs.Table.{looks}
 use Rattle.ga_grid.specs.Grid.{neighbour_of}
 use Rattle.ga_grid.specs.Chip.{record_at}
-use Rattle.ga_event.specs.Apply.{Agree, shows, beside_in, seen_from, after, is_look}
+use Rattle.ga_event.specs.Apply.{Agree, shows, beside_in, neighbour_states, after, is_look}
 use Rattle.ga_event.specs.declared.event.Event.{Event}
 use Rattle.ga_event.specs.declared.event.Event.TheVariants.{Own, Pass}
 use Rattle.ga_event.specs.Touches.{nodes_of, touches}
 use Rattle.ga_causal.specs.Words.{word_of}
 use Rattle.ga_causal.proofs.Words.{same_node}
-use Rattle.ga_races.specs.Orders.{CanBe, AreFree}
-use Rattle.ga_races.specs.HappensBefore.{Action, action_of, is_shown, are_bound}
-use Rattle.ga_races.proofs.Frees.{replay_more, stays, can_still, can_back, any_of, apart_of, apart-sym}
+use Rattle.ga_races.specs.Orders.{IsEnabled, AreIndependentOn}
+use Rattle.ga_races.specs.HappensBefore.{Action, action_of, is_shown, are_dependent}
+use Rattle.ga_races.proofs.Independence.{replay_more, stays, still_enabled, can_back, any_of, independent_of, apart-sym}
 use Rattle.ga_races.proofs.Blind.{look_still, word_still}
 
 abbrev pub Apart : Event → Event → Type 0
@@ -49,8 +49,8 @@ module _ (one other : ℕ → Bool) (apart : (n : ℕ) → one n ≡ true → ot
       → (0x155 + r1 + d1 + l1 + u1) + (0x155 + r4 + d4 + l4 + u4) ≡ (0x155 + r2 + d2 + l2 + u2) + (0x155 + r3 + d3 + l3 + u3)
   sum_of r1 r2 r3 r4 d1 d2 d3 d4 l1 l2 l3 l4 u1 u2 u3 u4 p q s t = omega (arith, p, q, s, t)
 
-  io_sum : (n : ℕ) → io_word (seen_from c n) + io_word (seen_from v n) ≡ io_word (seen_from d n) + io_word (seen_from u n)
-  unfolding io_word seen_from
+  io_sum : (n : ℕ) → io_word (neighbour_states c n) + io_word (neighbour_states v n) ≡ io_word (neighbour_states d n) + io_word (neighbour_states u n)
+  unfolding io_word neighbour_states
   io_sum n =
       sum_of _ _ _ _ _ _ _ _ _ _ _ _ _ _ _ _
       (side_sum Right (neighbour_of n Right) 16 15) (side_sum Down (neighbour_of n Down) 14 13)
@@ -62,13 +62,13 @@ module _ (one other : ℕ → Bool) (apart : (n : ℕ) → one n ≡ true → ot
     | inr ne ↦ ne_eqb y x (λ k. ne (let g : b ≡ a = omega (arith, h, k) in g)) ∙ sym (ne_eqb b a ne)
   ]
 
-  changes_alike : (n : ℕ) → (io_word (seen_from v n) == io_word (seen_from u n)) ≡ (io_word (seen_from d n) == io_word (seen_from c n))
-  changes_alike n = equal_alike (io_word (seen_from c n)) (io_word (seen_from d n)) (io_word (seen_from u n)) (io_word (seen_from v n)) (io_sum n)
+  changes_alike : (n : ℕ) → (io_word (neighbour_states v n) == io_word (neighbour_states u n)) ≡ (io_word (neighbour_states d n) == io_word (neighbour_states c n))
+  changes_alike n = equal_alike (io_word (neighbour_states c n)) (io_word (neighbour_states d n)) (io_word (neighbour_states u n)) (io_word (neighbour_states v n)) (io_sum n)
 
 -- the chips after an event with the other before it and without, where it receives the same word
-agree_behind : (c : List NodeRecord) (e f : Event) → CanBe c e → CanBe c f → Apart e f → word_of (after c e).0 f ≡ word_of c f → Agree (touches e) (after c f).0 (after (after c e).0 f).0
+agree_behind : (c : List NodeRecord) (e f : Event) → IsEnabled c e → IsEnabled c f → Apart e f → word_of (after c e).0 f ≡ word_of c f → Agree (touches e) (after c f).0 (after (after c e).0 f).0
 agree_behind c e f cane canf apart word =
-    let then : CanBe (after c e).0 f = can_still c f e (apart-sym e f apart) cane canf in
+    let then : IsEnabled (after c e).0 f = still_enabled c f e (apart-sym e f apart) cane canf in
     record {
       size = sym (stays c f canf).size ∙ (stays c e cane).size ∙ (stays (after c e).0 f then).size;
       same = λ n out. same_node c (after c e).0 (after c f).0 (after (after c e).0 f).0 (f ∷ []) (f ∷ []) n (replay_more c f [] canf) (replay_more (after c e).0 f [] then)
@@ -76,10 +76,10 @@ agree_behind c e f cane canf apart word =
     }
 
 -- an event is the same action after another that touches none of its nodes and after which it receives the same word
-pub action_still : (c : List NodeRecord) (e f : Event) → CanBe c e → CanBe c f → Apart e f → word_of (after c e).0 f ≡ word_of c f → action_of (after c e).0 f ≡ action_of c f
+pub action_still : (c : List NodeRecord) (e f : Event) → IsEnabled c e → IsEnabled c f → Apart e f → word_of (after c e).0 f ≡ word_of c f → action_of (after c e).0 f ≡ action_of c f
 action_still c e f cane canf apart word =
     let back = apart-sym e f apart in
-    let then : CanBe (after c e).0 f = can_still c f e back cane canf in
+    let then : IsEnabled (after c e).0 f = still_enabled c f e back cane canf in
     ap₂ (λ (look : Bool) (changes : ℕ → Bool). let made : Action = record { cause = record { event = f; look = look }; changes = changes } in made)
     (look_still c f e cane back)
     (fun_ext (λ n. ap not (changes_alike (touches e) (touches f) apart c (after c f).0 (after c e).0 (after (after c e).0 f).0
@@ -100,21 +100,21 @@ same_of true x y h = ap Some (eqb-true x y (equal (x == y) h))
     equal false k = absurd (true≢false k)
 same_of false x y h = refl
 
-unshown : (c : List NodeRecord) (e f : Event) → CanBe c f → Apart e f → word_of (after c f).0 e ≡ word_of c e → is_shown (action_of c e) (action_of c f) ≡ false
+unshown : (c : List NodeRecord) (e f : Event) → IsEnabled c f → Apart e f → word_of (after c f).0 e ≡ word_of c e → is_shown (action_of c e) (action_of c f) ≡ false
 unshown c (Own a) f canf apart word =
-    unshown_of (looks (record_at c a.number)) (io_word (seen_from (after c f).0 a.number)) (io_word (seen_from c a.number))
-    (ap (λ (b : Bool). cond {A = Option ℕ} b (Some (io_word (seen_from (after c f).0 a.number))) None) (sym (look_still c (Own a) f canf apart)) ∙ word)
+    unshown_of (looks (record_at c a.number)) (io_word (neighbour_states (after c f).0 a.number)) (io_word (neighbour_states c a.number))
+    (ap (λ (b : Bool). cond {A = Option ℕ} b (Some (io_word (neighbour_states (after c f).0 a.number))) None) (sym (look_still c (Own a) f canf apart)) ∙ word)
 unshown c (Pass w r side) f canf apart word = refl
 
-word_same : (c : List NodeRecord) (e f : Event) (a : Action) → CanBe c f → Apart e f → a.cause.event ≡ e → a.cause.look ≡ is_look c e → is_shown a (action_of c f) ≡ false → word_of (after c f).0 e ≡ word_of c e
+word_same : (c : List NodeRecord) (e f : Event) (a : Action) → IsEnabled c f → Apart e f → a.cause.event ≡ e → a.cause.look ≡ is_look c e → is_shown a (action_of c f) ≡ false → word_of (after c f).0 e ≡ word_of c e
 word_same c e f a canf apart is look none = by_event e apart
     (subst (λ (b : Bool). (b && list_any (action_of c f).changes (nodes_of e)) ≡ false) look
     (subst (λ (z : Event). (a.cause.look && list_any (action_of c f).changes (nodes_of z)) ≡ false) is none))
   where
     by_event : (g : Event) → Apart g f → (is_look c g && list_any (action_of c f).changes (nodes_of g)) ≡ false → word_of (after c f).0 g ≡ word_of c g
     by_event (Own n) free h =
-        ap (λ (b : Bool). cond {A = Option ℕ} b (Some (io_word (seen_from (after c f).0 n.number))) None) (look_still c (Own n) f canf free)
-        ∙ same_of (looks (record_at c n.number)) (io_word (seen_from (after c f).0 n.number)) (io_word (seen_from c n.number)) h
+        ap (λ (b : Bool). cond {A = Option ℕ} b (Some (io_word (neighbour_states (after c f).0 n.number))) None) (look_still c (Own n) f canf free)
+        ∙ same_of (looks (record_at c n.number)) (io_word (neighbour_states (after c f).0 n.number)) (io_word (neighbour_states c n.number)) h
     by_event (Pass w r side) free h = word_still c (Pass w r side) f canf free refl
 
 none_common : (e f : Event) → Apart e f → list_any (touches e) (nodes_of f) ≡ false
@@ -122,33 +122,33 @@ none_common e f apart =
     false_from_ne_true (list_any (touches e) (nodes_of f)) (λ t. let k = any_of (touches e) (nodes_of f) t in both_ways (touches f k.node) (apart k.node k.marked) k.listed)
 
 -- independent events are not dependent as actions
-pub unbound_of : (c : List NodeRecord) (e f : Event) → CanBe c e → CanBe c f → AreFree c e f → are_bound (action_of c e) (action_of c f) ≡ false
+pub unbound_of : (c : List NodeRecord) (e f : Event) → IsEnabled c e → IsEnabled c f → AreIndependentOn c e f → are_dependent (action_of c e) (action_of c f) ≡ false
 unbound_of c e f cane canf free =
     or_from (list_any (touches e) (nodes_of f)) (is_shown (action_of c e) (action_of c f) || is_shown (action_of c f) (action_of c e)) (none_common e f free.apart)
     (or_from (is_shown (action_of c e) (action_of c f)) (is_shown (action_of c f) (action_of c e))
     (unshown c e f canf free.apart free.first) (unshown c f e cane (apart-sym e f free.apart) free.second))
 
 -- and neighbours in a list whose actions are not dependent are independent
-pub free_of : (c : List NodeRecord) (e f : Event) → CanBe c e → CanBe (after c e).0 f → are_bound (action_of c e) (action_of (after c e).0 f) ≡ false → CanBe c f × AreFree c e f
+pub free_of : (c : List NodeRecord) (e f : Event) → IsEnabled c e → IsEnabled (after c e).0 f → are_dependent (action_of c e) (action_of (after c e).0 f) ≡ false → IsEnabled c f × AreIndependentOn c e f
 free_of c e f cane then none =
     let d = (after c e).0 in
     let p = or_parts (list_any (touches e) (nodes_of f)) (is_shown (action_of c e) (action_of d f) || is_shown (action_of d f) (action_of c e)) none in
     let q = or_parts (is_shown (action_of c e) (action_of d f)) (is_shown (action_of d f) (action_of c e)) p.1 in
-    let apart : Apart e f = apart_of e f p.0 in
+    let apart : Apart e f = independent_of e f p.0 in
     let back : Apart f e = apart-sym e f apart in
-    let canf : CanBe c f = can_back c f e back cane then in
+    let canf : IsEnabled c f = can_back c f e back cane then in
     let second : word_of d f ≡ word_of c f = word_same c f e (action_of d f) cane back refl (look_still c f e cane back) q.1 in
     let first : word_of (after c f).0 e ≡ word_of c e =
     word_same c e f (action_of c e) canf apart refl refl (subst (λ (a : Action). is_shown (action_of c e) a ≡ false) (action_still c e f cane canf apart second) q.0) in
     (canf, record { apart = apart; first = first; second = second })
 
 -- actions that are not dependent touch no common node
-pub unbound_apart : (a b : Action) → are_bound a b ≡ false → (n : ℕ) → touches a.cause.event n ≡ true → touches b.cause.event n ≡ false
-unbound_apart a b none = apart_of a.cause.event b.cause.event ((or_parts (list_any (touches a.cause.event) (nodes_of b.cause.event)) (is_shown a b || is_shown b a) none).0)
+pub unbound_apart : (a b : Action) → are_dependent a b ≡ false → (n : ℕ) → touches a.cause.event n ≡ true → touches b.cause.event n ≡ false
+unbound_apart a b none = independent_of a.cause.event b.cause.event ((or_parts (list_any (touches a.cause.event) (nodes_of b.cause.event)) (is_shown a b || is_shown b a) none).0)
 
 -- which are all cases of neighbours in a list
-pub free_exact : (c : List NodeRecord) (e f : Event) → CanBe c e → CanBe (after c e).0 f → (are_bound (action_of c e) (action_of (after c e).0 f) ≡ false) ↔ (CanBe c f × AreFree c e f)
+pub free_exact : (c : List NodeRecord) (e f : Event) → IsEnabled c e → IsEnabled (after c e).0 f → (are_dependent (action_of c e) (action_of (after c e).0 f) ≡ false) ↔ (IsEnabled c f × AreIndependentOn c e f)
 free_exact c e f cane then = (
   λ none. free_of c e f cane then none,
-  λ free. ap (are_bound (action_of c e)) (action_still c e f cane free.0 free.1.apart free.1.second) ∙ unbound_of c e f cane free.0 free.1,
+  λ free. ap (are_dependent (action_of c e)) (action_still c e f cane free.0 free.1.apart free.1.second) ∙ unbound_of c e f cane free.0 free.1,
 )

@@ -6,8 +6,8 @@ use Rattle.std.proofs.Math.Nat.{le-max_left, le-max_right}
 use Rattle.std.proofs.lemmas.Bool.{cases_lt, cases_order, both_ways, or_left}
 use Rattle.ga_event.specs.Touches.{nodes_of, touches}
 use Rattle.ga_causal.specs.Steps.{touching, IsStep}
-use Rattle.ga_races.specs.HappensBefore.{Action, causes_in, action_at, is_shown, are_bound, IsBound, HappensBefore, directly, through, IsClock, joined, clock_after}
-use Rattle.ga_races.proofs.Frees.{any_at}
+use Rattle.ga_races.specs.HappensBefore.{Action, causes_in, action_at, is_shown, are_dependent, IsDirectlyBefore, HappensBefore, directly, through, IsClock, joined, clock_after}
+use Rattle.ga_races.proofs.Independence.{any_at}
 use Rattle.ga_races.proofs.Moves.{tally, tally_is, tally_grows, before_within, IsTallied, tallied_of}
 use Rattle.ga_races.proofs.Tallies.{tally_up}
 
@@ -16,7 +16,7 @@ happens_trans xs i j k h (directly d) = through h d
 happens_trans xs i j k h (through {middle} g d) = through (happens_trans xs i j middle h g) d
 
 -- the last link of what happens before
-last_of : (xs : List Action) (i j : ℕ) → HappensBefore xs i j → (m : ℕ) × ((i ≡ m) ⊎ HappensBefore xs i m) × IsBound xs m j
+last_of : (xs : List Action) (i j : ℕ) → HappensBefore xs i j → (m : ℕ) × ((i ≡ m) ⊎ HappensBefore xs i m) × IsDirectlyBefore xs m j
 last_of xs i j (directly d) = (i, inl refl, d)
 last_of xs i j (through {middle} h d) = (middle, inr h, d)
 
@@ -48,7 +48,7 @@ one_of (c ∷ known) n k p l = elim (cases_lt (c.1 n) k) [
       | inr z ↦ z
     ]
 
-common : (a b : Action) (n : ℕ) → touches a.cause.event n ≡ true → touches b.cause.event n ≡ true → are_bound a b ≡ true
+common : (a b : Action) (n : ℕ) → touches a.cause.event n ≡ true → touches b.cause.event n ≡ true → are_dependent a b ≡ true
 common a b n t u = or_left (list_any (touches a.cause.event) (nodes_of b.cause.event)) (is_shown a b || is_shown b a) (any_at (touches a.cause.event) (nodes_of b.cause.event) n u t)
 
 pub in_order : (xs : List Action) (i j n : ℕ) → i < j → j < length xs → touches (action_at xs i).cause.event n ≡ true → touches (action_at xs j).cause.event n ≡ true → HappensBefore xs i j
@@ -70,8 +70,8 @@ tally_next n xs i l t = subst (λ (z : ℕ). tally n xs z ≡ suc (tally n xs i)
         more x a b h = omega (arith, h)
 
 module _ (xs : List Action) (place : ℕ) (known : List (ℕ × (ℕ → ℕ))) (inside : place < length xs)
-    (clocks : All (λ (p : ℕ × (ℕ → ℕ)). IsBound xs p.0 place × IsClock xs p.0 p.1) known)
-    (covered : (m : ℕ) → IsBound xs m place → (p : ℕ × (ℕ → ℕ)) × Contains known p × ((m ≡ p.0) ⊎ HappensBefore xs m p.0)) where
+    (clocks : All (λ (p : ℕ × (ℕ → ℕ)). IsDirectlyBefore xs p.0 place × IsClock xs p.0 p.1) known)
+    (covered : (m : ℕ) → IsDirectlyBefore xs m place → (p : ℕ × (ℕ → ℕ)) × Contains known p × ((m ≡ p.0) ⊎ HappensBefore xs m p.0)) where
   -- its own steps are counted
   own : (n k step : ℕ) → touches (action_at xs place).cause.event n ≡ true → IsTallied xs n k step → (k ≤ touching n (take (place + 1) (causes_in xs))) ↔ ((step ≡ place) ⊎ HappensBefore xs step place)
   own n k step t s = (forth, back)
@@ -113,8 +113,8 @@ module _ (xs : List Action) (place : ℕ) (known : List (ℕ × (ℕ → ℕ))) 
           let p = clocks r.at d r.within in
           inr (on p.0 ((p.1 n k step s).0 (r.is d)))
         where
-          on : {m : ℕ} → IsBound xs m place → (step ≡ m) ⊎ HappensBefore xs step m → HappensBefore xs step place
-          on {m} b (inl q) = directly (subst (λ (z : ℕ). IsBound xs z place) (sym q) b)
+          on : {m : ℕ} → IsDirectlyBefore xs m place → (step ≡ m) ⊎ HappensBefore xs step m → HappensBefore xs step place
+          on {m} b (inl q) = directly (subst (λ (z : ℕ). IsDirectlyBefore xs z place) (sym q) b)
           on {m} b (inr h) = through h b
 
       back : (step ≡ place) ⊎ HappensBefore xs step place → k ≤ joined known n

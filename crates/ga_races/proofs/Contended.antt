@@ -12,11 +12,11 @@ use Rattle.ga_event.specs.declared.event.Event.{Event}
 use Rattle.ga_event.specs.declared.event.Event.TheVariants.{Own, Pass}
 use Rattle.ga_event.specs.Touches.{nodes_of, touches}
 use Rattle.ga_event.specs.Apply.{writes_to, reads_from, after, replay}
-use Rattle.ga_races.specs.Orders.{CanBe, IsAtEnd, AreOrders, same, HasNoRace, IsRace, AreRivals}
-use Rattle.ga_races.specs.HappensBefore.{Action, actions, action_at, is_shown, are_bound, HappensBefore, chip_at, made_at, IsNear, IsContended}
-use Rattle.ga_races.proofs.Frees.{first_of, touches_reader, any_at}
+use Rattle.ga_races.specs.Orders.{IsEnabled, IsTerminal, AreReorderings, same, HasNoRace, IsRace, AreConflicting}
+use Rattle.ga_races.specs.HappensBefore.{Action, actions, action_at, is_shown, are_dependent, HappensBefore, chip_at, made_at, IsRacingPair, IsContended}
+use Rattle.ga_races.proofs.Independence.{first_of, touches_reader, any_at}
 use Rattle.ga_races.proofs.Orders.{order_replay, order_read, steps_read}
-use Rattle.ga_races.proofs.Rivals.{one_side, one_way, no_writer, wait_at, at_node, at_two, Open, open_of, number_of}
+use Rattle.ga_races.proofs.Conflicts.{one_side, one_way, no_writer, wait_at, at_node, at_two, Open, open_of, number_of}
 use Rattle.ga_races.proofs.Exact.{replay_into, Entry}
 use Rattle.ga_races.proofs.Exploring.{order-sym}
 use Rattle.ga_races.proofs.Moves.{tally, Moves, moves_of, before_within, tally_grows}
@@ -27,13 +27,13 @@ use Rattle.ga_races.proofs.Tallies.{tally_total, record_same, tally_up, between,
 
 -- ---- a pass that another writer could have taken the place of
 
-can_at : (es : List Event) (c last : List NodeRecord) (q : ℕ) → replay c es ≡ Some last → q < length es → CanBe (chip_at c es q) (made_at c es q)
+can_at : (es : List Event) (c last : List NodeRecord) (q : ℕ) → replay c es ≡ Some last → q < length es → IsEnabled (chip_at c es q) (made_at c es q)
 can_at [] c last q h l = absurd (omega (arith, l))
 can_at (e ∷ es) c last zero h l = (first_of c e es last h).can
 can_at (e ∷ es) c last (suc q) h l = can_at es (after c e).0 last q ((first_of c e es last h).then) (omega (arith, l))
 
 -- the next event of a node that waits to write is a pass to the reader
-only_pass : (d : List NodeRecord) (g : Event) (x r : NodeId) (side : Side) → CanBe d g → touches g x.number ≡ true → writes_to (record_at d x.number).wait side ≡ true → neighbour_of x.number side ≡ Some r.number → touches g r.number ≡ true
+only_pass : (d : List NodeRecord) (g : Event) (x r : NodeId) (side : Side) → IsEnabled d g → touches g x.number ≡ true → writes_to (record_at d x.number).wait side ≡ true → neighbour_of x.number side ≡ Some r.number → touches g r.number ≡ true
 only_pass d (Own a) x r side can t writes beside = absurd (no_writer (record_at d x.number).wait side (wait_at d a can x.number (at_node a.number x.number t)) writes)
 only_pass d (Pass w y s) x r side can t writes beside = go (at_two w.number y.number x.number t) (open_of d w y s can)
   where
@@ -44,7 +44,7 @@ only_pass d (Pass w y s) x r side can t writes beside = go (at_two w.number y.nu
         subst (λ (z : ℕ). touches (Pass w y s) z ≡ true) (same_Some y.number r.number (sym there ∙ beside)) (touches_reader w y s)
     go (inr e) o = absurd (one_way (record_at d x.number).wait side s writes (subst (λ (z : ℕ). reads_from (record_at d z).wait s ≡ true) e o.reads))
 
-module _ (c last : List NodeRecord) (xs ys : List Event) (h : replay c xs ≡ Some last) (order : AreOrders c xs ys) (f b : ℕ → ℕ) (m : Moves f (actions c xs) (actions c ys)) (w : Moves b (actions c ys) (actions c xs)) (p : ℕ) (other : Event) (r : IsRivalled c ys p other) where
+module _ (c last : List NodeRecord) (xs ys : List Event) (h : replay c xs ≡ Some last) (order : AreReorderings c xs ys) (f b : ℕ → ℕ) (m : Moves f (actions c xs) (actions c ys)) (w : Moves b (actions c ys) (actions c xs)) (p : ℕ) (other : Event) (r : IsRivalled c ys p other) where
   abbrev x : ℕ
   x = r.rivals.second.number
 
@@ -67,7 +67,7 @@ module _ (c last : List NodeRecord) (xs ys : List Event) (h : replay c xs ≡ So
   stands = let l : p < length ys = r.stands in omega (arith, l, size)
 
   ends : Open (chip_at c ys p) r.rivals.second r.rivals.reader r.rivals.other
-  ends = open_of (chip_at c ys p) r.rivals.second r.rivals.reader r.rivals.other (subst (CanBe (chip_at c ys p)) r.rivals.two r.can)
+  ends = open_of (chip_at c ys p) r.rivals.second r.rivals.reader r.rivals.other (subst (IsEnabled (chip_at c ys p)) r.rivals.two r.can)
 
   beside : neighbour_of x r.rivals.other ≡ Some rd
   beside = number_of (neighbour_of x r.rivals.other) rd ends.near
@@ -92,7 +92,7 @@ module _ (c last : List NodeRecord) (xs ys : List Event) (h : replay c xs ≡ So
       count : tally x (actions c ys) (f q) ≡ a
       count = sym (m.steps x q l t) ∙ is
 
-      bound_at : p < f q → are_bound (action_at (actions c ys) p) (action_at (actions c ys) (f q)) ≡ true
+      bound_at : p < f q → are_dependent (action_at (actions c ys) p) (action_at (actions c ys) (f q)) ≡ true
       bound_at k =
           let in_list : f q < length (actions c ys) = m.within q l in
           let there : f q < length ys = omega (arith, in_list, size) in
@@ -166,7 +166,7 @@ module _ (c last : List NodeRecord) (xs ys : List Event) (h : replay c xs ≡ So
 -- ---- as the law states it
 
 -- each race of two passes is contended
-pub rivals_contended : (c last : List NodeRecord) (es : List Event) (step other : Event) → replay c es ≡ Some last → IsRace c es step other → AreRivals step other
+pub rivals_contended : (c last : List NodeRecord) (es : List Event) (step other : Event) → replay c es ≡ Some last → IsRace c es step other → AreConflicting step other
     → (i : ℕ) × (made_at c es i ≡ step) × IsContended c es i other
 rivals_contended c last es step other h r rivals =
     let ys : List Event = r.before ++ step ∷ r.later in
@@ -177,15 +177,15 @@ rivals_contended c last es step other h r rivals =
     let b = moves_of c ys es (order-sym c es ys r.order) in
     let told : IsRivalled c ys (length r.before) other = record {
       stands = omega (arith, size);
-      rivals = subst (λ (z : Event). AreRivals z other) (sym at) rivals;
-      can = subst (λ (z : List NodeRecord). CanBe z other) (sym (chip_there r.before c r.now (step ∷ r.later) r.led)) r.can;
+      rivals = subst (λ (z : Event). AreConflicting z other) (sym at) rivals;
+      can = subst (λ (z : List NodeRecord). IsEnabled z other) (sym (chip_there r.before c r.now (step ∷ r.later) r.led)) r.can;
     } in (
       b.0 (length r.before),
       ap (λ (a : Action). a.cause.event) (sym (b.1.alike (length r.before) (omega (arith, size, all)))) ∙ at,
       contended_of c last es ys h r.order f.0 b.0 f.1 b.1 (length r.before) other told,
     )
 
-pub none_told : (c last : List NodeRecord) (es : List Event) → replay c es ≡ Some last → IsAtEnd last → ((i j : ℕ) → IsNear c es i j → ⊥) → ((i : ℕ) (other : Event) → IsContended c es i other → ⊥) → HasNoRace c es
+pub none_told : (c last : List NodeRecord) (es : List Event) → replay c es ≡ Some last → IsTerminal last → ((i j : ℕ) → IsRacingPair c es i j → ⊥) → ((i : ℕ) (other : Event) → IsContended c es i other → ⊥) → HasNoRace c es
 none_told c last es h end out calm step other r = go (told_behind r.before (step ∷ r.later) c r.now r.led (told_head r.now last step r.later other there end r.can r.differ r.bound))
   where
     ys : List Event
@@ -204,8 +204,8 @@ none_told c last es h end out calm step other r = go (told_behind r.before (step
         let b = moves_of c (r.before ++ step ∷ r.later) es (order-sym c es (r.before ++ step ∷ r.later) r.order) in
         calm (b.0 i) rival (contended_of c last es (r.before ++ step ∷ r.later) h r.order f.0 b.0 f.1 b.1 i rival n)
 
-pub decided_by : (c last : List NodeRecord) (es : List Event) → replay c es ≡ Some last → IsAtEnd last
-    → HasNoRace c es ↔ (((i j : ℕ) → IsNear c es i j → ⊥) × ((i : ℕ) (other : Event) → IsContended c es i other → ⊥))
+pub decided_by : (c last : List NodeRecord) (es : List Event) → replay c es ≡ Some last → IsTerminal last
+    → HasNoRace c es ↔ (((i j : ℕ) → IsRacingPair c es i j → ⊥) × ((i : ℕ) (other : Event) → IsContended c es i other → ⊥))
 decided_by c last es h end = (
   λ calm. (λ i j n. calm (made_at c es i) (made_at c es j) (near_races es c last i j h n), λ i other n. calm (made_at c es i) other (contended_races c last es i other h n)),
   λ told. none_told c last es h end told.0 told.1,

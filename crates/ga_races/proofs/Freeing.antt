@@ -12,7 +12,7 @@ use Rattle.ga_grid.specs.Grid.{neighbour_of}
 use Rattle.ga_grid.specs.Chip.{record_at}
 use Rattle.ga_event.specs.Apply.{writes_to, reads_from}
 use Rattle.ga_causal.specs.Dependence.{is_marked}
-use Rattle.ga_races.specs.Acts.{AreStuck, awaits, IsSubset}
+use Rattle.ga_races.specs.Acts.{AreDeadlocked, awaits, IsSubset}
 use Rattle.ga_races.specs.inner.{frees, is_freed_on, is_freed, MarksHalted, IsSettled}
 use Rattle.ga_event.proofs.Nexts.{neighbour_of-within as neighbour_within}
 
@@ -37,7 +37,7 @@ both : (a b : Bool) → (a ≡ true → b ≡ false) → (a && b) ≡ false
 both true b h = h refl
 both false b h = refl
 
-not_freed_by : (chip : List NodeRecord) (marks others : ℕ → Bool) (n : ℕ) (side : Side) (o : Option ℕ) → AreStuck chip others → ((m : ℕ) → others m ≡ true → neighbour_of n side ≡ Some m → marks m ≡ true)
+not_freed_by : (chip : List NodeRecord) (marks others : ℕ → Bool) (n : ℕ) (side : Side) (o : Option ℕ) → AreDeadlocked chip others → ((m : ℕ) → others m ≡ true → neighbour_of n side ≡ Some m → marks m ≡ true)
     → others n ≡ true → neighbour_of n side ≡ o → awaits (record_at chip n).wait side ≡ true → frees chip marks (record_at chip n).wait side o ≡ false
 not_freed_by chip marks others n side None s w h near a = refl
 not_freed_by chip marks others n side (Some m) s w h near a =
@@ -45,12 +45,12 @@ not_freed_by chip marks others n side (Some m) s w h near a =
     unmarked (marks m) (writes_to (record_at chip n).wait side && reads_from (record_at chip m).wait side) (w m in_set near)
     (both (writes_to (record_at chip n).wait side) (reads_from (record_at chip m).wait side) (λ q. s.apart n m side h in_set near q))
 
-not_freed_on : (chip : List NodeRecord) (marks others : ℕ → Bool) (n : ℕ) (side : Side) → AreStuck chip others → ((m : ℕ) → others m ≡ true → neighbour_of n side ≡ Some m → marks m ≡ true)
+not_freed_on : (chip : List NodeRecord) (marks others : ℕ → Bool) (n : ℕ) (side : Side) → AreDeadlocked chip others → ((m : ℕ) → others m ≡ true → neighbour_of n side ≡ Some m → marks m ≡ true)
     → others n ≡ true → is_freed_on chip marks n side ≡ false
 not_freed_on chip marks others n side s w h =
     both (awaits (record_at chip n).wait side) (frees chip marks (record_at chip n).wait side (neighbour_of n side)) (λ a. not_freed_by chip marks others n side (neighbour_of n side) s w h refl a)
 
-pub not_freed : (chip : List NodeRecord) (marks others : ℕ → Bool) (n : ℕ) → n < 144 → AreStuck chip others → IsSubset others marks → others n ≡ true → is_freed chip marks n ≡ false
+pub not_freed : (chip : List NodeRecord) (marks others : ℕ → Bool) (n : ℕ) → n < 144 → AreDeadlocked chip others → IsSubset others marks → others n ≡ true → is_freed chip marks n ≡ false
 unfolding is_freed
 not_freed chip marks others n at s w h =
     let near = λ (side : Side) (m : ℕ) (q : others m ≡ true) (e : neighbour_of n side ≡ Some m). w m (neighbour_within n m side at e) q in
@@ -64,7 +64,7 @@ not_freed chip marks others n at s w h =
     none_of p q v w = rw (p, q, v, w) refl
 
 -- a freed node is taken out, which is in no stuck set
-pub struck : (chip : List NodeRecord) (flags : List Bool) (at n : ℕ) (others : ℕ → Bool) → at ≡ n → is_freed chip (is_marked flags) n ≡ true → AreStuck chip others → IsSubset others (is_marked flags) → IsSubset others (is_marked (set flags at false))
+pub struck : (chip : List NodeRecord) (flags : List Bool) (at n : ℕ) (others : ℕ → Bool) → at ≡ n → is_freed chip (is_marked flags) n ≡ true → AreDeadlocked chip others → IsSubset others (is_marked flags) → IsSubset others (is_marked (set flags at false))
 struck chip flags at n others e f s w = λ m l h. ⊎_elim
     (λ q. absurd (true≢false (sym f ∙ not_freed chip (is_marked flags) others n (let z : n < 144 = omega (arith, q, e, l) in z) s w (subst (λ (z : ℕ). others z ≡ true) (q ∙ e) h))))
     (λ ne. get_or-set_other flags at m false false ne ∙ w m l h)
@@ -117,7 +117,7 @@ met chip marks n m side h a near =
 refused : (o : Option NotReady) → is_some o ≡ true → o ≢ None
 refused o h e = true≢false (sym h ∙ ap is_some e)
 
-pub are_stuck : (chip : List NodeRecord) (halted flags : List Bool) → length flags ≡ 144 → MarksHalted chip (is_marked halted) → IsSubset (is_marked flags) (is_marked halted) → IsSettled chip (is_marked flags) → AreStuck chip (is_marked flags)
+pub are_stuck : (chip : List NodeRecord) (halted flags : List Bool) → length flags ≡ 144 → MarksHalted chip (is_marked halted) → IsSubset (is_marked flags) (is_marked halted) → IsSettled chip (is_marked flags) → AreDeadlocked chip (is_marked flags)
 are_stuck chip halted flags size at_first within settled = record {
   halted = λ n h. let l : n < 144 = marked_within flags n size h in refused (refusal (record_at chip n)) (sym (at_first n l) ∙ within n l h);
   inside = λ n m side h a near. (met chip (is_marked flags) n m side (settled n h) a near).0;
@@ -131,7 +131,7 @@ some_reason : (o : Option NotReady) → o ≢ None → is_some o ≡ true
 some_reason None h = absurd (h refl)
 some_reason (Some why) h = refl
 
-pub halted_first : (chip : List NodeRecord) (halted : List Bool) (marks : ℕ → Bool) → MarksHalted chip (is_marked halted) → AreStuck chip marks → IsSubset marks (is_marked halted)
+pub halted_first : (chip : List NodeRecord) (halted : List Bool) (marks : ℕ → Bool) → MarksHalted chip (is_marked halted) → AreDeadlocked chip marks → IsSubset marks (is_marked halted)
 halted_first chip halted marks at_first s = λ n l h. at_first n l ∙ some_reason (refusal (record_at chip n)) (s.halted n h)
 
 -- the first side on which a node is freed

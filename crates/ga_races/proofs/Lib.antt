@@ -1,6 +1,6 @@
-pub mod Frees
+pub mod Independence
 pub mod Orders
-pub mod Rivals
+pub mod Conflicts
 pub mod Exact
 pub mod Blind
 pub mod Exploring

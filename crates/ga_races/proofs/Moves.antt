@@ -10,9 +10,9 @@ use Rattle.ga_event.specs.Apply.{after}
 use Rattle.ga_causal.specs.Dependence.{event_at}
 use Rattle.ga_causal.specs.Steps.{touching, IsStep}
 use Rattle.ga_causal.proofs.Places.{touching-cons}
-use Rattle.ga_races.specs.Orders.{CanBe, AreFree, AreOrders, same, swapped, later, joined}
-use Rattle.ga_races.specs.HappensBefore.{Action, action_of, actions, causes_in, action_at, are_bound, HappensBefore, directly, through}
-use Rattle.ga_races.proofs.Frees.{free_chip, free-sym, apart-sym}
+use Rattle.ga_races.specs.Orders.{IsEnabled, AreIndependentOn, AreReorderings, same, swapped, later, joined}
+use Rattle.ga_races.specs.HappensBefore.{Action, action_of, actions, causes_in, action_at, are_dependent, HappensBefore, directly, through}
+use Rattle.ga_races.proofs.Independence.{independent_on_chip, free-sym, apart-sym}
 use Rattle.ga_races.proofs.Bound.{action_still, unbound_of, unbound_apart}
 
 -- how many of the first actions touch the node
@@ -24,7 +24,7 @@ tally n (a ∷ xs) (suc i) = cond (touches a.cause.event n) 1 0 + tally n xs i
 pub record Moves (to : ℕ → ℕ) (xs ys : List Action) : Type 0 where
   pub within : (i : ℕ) → i < length xs → to i < length ys
   pub alike : (i : ℕ) → i < length xs → action_at xs i ≡ action_at ys (to i)
-  pub order : (i j : ℕ) → i < j → j < length xs → are_bound (action_at xs i) (action_at xs j) ≡ true → to i < to j
+  pub order : (i j : ℕ) → i < j → j < length xs → are_dependent (action_at xs i) (action_at xs j) ≡ true → to i < to j
   pub steps : (n i : ℕ) → i < length xs → touches (action_at xs i).cause.event n ≡ true → tally n xs i ≡ tally n ys (to i)
 
 abbrev pub flip : ℕ → ℕ
@@ -39,7 +39,7 @@ lifted f (suc i) = suc (f i)
 pub moves_same : (xs : List Action) → Moves (λ i. i) xs xs
 moves_same xs = record { within = λ i l. l; alike = λ i l. refl; order = λ i j l k r. l; steps = λ n i l t. refl }
 
-pub moves_flipped : (a b : Action) (zs : List Action) → are_bound a b ≡ false → Moves flip (a ∷ b ∷ zs) (b ∷ a ∷ zs)
+pub moves_flipped : (a b : Action) (zs : List Action) → are_dependent a b ≡ false → Moves flip (a ∷ b ∷ zs) (b ∷ a ∷ zs)
 moves_flipped a b zs none = record { within = within; alike = alike; order = order; steps = steps }
   where
     within : (i : ℕ) → i < length (a ∷ b ∷ zs) → flip i < length (b ∷ a ∷ zs)
@@ -52,9 +52,9 @@ moves_flipped a b zs none = record { within = within; alike = alike; order = ord
     alike (suc zero) l = refl
     alike (suc (suc i)) l = refl
 
-    order : (i j : ℕ) → i < j → j < length (a ∷ b ∷ zs) → are_bound (action_at (a ∷ b ∷ zs) i) (action_at (a ∷ b ∷ zs) j) ≡ true → flip i < flip j
+    order : (i j : ℕ) → i < j → j < length (a ∷ b ∷ zs) → are_dependent (action_at (a ∷ b ∷ zs) i) (action_at (a ∷ b ∷ zs) j) ≡ true → flip i < flip j
     order zero zero l k r = absurd (omega (arith, l))
-    order zero (suc zero) l k r = absurd (both_ways (are_bound a b) none r)
+    order zero (suc zero) l k r = absurd (both_ways (are_dependent a b) none r)
     order zero (suc (suc j)) l k r = let g : 1 < suc (suc j) = omega arith in g
     order (suc zero) zero l k r = absurd (omega (arith, l))
     order (suc zero) (suc zero) l k r = absurd (omega (arith, l))
@@ -85,7 +85,7 @@ moves_behind a us vs to m = record { within = within; alike = alike; order = ord
     alike zero l = refl
     alike (suc i) l = m.alike i (omega (arith, l))
 
-    order : (i j : ℕ) → i < j → j < length (a ∷ us) → are_bound (action_at (a ∷ us) i) (action_at (a ∷ us) j) ≡ true → lifted to i < lifted to j
+    order : (i j : ℕ) → i < j → j < length (a ∷ us) → are_dependent (action_at (a ∷ us) i) (action_at (a ∷ us) j) ≡ true → lifted to i < lifted to j
     order zero zero l k r = absurd (omega (arith, l))
     order zero (suc j) l k r = let g : 0 < suc (to j) = omega arith in g
     order (suc i) zero l k r = absurd (omega (arith, l))
@@ -100,23 +100,23 @@ moves_chained xs ys zs f g p q = record {
   within = λ i l. q.within (f i) (p.within i l);
   alike = λ i l. p.alike i l ∙ q.alike (f i) (p.within i l);
   order = λ i j l k r. q.order (f i) (f j) (p.order i j l k r) (p.within j k)
-      (ap₂ are_bound (sym (p.alike i (let w : i < length xs = omega (arith, l, k) in w))) (sym (p.alike j k)) ∙ r);
+      (ap₂ are_dependent (sym (p.alike i (let w : i < length xs = omega (arith, l, k) in w))) (sym (p.alike j k)) ∙ r);
   steps = λ n i l t. p.steps n i l t ∙ q.steps n (f i) (p.within i l) (ap (λ (a : Action). touches a.cause.event n) (sym (p.alike i l)) ∙ t);
 }
 
 -- the actions of two independent neighbours, in either order
-pub actions_first : (c : List NodeRecord) (e f : Event) (zs : List Event) → CanBe c e → CanBe c f → AreFree c e f
+pub actions_first : (c : List NodeRecord) (e f : Event) (zs : List Event) → IsEnabled c e → IsEnabled c f → AreIndependentOn c e f
     → actions c (e ∷ f ∷ zs) ≡ action_of c e ∷ action_of c f ∷ actions (after (after c e).0 f).0 zs
 actions_first c e f zs cane canf free =
     ap (λ (a : Action). action_of c e ∷ a ∷ actions (after (after c e).0 f).0 zs) (action_still c e f cane canf free.apart free.second)
 
-pub actions_second : (c : List NodeRecord) (e f : Event) (zs : List Event) → CanBe c e → CanBe c f → AreFree c e f
+pub actions_second : (c : List NodeRecord) (e f : Event) (zs : List Event) → IsEnabled c e → IsEnabled c f → AreIndependentOn c e f
     → actions c (f ∷ e ∷ zs) ≡ action_of c f ∷ action_of c e ∷ actions (after (after c e).0 f).0 zs
 actions_second c e f zs cane canf free =
     actions_first c f e zs canf cane (free-sym c e f free)
-    ∙ ap (λ (d : List NodeRecord). action_of c f ∷ action_of c e ∷ actions d zs) (sym (free_chip c e f cane canf free))
+    ∙ ap (λ (d : List NodeRecord). action_of c f ∷ action_of c e ∷ actions d zs) (sym (independent_on_chip c e f cane canf free))
 
-pub moves_swapped : (c : List NodeRecord) (e f : Event) (zs : List Event) → CanBe c e → CanBe c f → AreFree c e f → Moves flip (actions c (e ∷ f ∷ zs)) (actions c (f ∷ e ∷ zs))
+pub moves_swapped : (c : List NodeRecord) (e f : Event) (zs : List Event) → IsEnabled c e → IsEnabled c f → AreIndependentOn c e f → Moves flip (actions c (e ∷ f ∷ zs)) (actions c (f ∷ e ∷ zs))
 moves_swapped c e f zs cane canf free =
     subst₂ (Moves flip) (sym (actions_first c e f zs cane canf free)) (sym (actions_second c e f zs cane canf free))
     (moves_flipped (action_of c e) (action_of c f) (actions (after (after c e).0 f).0 zs) (unbound_of c e f cane canf free))
@@ -124,7 +124,7 @@ moves_swapped c e f zs cane canf free =
 abbrev pub Moved : List NodeRecord → List Event → List Event → Type 0
 Moved c xs ys = (to : ℕ → ℕ) × Moves to (actions c xs) (actions c ys)
 
-pub moves_of : (c : List NodeRecord) (xs ys : List Event) → AreOrders c xs ys → Moved c xs ys
+pub moves_of : (c : List NodeRecord) (xs ys : List Event) → AreReorderings c xs ys → Moved c xs ys
 moves_of c xs ys same = (λ i. i, moves_same (actions c xs))
 moves_of c xs ys (swapped {e} {f} {xs = zs} cane canf free) = (flip, moves_swapped c e f zs cane canf free)
 moves_of c xs ys (later {e} {xs = us} {ys = vs} can h) =

@@ -18,7 +18,7 @@ use Rattle.ga_grid.specs.Chip.{record_at}
 use Rattle.ga_grid.proofs.NodeIds.{neighbour_of-back}
 use Rattle.ga_event.specs.declared.event.Event.{Event}
 use Rattle.ga_event.specs.declared.event.Event.TheVariants.{Own, Pass}
-use Rattle.ga_event.specs.Apply.{Told, writes_to, reads_from, apply, Agree}
+use Rattle.ga_event.specs.Apply.{EventOutcome, writes_to, reads_from, apply, Agree}
 use Rattle.ga_event.specs.Next.{beside, pass_to, pass_from, pass_over, or_else, first_over, or_waiting, next_by, next}
 use Rattle.ga_event.specs.Touches.{touches}
 use Rattle.ga_event.proofs.Locality.{apply_keeps}
@@ -104,7 +104,7 @@ near_or_same marks c d n a = ⊎_elim
 pub changes_near : (c : List NodeRecord) (e : Event) → IfSome (apply c e) (λ done. (n : NodeId) → IsMarkedOrBeside (touches e) n.number ⊎ (next c n ≡ next done.0 n))
 changes_near c e = go (apply c e) (apply_keeps c e)
   where
-    go : (o : Option (List NodeRecord × Told)) → IfSome o (λ done. Agree (touches e) c done.0) → IfSome o (λ done. (n : NodeId) → IsMarkedOrBeside (touches e) n.number ⊎ (next c n ≡ next done.0 n))
+    go : (o : Option (List NodeRecord × EventOutcome)) → IfSome o (λ done. Agree (touches e) c done.0) → IfSome o (λ done. (n : NodeId) → IsMarkedOrBeside (touches e) n.number ⊎ (next c n ≡ next done.0 n))
     go None h = tt
     go (Some done) h = λ n. near_or_same (touches e) c done.0 n h
 

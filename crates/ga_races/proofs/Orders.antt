@@ -8,11 +8,11 @@ use Rattle.ga_event.specs.declared.event.Event.{Event}
 use Rattle.ga_event.specs.Touches.{touches}
 use Rattle.ga_event.specs.Apply.{after, replay}
 use Rattle.ga_event.specs.Told.{steps_of}
-use Rattle.ga_causal.specs.Words.{word_of, account_read}
-use Rattle.ga_causal.proofs.Shuffles.{touched_of}
-use Rattle.ga_races.specs.Orders.{CanBe, IsAtEnd, AreFree, AreOrders, same, swapped, later, joined, HasNoRace}
-use Rattle.ga_races.proofs.Frees.{replay_more, first_of, can_still, free_or_bound, free_chip, free_replay, read_swapped, replay_two}
-use Rattle.ga_races.proofs.Rivals.{actor, one_event}
+use Rattle.ga_causal.specs.Words.{word_of, local_history_with_reads}
+use Rattle.ga_causal.proofs.Equivalences.{touched_of}
+use Rattle.ga_races.specs.Orders.{IsEnabled, IsTerminal, AreIndependentOn, AreReorderings, same, swapped, later, joined, HasNoRace}
+use Rattle.ga_races.proofs.Independence.{replay_more, first_of, still_enabled, free_or_bound, independent_on_chip, free_replay, read_swapped, replay_two}
+use Rattle.ga_races.proofs.Conflicts.{actor, one_event}
 
 -- ---- orders
 
@@ -24,22 +24,22 @@ pub is_some_of : (o : Option (List NodeRecord)) (d : List NodeRecord) → o ≡ 
 is_some_of o d h = subst (λ (z : Option (List NodeRecord)). IsSome z) (sym h) refl
 
 -- orders lead to one chip
-pub order_replay : (c : List NodeRecord) (xs ys : List Event) → AreOrders c xs ys → replay c xs ≡ replay c ys
+pub order_replay : (c : List NodeRecord) (xs ys : List Event) → AreReorderings c xs ys → replay c xs ≡ replay c ys
 order_replay c xs ys same = refl
 order_replay c xs ys (swapped {e} {f} {xs = zs} cane canf free) = free_replay c e f zs cane canf free
 order_replay c xs ys (later {e} {xs = us} {ys = vs} can h) = replay_more c e us can ∙ order_replay (after c e).0 us vs h ∙ sym (replay_more c e vs can)
 order_replay c xs ys (joined {ys = zs} h k) = order_replay c xs zs h ∙ order_replay c zs ys k
 
 -- in which each node has the same local history with the same words
-pub order_read : (n : ℕ) (c : List NodeRecord) (xs ys : List Event) → AreOrders c xs ys → account_read n c xs ≡ account_read n c ys
+pub order_read : (n : ℕ) (c : List NodeRecord) (xs ys : List Event) → AreReorderings c xs ys → local_history_with_reads n c xs ≡ local_history_with_reads n c ys
 order_read n c xs ys same = refl
-order_read n c xs ys (swapped {e} {f} {xs = zs} cane canf free) = read_swapped c e f zs n free (free_chip c e f cane canf free)
+order_read n c xs ys (swapped {e} {f} {xs = zs} cane canf free) = read_swapped c e f zs n free (independent_on_chip c e f cane canf free)
 order_read n c xs ys (later {e} {xs = us} {ys = vs} can h) = ap (λ (z : List (Event × Option ℕ)). cond (touches e n) ((e, word_of c e) ∷ z) z) (order_read n (after c e).0 us vs h)
 order_read n c xs ys (joined {ys = zs} h k) = order_read n c xs zs h ∙ order_read n c zs ys k
 
 -- ---- races
 
-pub no_race-order : (c : List NodeRecord) (xs ys : List Event) → AreOrders c xs ys → HasNoRace c xs → HasNoRace c ys
+pub no_race-order : (c : List NodeRecord) (xs ys : List Event) → AreReorderings c xs ys → HasNoRace c xs → HasNoRace c ys
 no_race-order c xs ys a calm step other r = calm step other (record {
   before = r.before;
   later = r.later;
@@ -51,7 +51,7 @@ no_race-order c xs ys a calm step other r = calm step other (record {
   bound = r.bound;
 })
 
-pub no_race-tail : (c : List NodeRecord) (e : Event) (es : List Event) → CanBe c e → HasNoRace c (e ∷ es) → HasNoRace (after c e).0 es
+pub no_race-tail : (c : List NodeRecord) (e : Event) (es : List Event) → IsEnabled c e → HasNoRace c (e ∷ es) → HasNoRace (after c e).0 es
 no_race-tail c e es can calm step other r = calm step other (record {
   before = e ∷ r.before;
   later = r.later;
@@ -67,21 +67,21 @@ no_race-tail c e es can calm step other r = calm step other (record {
 
 pub record IsFirst (c : List NodeRecord) (es : List Event) (e : Event) : Type 0 where
   pub others : List Event
-  pub order : AreOrders c es (e ∷ others)
+  pub order : AreReorderings c es (e ∷ others)
 
 pub record IsSpared (c : List NodeRecord) (es : List Event) (e : Event) (last : List NodeRecord) : Type 0 where
-  pub can : CanBe last e
-  pub none : (n : ℕ) → touches e n ≡ true → account_read n c es ≡ []
+  pub can : IsEnabled last e
+  pub none : (n : ℕ) → touches e n ≡ true → local_history_with_reads n c es ≡ []
 
-untouched : (c : List NodeRecord) (f : Event) (es : List Event) (n : ℕ) → touches f n ≡ false → account_read n (after c f).0 es ≡ [] → account_read n c (f ∷ es) ≡ []
-untouched c f es n t h = ap (λ (b : Bool). cond b ((f, word_of c f) ∷ account_read n (after c f).0 es) (account_read n (after c f).0 es)) t ∙ h
+untouched : (c : List NodeRecord) (f : Event) (es : List Event) (n : ℕ) → touches f n ≡ false → local_history_with_reads n (after c f).0 es ≡ [] → local_history_with_reads n c (f ∷ es) ≡ []
+untouched c f es n t h = ap (λ (b : Bool). cond b ((f, word_of c f) ∷ local_history_with_reads n (after c f).0 es) (local_history_with_reads n (after c f).0 es)) t ∙ h
 
-pub brought : (es : List Event) (c last : List NodeRecord) (e : Event) → replay c es ≡ Some last → HasNoRace c es → CanBe c e → IsFirst c es e ⊎ IsSpared c es e last
-brought [] c last e is calm can = inr (record { can = subst (λ z. CanBe z e) (same_Some c last is) can; none = λ n t. refl })
+pub brought : (es : List Event) (c last : List NodeRecord) (e : Event) → replay c es ≡ Some last → HasNoRace c es → IsEnabled c e → IsFirst c es e ⊎ IsSpared c es e last
+brought [] c last e is calm can = inr (record { can = subst (λ z. IsEnabled z e) (same_Some c last is) can; none = λ n t. refl })
 brought (f ∷ es) c last e is calm can =
     let p = first_of c f es last is in
     elim (cases_eq (actor f) (actor e)) [
-      | inl q ↦ inl (record { others = es; order = subst (λ (z : Event). AreOrders c (f ∷ es) (z ∷ es)) (one_event c f e p.can can q) same })
+      | inl q ↦ inl (record { others = es; order = subst (λ (z : Event). AreReorderings c (f ∷ es) (z ∷ es)) (one_event c f e p.can can q) same })
       | inr ne ↦ elim (free_or_bound c f e) [
         | inr bound ↦ absurd (calm f e (record {
           before = [];
@@ -93,44 +93,44 @@ brought (f ∷ es) c last e is calm can =
           differ = λ q. ne (ap actor q);
           bound = bound;
         }))
-        | inl free ↦ apart free p.can (brought es (after c f).0 last e p.then (no_race-tail c f es p.can calm) (can_still c e f (backwards free) p.can can))
+        | inl free ↦ apart free p.can (brought es (after c f).0 last e p.then (no_race-tail c f es p.can calm) (still_enabled c e f (backwards free) p.can can))
       ]
     ]
   where
-    backwards : AreFree c f e → (n : ℕ) → touches e n ≡ true → touches f n ≡ false
+    backwards : AreIndependentOn c f e → (n : ℕ) → touches e n ≡ true → touches f n ≡ false
     backwards free n t = false_from_ne_true (touches f n) (λ u. both_ways (touches e n) (free.apart n u) t)
 
-    apart : AreFree c f e → CanBe c f → IsFirst (after c f).0 es e ⊎ IsSpared (after c f).0 es e last → IsFirst c (f ∷ es) e ⊎ IsSpared c (f ∷ es) e last
+    apart : AreIndependentOn c f e → IsEnabled c f → IsFirst (after c f).0 es e ⊎ IsSpared (after c f).0 es e last → IsFirst c (f ∷ es) e ⊎ IsSpared c (f ∷ es) e last
     apart free canf (inl b) = inl (record { others = f ∷ b.others; order = joined (later canf b.order) (swapped canf can free) })
     apart free canf (inr s) = inr (record { can = s.can; none = λ n t. untouched c f es n (backwards free n t) (s.none n t) })
 
 -- ---- the other lists that can be made
 
 abbrev pub Completed : List NodeRecord → List Event → List Event → Type 0
-Completed c es fs = (others : List Event) × AreOrders c es (fs ++ others)
+Completed c es fs = (others : List Event) × AreReorderings c es (fs ++ others)
 
-completed-cons : (c : List NodeRecord) (es : List Event) (e : Event) (rest fs : List Event) → CanBe c e → AreOrders c es (e ∷ rest) → Completed (after c e).0 rest fs → Completed c es (e ∷ fs)
+completed-cons : (c : List NodeRecord) (es : List Event) (e : Event) (rest fs : List Event) → IsEnabled c e → AreReorderings c es (e ∷ rest) → Completed (after c e).0 rest fs → Completed c es (e ∷ fs)
 completed-cons c es e rest fs can a b = (b.0, joined a (later can b.1))
 
 -- that calm node makes more steps than in the list
 abbrev pub Within : List NodeRecord → List Event → List Event → Type 0
-Within c es fs = (n : ℕ) → length (account_read n c fs) ≤ length (account_read n c es)
+Within c es fs = (n : ℕ) → length (local_history_with_reads n c fs) ≤ length (local_history_with_reads n c es)
 
-within-tail : (c : List NodeRecord) (es : List Event) (e : Event) (rest fs : List Event) → AreOrders c es (e ∷ rest) → Within c es (e ∷ fs) → Within (after c e).0 rest fs
+within-tail : (c : List NodeRecord) (es : List Event) (e : Event) (rest fs : List Event) → AreReorderings c es (e ∷ rest) → Within c es (e ∷ fs) → Within (after c e).0 rest fs
 within-tail c es e rest fs a w n =
-    go (touches e n) (subst (λ (z : List (Event × Option ℕ)). length (account_read n c (e ∷ fs)) ≤ length z) (order_read n c es (e ∷ rest) a) (w n))
+    go (touches e n) (subst (λ (z : List (Event × Option ℕ)). length (local_history_with_reads n c (e ∷ fs)) ≤ length z) (order_read n c es (e ∷ rest) a) (w n))
   where
     d : List NodeRecord
     d = (after c e).0
 
-    go : (b : Bool) → length (cond b ((e, word_of c e) ∷ account_read n (after c e).0 fs) (account_read n (after c e).0 fs)) ≤ length (cond b ((e, word_of c e) ∷ account_read n (after c e).0 rest) (account_read n (after c e).0 rest)) → length (account_read n (after c e).0 fs) ≤ length (account_read n (after c e).0 rest)
+    go : (b : Bool) → length (cond b ((e, word_of c e) ∷ local_history_with_reads n (after c e).0 fs) (local_history_with_reads n (after c e).0 fs)) ≤ length (cond b ((e, word_of c e) ∷ local_history_with_reads n (after c e).0 rest) (local_history_with_reads n (after c e).0 rest)) → length (local_history_with_reads n (after c e).0 fs) ≤ length (local_history_with_reads n (after c e).0 rest)
     go true h = omega (arith, h)
     go false h = h
 
-not_within : (c : List NodeRecord) (es : List Event) (e : Event) (fs : List Event) (n : ℕ) → touches e n ≡ true → account_read n c es ≡ [] → Within c es (e ∷ fs) → ⊥
-not_within c es e fs n t none w = go (touches e n) t (subst (λ (z : List (Event × Option ℕ)). length (account_read n c (e ∷ fs)) ≤ length z) none (w n))
+not_within : (c : List NodeRecord) (es : List Event) (e : Event) (fs : List Event) (n : ℕ) → touches e n ≡ true → local_history_with_reads n c es ≡ [] → Within c es (e ∷ fs) → ⊥
+not_within c es e fs n t none w = go (touches e n) t (subst (λ (z : List (Event × Option ℕ)). length (local_history_with_reads n c (e ∷ fs)) ≤ length z) none (w n))
   where
-    go : (b : Bool) → b ≡ true → length (cond b ((e, word_of c e) ∷ account_read n (after c e).0 fs) (account_read n (after c e).0 fs)) ≤ 0 → ⊥
+    go : (b : Bool) → b ≡ true → length (cond b ((e, word_of c e) ∷ local_history_with_reads n (after c e).0 fs) (local_history_with_reads n (after c e).0 fs)) ≤ 0 → ⊥
     go true k h = omega (arith, h)
     go false k h = both_ways false refl k
 
@@ -146,7 +146,7 @@ completed_within (e ∷ fs) es c last now k h calm w =
           (completed_within fs b.others (after c e).0 there.0 now p.then q.then (no_race-tail c e b.others p.can (no_race-order c es (e ∷ b.others) b.order calm)) (within-tail c es e b.others fs b.order w)))
     ]
 
-pub completed_quiet : (fs es : List Event) (c last now : List NodeRecord) → replay c fs ≡ Some now → replay c es ≡ Some last → HasNoRace c es → IsAtEnd last → Completed c es fs
+pub completed_quiet : (fs es : List Event) (c last now : List NodeRecord) → replay c fs ≡ Some now → replay c es ≡ Some last → HasNoRace c es → IsTerminal last → Completed c es fs
 completed_quiet [] es c last now k h calm end = (es, same)
 completed_quiet (e ∷ fs) es c last now k h calm end =
     let p = first_of c e fs now k in
@@ -162,49 +162,49 @@ completed_quiet (e ∷ fs) es c last now k h calm end =
 -- ---- ends
 
 -- an event that can be made after a list is enabled on its chip
-pub can_behind : (fs : List Event) (c now : List NodeRecord) (e : Event) (others : List Event) → replay c fs ≡ Some now → IsSome (replay c (fs ++ e ∷ others)) → CanBe now e
-can_behind [] c now e others k some =
+pub enabled_after : (fs : List Event) (c now : List NodeRecord) (e : Event) (others : List Event) → replay c fs ≡ Some now → IsSome (replay c (fs ++ e ∷ others)) → IsEnabled now e
+enabled_after [] c now e others k some =
     let there = some_of (replay c (e ∷ others)) some in
-    subst (λ z. CanBe z e) (same_Some c now k) (first_of c e others there.0 there.1).can
-can_behind (f ∷ fs) c now e others k some =
+    subst (λ z. IsEnabled z e) (same_Some c now k) (first_of c e others there.0 there.1).can
+enabled_after (f ∷ fs) c now e others k some =
     let p = first_of c f fs now k in
-    can_behind fs (after c f).0 now e others p.then (subst (λ (o : Option (List NodeRecord)). IsSome o) (replay_more c f (fs ++ e ∷ others) p.can) some)
+    enabled_after fs (after c f).0 now e others p.then (subst (λ (o : Option (List NodeRecord)). IsSome o) (replay_more c f (fs ++ e ∷ others) p.can) some)
 
-pub one_end : (c last now : List NodeRecord) (es fs : List Event) → replay c es ≡ Some last → HasNoRace c es → IsAtEnd last → replay c fs ≡ Some now → IsAtEnd now → AreOrders c es fs
-one_end c last now es fs h calm end k stop = go (completed_quiet fs es c last now k h calm end)
+pub race_free_end_is_unique : (c last now : List NodeRecord) (es fs : List Event) → replay c es ≡ Some last → HasNoRace c es → IsTerminal last → replay c fs ≡ Some now → IsTerminal now → AreReorderings c es fs
+race_free_end_is_unique c last now es fs h calm end k stop = go (completed_quiet fs es c last now k h calm end)
   where
-    go : Completed c es fs → AreOrders c es fs
-    go ([], a) = subst (λ (z : List Event). AreOrders c es z) (append-nil fs) a
-    go (e ∷ others, a) = absurd (stop e (can_behind fs c now e others k (is_some_of (replay c (fs ++ e ∷ others)) last (sym (order_replay c es (fs ++ e ∷ others) a) ∙ h))))
+    go : Completed c es fs → AreReorderings c es fs
+    go ([], a) = subst (λ (z : List Event). AreReorderings c es z) (append-nil fs) a
+    go (e ∷ others, a) = absurd (stop e (enabled_after fs c now e others k (is_some_of (replay c (fs ++ e ∷ others)) last (sym (order_replay c es (fs ++ e ∷ others) a) ∙ h))))
 
 -- ---- steps
 
 -- a local history has the steps of its node
-pub steps_read : (n : ℕ) (c : List NodeRecord) (es : List Event) → length (account_read n c es) ≡ steps_of n es
+pub steps_read : (n : ℕ) (c : List NodeRecord) (es : List Event) → length (local_history_with_reads n c es) ≡ steps_of n es
 steps_read n c [] = refl
 steps_read n c (e ∷ es) = go (touches e n) (steps_read n (after c e).0 es) ∙ sym (sum_by-cons (λ (x : Event). cond (touches x n) 1 0) e es)
   where
-    go : (b : Bool) → length (account_read n (after c e).0 es) ≡ steps_of n es → length (cond b ((e, word_of c e) ∷ account_read n (after c e).0 es) (account_read n (after c e).0 es)) ≡ cond b 1 0 + steps_of n es
+    go : (b : Bool) → length (local_history_with_reads n (after c e).0 es) ≡ steps_of n es → length (cond b ((e, word_of c e) ∷ local_history_with_reads n (after c e).0 es) (local_history_with_reads n (after c e).0 es)) ≡ cond b 1 0 + steps_of n es
     go true h = omega (arith, h)
     go false h = omega (arith, h)
 
 -- the local history of a prefix is a prefix of the local history
-pub read_first : (n : ℕ) (c : List NodeRecord) (fs others : List Event) → (d : List NodeRecord) × (account_read n c (fs ++ others) ≡ account_read n c fs ++ account_read n d others)
+pub read_first : (n : ℕ) (c : List NodeRecord) (fs others : List Event) → (d : List NodeRecord) × (local_history_with_reads n c (fs ++ others) ≡ local_history_with_reads n c fs ++ local_history_with_reads n d others)
 read_first n c [] others = (c, refl)
 read_first n c (e ∷ fs) others =
     let k = read_first n (after c e).0 fs others in
     (k.0, go (touches e n) k.0 k.1)
   where
-    go : (b : Bool) (d : List NodeRecord) → account_read n (after c e).0 (fs ++ others) ≡ account_read n (after c e).0 fs ++ account_read n d others
-        → cond b ((e, word_of c e) ∷ account_read n (after c e).0 (fs ++ others)) (account_read n (after c e).0 (fs ++ others)) ≡ cond b ((e, word_of c e) ∷ account_read n (after c e).0 fs) (account_read n (after c e).0 fs) ++ account_read n d others
+    go : (b : Bool) (d : List NodeRecord) → local_history_with_reads n (after c e).0 (fs ++ others) ≡ local_history_with_reads n (after c e).0 fs ++ local_history_with_reads n d others
+        → cond b ((e, word_of c e) ∷ local_history_with_reads n (after c e).0 (fs ++ others)) (local_history_with_reads n (after c e).0 (fs ++ others)) ≡ cond b ((e, word_of c e) ∷ local_history_with_reads n (after c e).0 fs) (local_history_with_reads n (after c e).0 fs) ++ local_history_with_reads n d others
     go true d h = ap (λ (z : List (Event × Option ℕ)). (e, word_of c e) ∷ z) h
     go false d h = h
 
 pub no_more : (c : List NodeRecord) (es fs : List Event) (n : ℕ) → Completed c es fs → steps_of n fs ≤ steps_of n es
 no_more c es fs n (others, a) =
     let k = read_first n c fs others in
-    let p : length (account_read n c es) ≡ length (account_read n c fs ++ account_read n k.0 others) = ap (λ z. length z) (order_read n c es (fs ++ others) a ∙ k.1) in
-    let q : length (account_read n c fs ++ account_read n k.0 others) ≡ length (account_read n c fs) + length (account_read n k.0 others) = length-append (account_read n c fs) (account_read n k.0 others) in
+    let p : length (local_history_with_reads n c es) ≡ length (local_history_with_reads n c fs ++ local_history_with_reads n k.0 others) = ap (λ z. length z) (order_read n c es (fs ++ others) a ∙ k.1) in
+    let q : length (local_history_with_reads n c fs ++ local_history_with_reads n k.0 others) ≡ length (local_history_with_reads n c fs) + length (local_history_with_reads n k.0 others) = length-append (local_history_with_reads n c fs) (local_history_with_reads n k.0 others) in
     omega (arith, p, q, steps_read n c es, steps_read n c fs)
 
 pub within_steps : (c : List NodeRecord) (es fs : List Event) → ((n : ℕ) → steps_of n fs ≤ steps_of n es) → Within c es fs
@@ -218,16 +218,16 @@ beginning_within c es fs h calm k w =
     let b = some_of (replay c fs) k in
     completed_within fs es c a.0 b.0 b.1 a.1 calm (within_steps c es fs w)
 
-pub beginning_quiet : (c last : List NodeRecord) (es fs : List Event) → replay c es ≡ Some last → HasNoRace c es → IsAtEnd last → IsSome (replay c fs) → Completed c es fs
+pub beginning_quiet : (c last : List NodeRecord) (es fs : List Event) → replay c es ≡ Some last → HasNoRace c es → IsTerminal last → IsSome (replay c fs) → Completed c es fs
 beginning_quiet c last es fs h calm end k = let b = some_of (replay c fs) k in completed_quiet fs es c last b.0 b.1 h calm end
 
-pub steps_quiet : (c last : List NodeRecord) (es fs : List Event) (n : ℕ) → replay c es ≡ Some last → HasNoRace c es → IsAtEnd last → IsSome (replay c fs) → steps_of n fs ≤ steps_of n es
+pub steps_quiet : (c last : List NodeRecord) (es fs : List Event) (n : ℕ) → replay c es ≡ Some last → HasNoRace c es → IsTerminal last → IsSome (replay c fs) → steps_of n fs ≤ steps_of n es
 steps_quiet c last es fs n h calm end k = no_more c es fs n (beginning_quiet c last es fs h calm end k)
 
-pub end_quiet : (c last now : List NodeRecord) (es fs : List Event) → replay c es ≡ Some last → HasNoRace c es → IsAtEnd last → replay c fs ≡ Some now → IsAtEnd now → AreOrders c es fs × (now ≡ last)
+pub end_quiet : (c last now : List NodeRecord) (es fs : List Event) → replay c es ≡ Some last → HasNoRace c es → IsTerminal last → replay c fs ≡ Some now → IsTerminal now → AreReorderings c es fs × (now ≡ last)
 end_quiet c last now es fs h calm end k stop =
-    let a = one_end c last now es fs h calm end k stop in
+    let a = race_free_end_is_unique c last now es fs h calm end k stop in
     (a, same_Some now last (sym k ∙ sym (order_replay c es fs a) ∙ h))
 
-pub diamond_order : (c : List NodeRecord) (e f : Event) → CanBe c e → CanBe c f → AreFree c e f → IsSome (replay c (e ∷ f ∷ [])) × (replay c (e ∷ f ∷ []) ≡ replay c (f ∷ e ∷ []))
+pub diamond_order : (c : List NodeRecord) (e f : Event) → IsEnabled c e → IsEnabled c f → AreIndependentOn c e f → IsSome (replay c (e ∷ f ∷ [])) × (replay c (e ∷ f ∷ []) ≡ replay c (f ∷ e ∷ []))
 diamond_order c e f cane canf free = (is_some_of (replay c (e ∷ f ∷ [])) (after (after c e).0 f).0 (replay_two c e f cane canf free), free_replay c e f [] cane canf free)

@@ -12,11 +12,11 @@ use Rattle.ga_event.specs.Apply.{is_number}
 use Rattle.ga_causal.specs.inner.{any_of}
 use Rattle.ga_races.specs.declared.act.EventAccess.{EventAccess}
 use Rattle.ga_races.specs.declared.act.Sides.{Sides}
-use Rattle.ga_races.specs.HappensBefore.{Action, no_action, action_at, is_shown, are_bound, IsBound, HappensBefore, directly, through}
+use Rattle.ga_races.specs.HappensBefore.{Action, no_action, action_at, is_shown, are_dependent, IsDirectlyBefore, HappensBefore, directly, through}
 use Rattle.ga_races.specs.Acts.{side_leads_to, shown_by, action_in, actions_in}
 use Rattle.ga_races.specs.inner.{shows_marked, has_touched, has_shown, has_looked, is_shown_to, is_met, IsOnward, AreMarked, AreReached}
-use Rattle.ga_races.proofs.Frees.{any_at}
-use Rattle.ga_races.proofs.Frees as Frees
+use Rattle.ga_races.proofs.Independence.{any_at}
+use Rattle.ga_races.proofs.Independence as Frees
 use Rattle.ga_races.proofs.Moves.{before_within}
 
 -- ---- sides
@@ -90,16 +90,16 @@ shown_all marks (Pass w r side) f s n h mark = elim (or_cases (side_leads_to f w
 shares : Action → Action → Bool
 shares a b = list_any (touches a.cause.event) (nodes_of b.cause.event)
 
-pub bound_by_node : (a b : Action) → list_any (touches a.cause.event) (nodes_of b.cause.event) ≡ true → are_bound a b ≡ true
+pub bound_by_node : (a b : Action) → list_any (touches a.cause.event) (nodes_of b.cause.event) ≡ true → are_dependent a b ≡ true
 bound_by_node a b h = or_left (list_any (touches a.cause.event) (nodes_of b.cause.event)) (is_shown a b || is_shown b a) h
 
-pub bound_by_look : (a b : Action) → is_shown a b ≡ true → are_bound a b ≡ true
+pub bound_by_look : (a b : Action) → is_shown a b ≡ true → are_dependent a b ≡ true
 bound_by_look a b h = or_right (list_any (touches a.cause.event) (nodes_of b.cause.event)) (is_shown a b || is_shown b a) (or_left (is_shown a b) (is_shown b a) h)
 
-pub bound_by_change : (a b : Action) → is_shown b a ≡ true → are_bound a b ≡ true
+pub bound_by_change : (a b : Action) → is_shown b a ≡ true → are_dependent a b ≡ true
 bound_by_change a b h = or_right (list_any (touches a.cause.event) (nodes_of b.cause.event)) (is_shown a b || is_shown b a) (or_right (is_shown a b) (is_shown b a) h)
 
-bound_cases : (a b : Action) → are_bound a b ≡ true → (list_any (touches a.cause.event) (nodes_of b.cause.event) ≡ true) ⊎ ((is_shown a b ≡ true) ⊎ (is_shown b a ≡ true))
+bound_cases : (a b : Action) → are_dependent a b ≡ true → (list_any (touches a.cause.event) (nodes_of b.cause.event) ≡ true) ⊎ ((is_shown a b ≡ true) ⊎ (is_shown b a ≡ true))
 bound_cases a b h = elim (or_cases (list_any (touches a.cause.event) (nodes_of b.cause.event)) (is_shown a b || is_shown b a) h) [
   | inl p ↦ inl p
   | inr p ↦ inr (or_cases (is_shown a b) (is_shown b a) p)
@@ -107,21 +107,21 @@ bound_cases a b h = elim (or_cases (list_any (touches a.cause.event) (nodes_of b
 
 module _ (xs : List Action) (first place : ℕ) (touched shown looked : ℕ → Bool) (act : EventAccess) (before : first < place) (within : place < length xs) (is : action_at xs place ≡ action_in act)
     (t : AreMarked xs first place has_touched touched) (s : AreMarked xs first place has_shown shown) (l : AreMarked xs first place has_looked looked) where
-  on : (m : ℕ) → m < place → IsOnward xs first m → are_bound (action_at xs m) (action_in act) ≡ true → HappensBefore xs first place
-  on m k r b = go r (record { before = k; within = within; bound = ap (are_bound (action_at xs m)) is ∙ b })
+  on : (m : ℕ) → m < place → IsOnward xs first m → are_dependent (action_at xs m) (action_in act) ≡ true → HappensBefore xs first place
+  on m k r b = go r (record { before = k; within = within; bound = ap (are_dependent (action_at xs m)) is ∙ b })
     where
-      go : IsOnward xs first m → IsBound xs m place → HappensBefore xs first place
-      go (inl q) d = directly (subst (λ (z : ℕ). IsBound xs z place) (sym q) d)
+      go : IsOnward xs first m → IsDirectlyBefore xs m place → HappensBefore xs first place
+      go (inl q) d = directly (subst (λ (z : ℕ). IsDirectlyBefore xs z place) (sym q) d)
       go (inr h) d = through h d
 
   pub met_happens : is_met touched shown looked act ≡ true → HappensBefore xs first place
   met_happens h = elim (or_cases (list_any touched (nodes_of act.cause.event)) ((act.cause.look && list_any shown (nodes_of act.cause.event)) || is_shown_to looked act.cause.event act.first act.second) h) [
-    | inl a ↦ (let k = Frees.any_of touched (nodes_of act.cause.event) a in
+    | inl a ↦ (let k = Independence.any_of touched (nodes_of act.cause.event) a in
         let p = t.some k.node k.marked in
         on p.0 p.1 p.2 (bound_by_node (action_at xs p.0) (action_in act) (any_at (touches (action_at xs p.0).cause.event) (nodes_of act.cause.event) k.node k.listed p.3)))
     | inr b ↦ elim (or_cases (act.cause.look && list_any shown (nodes_of act.cause.event)) (is_shown_to looked act.cause.event act.first act.second) b) [
       | inl c ↦ (let q = and_parts act.cause.look (list_any shown (nodes_of act.cause.event)) c in
-          let k = Frees.any_of shown (nodes_of act.cause.event) q.1 in
+          let k = Independence.any_of shown (nodes_of act.cause.event) q.1 in
           let p = s.some k.node k.marked in
           on p.0 p.1 p.2 (bound_by_change (action_at xs p.0) (action_in act)
           (and_both act.cause.look (list_any (action_at xs p.0).changes (nodes_of act.cause.event)) q.0 (any_at (action_at xs p.0).changes (nodes_of act.cause.event) k.node k.listed p.3))))
@@ -133,26 +133,26 @@ module _ (xs : List Action) (first place : ℕ) (touched shown looked : ℕ → 
     ]
   ]
 
-  met_by : (m : ℕ) → m < place → IsOnward xs first m → are_bound (action_at xs m) (action_in act) ≡ true → is_met touched shown looked act ≡ true
+  met_by : (m : ℕ) → m < place → IsOnward xs first m → are_dependent (action_at xs m) (action_in act) ≡ true → is_met touched shown looked act ≡ true
   met_by m k r b = elim (bound_cases (action_at xs m) (action_in act) b) [
-    | inl a ↦ (let n = Frees.any_of (touches (action_at xs m).cause.event) (nodes_of act.cause.event) a in
+    | inl a ↦ (let n = Independence.any_of (touches (action_at xs m).cause.event) (nodes_of act.cause.event) a in
         or_left (list_any touched (nodes_of act.cause.event)) ((act.cause.look && list_any shown (nodes_of act.cause.event)) || is_shown_to looked act.cause.event act.first act.second)
         (any_at touched (nodes_of act.cause.event) n.node n.listed (t.all m n.node k r n.marked)))
     | inr (inl a) ↦ (let q = and_parts (action_at xs m).cause.look (list_any (action_in act).changes (nodes_of (action_at xs m).cause.event)) a in
-        let n = Frees.any_of (action_in act).changes (nodes_of (action_at xs m).cause.event) q.1 in
+        let n = Independence.any_of (action_in act).changes (nodes_of (action_at xs m).cause.event) q.1 in
         or_right (list_any touched (nodes_of act.cause.event)) ((act.cause.look && list_any shown (nodes_of act.cause.event)) || is_shown_to looked act.cause.event act.first act.second)
         (or_right (act.cause.look && list_any shown (nodes_of act.cause.event)) (is_shown_to looked act.cause.event act.first act.second)
         (shown_all looked act.cause.event act.first act.second n.node n.marked (l.all m n.node k r (and_both (action_at xs m).cause.look (touches (action_at xs m).cause.event n.node) q.0 n.listed)))))
     | inr (inr a) ↦ (let q = and_parts act.cause.look (list_any (action_at xs m).changes (nodes_of act.cause.event)) a in
-        let n = Frees.any_of (action_at xs m).changes (nodes_of act.cause.event) q.1 in
+        let n = Independence.any_of (action_at xs m).changes (nodes_of act.cause.event) q.1 in
         or_right (list_any touched (nodes_of act.cause.event)) ((act.cause.look && list_any shown (nodes_of act.cause.event)) || is_shown_to looked act.cause.event act.first act.second)
         (or_left (act.cause.look && list_any shown (nodes_of act.cause.event)) (is_shown_to looked act.cause.event act.first act.second)
         (and_both act.cause.look (list_any shown (nodes_of act.cause.event)) q.0 (any_at shown (nodes_of act.cause.event) n.node n.listed (s.all m n.node k r n.marked)))))
   ]
 
   pub happens_met : HappensBefore xs first place → is_met touched shown looked act ≡ true
-  happens_met (directly d) = met_by first d.before (inl refl) (ap (are_bound (action_at xs first)) (sym is) ∙ d.bound)
-  happens_met (through {middle} h d) = met_by middle d.before (inr h) (ap (are_bound (action_at xs middle)) (sym is) ∙ d.bound)
+  happens_met (directly d) = met_by first d.before (inl refl) (ap (are_dependent (action_at xs first)) (sym is) ∙ d.bound)
+  happens_met (through {middle} h d) = met_by middle d.before (inr h) (ap (are_dependent (action_at xs middle)) (sym is) ∙ d.bound)
 
 -- ---- the marks
 
@@ -186,7 +186,7 @@ mark_next xs first place has marks new met before a sound complete e = record { 
 
 -- if what happens after the first action and before the later one isn't dependent with the later one, nothing happens between
 -- them
-pub none_between : (xs : List Action) (first later : ℕ) → ((m : ℕ) → m < later → HappensBefore xs first m → are_bound (action_at xs m) (action_at xs later) ≡ false)
+pub none_between : (xs : List Action) (first later : ℕ) → ((m : ℕ) → m < later → HappensBefore xs first m → are_dependent (action_at xs m) (action_at xs later) ≡ false)
     → (m : ℕ) → HappensBefore xs first m → HappensBefore xs m later → (false ≡ true)
 none_between xs first later none m h (directly d) = sym (none m d.before h) ∙ d.bound
 none_between xs first later none m h (through {middle} k d) = sym (none middle d.before (chain h k)) ∙ d.bound
@@ -218,7 +218,7 @@ first_reached acts first later t s l act before within is a b c = record {
 
 module _ (acts : List EventAccess) (first later place : ℕ) (t s l : ℕ → Bool) (act end : EventAccess) (met bound : Bool) (before : first < place) (order : place < later) (inside : later < length acts)
     (act_is : act ≡ get_or acts place act) (end_is : end ≡ get_or acts later end) (inv : AreReached (actions_in acts) first later place t s l)
-    (answer : met ≡ is_met t s l act) (bound_is : bound ≡ are_bound (action_in act) (action_in end)) where
+    (answer : met ≡ is_met t s l act) (bound_is : bound ≡ are_dependent (action_in act) (action_in end)) where
   abbrev xs : List Action
   xs = actions_in acts
 
@@ -243,7 +243,7 @@ module _ (acts : List EventAccess) (first later place : ℕ) (t s l : ℕ → Bo
   pub found : (met && bound) ≡ true → (m : ℕ) × HappensBefore xs first m × HappensBefore xs m later
   found h =
       let p = and_parts met bound h in
-      (place, sound p.0, directly (record { before = order; within = omega (arith, size, inside); bound = ap₂ are_bound here there ∙ sym bound_is ∙ p.1 }))
+      (place, sound p.0, directly (record { before = order; within = omega (arith, size, inside); bound = ap₂ are_dependent here there ∙ sym bound_is ∙ p.1 }))
 
   pub next_reached : (t' s' l' : ℕ → Bool) → (met && bound) ≡ false → ((n : ℕ) → t' n ≡ (t n || (met && has_touched (action_in act) n))) → ((n : ℕ) → s' n ≡ (s n || (met && has_shown (action_in act) n)))
       → ((n : ℕ) → l' n ≡ (l n || (met && has_looked (action_in act) n))) → AreReached xs first later (place + 1) t' s' l'
@@ -254,11 +254,11 @@ module _ (acts : List EventAccess) (first later place : ℕ) (t s l : ℕ → Bo
     none = none;
   }
     where
-      at_place : HappensBefore xs first place → are_bound (action_at xs place) (action_at xs later) ≡ false
-      at_place h = ap₂ are_bound here there ∙ sym bound_is ∙ sym (ap (λ (b : Bool). b && bound) (complete h)) ∙ out
+      at_place : HappensBefore xs first place → are_dependent (action_at xs place) (action_at xs later) ≡ false
+      at_place h = ap₂ are_dependent here there ∙ sym bound_is ∙ sym (ap (λ (b : Bool). b && bound) (complete h)) ∙ out
 
-      none : (m : ℕ) → m < place + 1 → HappensBefore xs first m → are_bound (action_at xs m) (action_at xs later) ≡ false
+      none : (m : ℕ) → m < place + 1 → HappensBefore xs first m → are_dependent (action_at xs m) (action_at xs later) ≡ false
       none m k h = elim (cases_lt m place) [
         | inl g ↦ inv.none m g h
-        | inr g ↦ (let q : place ≡ m = omega (arith, k, g) in subst (λ (z : ℕ). are_bound (action_at xs z) (action_at xs later) ≡ false) q (at_place (subst (HappensBefore xs first) (sym q) h)))
+        | inr g ↦ (let q : place ≡ m = omega (arith, k, g) in subst (λ (z : ℕ). are_dependent (action_at xs z) (action_at xs later) ≡ false) q (at_place (subst (HappensBefore xs first) (sym q) h)))
       ]

@@ -6,7 +6,7 @@ use Rattle.std.proofs.Math.Nat.{mod-eq_of_lt}
 use Rattle.ga_grid.proofs.NodeIds.{NodeId-same, node_id-number}
 use Rattle.ga_grid.specs.declared.node_id.NodeId.{NodeId}
 use Rattle.ga_grid.specs.Grid.{node_id}
-use Rattle.ga_races.specs.Orders.{first_in, can_go}
+use Rattle.ga_races.specs.Orders.{first_in, has_event}
 use Rattle.ga_node.specs.Record.{NodeRecord}
 use Rattle.ga_event.specs.Next.{next}
 
@@ -116,7 +116,7 @@ none_other f n turn e ahead before m l ne = elim (cases_lt m n) [
 ]
 
 -- of a node by its number
-pub can_go_is : (chip : List NodeRecord) (node : NodeId) → can_go chip node.number ≡ is_ok (next chip node)
+pub can_go_is : (chip : List NodeRecord) (node : NodeId) → has_event chip node.number ≡ is_ok (next chip node)
 can_go_is chip node =
     ap (λ b. b && is_ok (next chip (node_id node.number))) (lt-ltb node.number 144 node.in_range)
     ∙ ap (λ z. is_ok (next chip z)) (node_id-number node)

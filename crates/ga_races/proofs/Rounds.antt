@@ -18,12 +18,12 @@ use Rattle.ga_grid.specs.declared.node_id.NodeId.{NodeId}
 use Rattle.ga_event.specs.declared.event.Event.{Event}
 use Rattle.ga_event.specs.declared.event.Event.TheVariants.{Own, Pass}
 use Rattle.ga_event.specs.Touches.{touches}
-use Rattle.ga_event.specs.Apply.{shows, beside_in, seen_from, is_open, unmatched, after, replay}
+use Rattle.ga_event.specs.Apply.{shows, beside_in, neighbour_states, is_open, unmatched, after, replay}
 use Rattle.ga_event.specs.Told.{steps_of}
-use Rattle.ga_races.specs.Orders.{CanBe}
+use Rattle.ga_races.specs.Orders.{IsEnabled}
 use Rattle.ga_races.specs.Rounds.{PassesBy, events_without, IsRound, HasNoRound}
 use Rattle.ga_races.proofs.Exact.{replay_into}
-use Rattle.ga_races.proofs.Frees.{first_of, replay_more, stays}
+use Rattle.ga_races.proofs.Independence.{first_of, replay_more, stays}
 
 -- ---- chips that are alike but for one node
 
@@ -55,7 +55,7 @@ not_own : (a : NodeId) (n : ℕ) → touches (Own a) n ≡ false → a.number �
 not_own a n f e = both_ways (a.number == n) (or_parts (a.number == n) false f).0 (subst (λ z. (a.number == z) ≡ true) e (grind (arith)))
 
 -- after an event that touches no other node
-but-own : (n : ℕ) (c b : List NodeRecord) (e : Event) → ((m : ℕ) → (m ≡ n → ⊥) → touches e m ≡ false) → CanBe c e → AreBut n c b → AreBut n (after c e).0 b
+but-own : (n : ℕ) (c b : List NodeRecord) (e : Event) → ((m : ℕ) → (m ≡ n → ⊥) → touches e m ≡ false) → IsEnabled c e → AreBut n c b → AreBut n (after c e).0 b
 but-own n c b e alone can a =
     let k = stays c e can in
     record { size = sym k.size ∙ a.size; same = λ m ne. sym (k.same m (alone m ne)) ∙ a.same m ne }
@@ -72,26 +72,26 @@ beside_same : (c b : List NodeRecord) → ((m : ℕ) → (record_at c m).wait �
 beside_same c b w side None = refl
 beside_same c b w side (Some m) = ap (λ (z : Wait). shows z side) (w m)
 
-seen_same : (c b : List NodeRecord) → ((m : ℕ) → (record_at c m).wait ≡ (record_at b m).wait) → (m : ℕ) → seen_from c m ≡ seen_from b m
-unfolding seen_from
+seen_same : (c b : List NodeRecord) → ((m : ℕ) → (record_at c m).wait ≡ (record_at b m).wait) → (m : ℕ) → neighbour_states c m ≡ neighbour_states b m
+unfolding neighbour_states
 seen_same c b w m =
     rw (beside_same c b w Right (neighbour_of m Right), beside_same c b w Down (neighbour_of m Down), beside_same c b w Left (neighbour_of m Left), beside_same c b w Up (neighbour_of m Up)) refl
 
 -- ---- an event that doesn't touch the node
 
 record Also (n : ℕ) (c b : List NodeRecord) (e : Event) : Type 0 where
-  can : CanBe b e
+  can : IsEnabled b e
   alike : AreBut n (after c e).0 (after b e).0
 
-also : (n : ℕ) (c b : List NodeRecord) (e : Event) → AreBut n c b → ((m : ℕ) → (record_at c m).wait ≡ (record_at b m).wait) → touches e n ≡ false → CanBe c e → Also n c b e
+also : (n : ℕ) (c b : List NodeRecord) (e : Event) → AreBut n c b → ((m : ℕ) → (record_at c m).wait ≡ (record_at b m).wait) → touches e n ≡ false → IsEnabled c e → Also n c b e
 also n c b (Own a) alike w f can =
     let m = a.number in
     let same : record_at c m ≡ record_at b m = alike.same m (not_own a n f) in
-    let made : (own (seen_from c m) (record_at c m)).1 ≡ (own (seen_from b m) (record_at b m)).1 =
-    ap (λ z. (own z (record_at c m)).1) (seen_same c b w m) ∙ ap (λ (z : NodeRecord). (own (seen_from b m) z).1) same in
+    let made : (own (neighbour_states c m) (record_at c m)).1 ≡ (own (neighbour_states b m) (record_at b m)).1 =
+    ap (λ z. (own z (record_at c m)).1) (seen_same c b w m) ∙ ap (λ (z : NodeRecord). (own (neighbour_states b m) z).1) same in
     record {
       can = ap (λ (z : NodeRecord). refusal z) (sym same) ∙ can;
-      alike = subst (λ z. AreBut n (set c m (own (seen_from c m) (record_at c m)).1) (set b m z)) made (but-set n c b m (own (seen_from c m) (record_at c m)).1 alike);
+      alike = subst (λ z. AreBut n (set c m (own (neighbour_states c m) (record_at c m)).1) (set b m z)) made (but-set n c b m (own (neighbour_states c m) (record_at c m)).1 alike);
     }
 also n c b (Pass w r side) alike shown f can =
     let p = or_parts (w.number == n) ((r.number == n) || false) f in
@@ -128,7 +128,7 @@ own_alone n (Own a) own h m ne = elim (or_cases (a.number == n) false h) [
 ]
 own_alone n (Pass w r side) own h m ne = absurd (both_ways (touches (Pass w r side) n) own h)
 
-own_runs : (n : ℕ) (c : List NodeRecord) (e : Event) → PassesBy n e → touches e n ≡ true → CanBe c e → (record_at c n).wait ≡ Nothing
+own_runs : (n : ℕ) (c : List NodeRecord) (e : Event) → PassesBy n e → touches e n ≡ true → IsEnabled c e → (record_at c n).wait ≡ Nothing
 own_runs n c (Own a) own h can = elim (or_cases (a.number == n) false h) [
   | inl q ↦ subst (λ z. (record_at c z).wait ≡ Nothing) (eqb-true a.number n q) (runs_of (record_at c a.number).wait (record_at c a.number).stop can)
   | inr q ↦ absurd (both_ways false refl q)
@@ -184,13 +184,13 @@ IsLeft n es b last = replay b (events_without n es) ≡ Some last
 dropped : (n : ℕ) (e : Event) (es : List Event) (b last : List NodeRecord) → touches e n ≡ true → IsLeft n es b last → IsLeft n (e ∷ es) b last
 dropped n e es b last h k = ap (λ (z : Bool). replay b (cond (not z) (e ∷ events_without n es) (events_without n es))) h ∙ k
 
-kept : (n : ℕ) (e : Event) (es : List Event) (b last : List NodeRecord) → touches e n ≡ false → CanBe b e → IsLeft n es (after b e).0 last → IsLeft n (e ∷ es) b last
+kept : (n : ℕ) (e : Event) (es : List Event) (b last : List NodeRecord) → touches e n ≡ false → IsEnabled b e → IsLeft n es (after b e).0 last → IsLeft n (e ∷ es) b last
 kept n e es b last f can k =
     ap (λ (z : Bool). replay b (cond (not z) (e ∷ events_without n es) (events_without n es))) f
     ∙ replay_more b e (events_without n es) can
     ∙ k
 
-still_waits : (n : ℕ) (b : List NodeRecord) (e : Event) → touches e n ≡ false → CanBe b e → (record_at b n).wait ≡ Nothing → (record_at (after b e).0 n).wait ≡ Nothing
+still_waits : (n : ℕ) (b : List NodeRecord) (e : Event) → touches e n ≡ false → IsEnabled b e → (record_at b n).wait ≡ Nothing → (record_at (after b e).0 n).wait ≡ Nothing
 still_waits n b e f can w = ap (λ (z : NodeRecord). z.wait) (sym ((stays b e can).same n f)) ∙ w
 
 left : (n : ℕ) (es : List Event) (c b last : List NodeRecord) → replay c es ≡ Some last → All (PassesBy n) es → AreBut n c b → record_at last n ≡ record_at b n

@@ -3,8 +3,8 @@ use Rattle.std.proofs.Common.{◌≡◌, ℕ, zero, suc, ◌+◌, ◌*◌, ◌<�
 use Rattle.std.proofs.lemmas.Bool.{cases_eq, both_ways, or_cases, or_left, or_right, or_from, or_parts, and_parts, true_from_ne_false}
 use Rattle.ga_ports.specs.declared.side.Side.{Side}
 use Rattle.ga_ports.specs.declared.side.Side.TheVariants.{Right, Down, Left, Up}
-use Rattle.ga_node.specs.declared.seen.Beside.{Beside}
-use Rattle.ga_node.specs.declared.seen.Beside.TheVariants.{Nobody, Idle, Reading, Writing}
+use Rattle.ga_node.specs.declared.seen.NeighbourState.{NeighbourState}
+use Rattle.ga_node.specs.declared.seen.NeighbourState.TheVariants.{Nobody, Idle, Reading, Writing}
 use Rattle.ga_node.specs.declared.seen.Seen.{Seen}
 use Rattle.ga_node.specs.Io.{shown, io_word}
 use Rattle.ga_node.specs.Record.{NodeRecord}
@@ -14,16 +14,16 @@ use Rattle.ga_grid.specs.declared.node_id.NodeId.{NodeId}
 use Rattle.ga_grid.proofs.NodeIds.{neighbour_of-back}
 use Rattle.ga_event.specs.declared.event.Event.{Event}
 use Rattle.ga_event.specs.declared.event.Event.TheVariants.{Own, Pass}
-use Rattle.ga_event.specs.Apply.{shows, beside_in, seen_from, is_number, after}
+use Rattle.ga_event.specs.Apply.{shows, beside_in, neighbour_states, is_number, after}
 use Rattle.ga_races.specs.declared.act.EventAccess.{EventAccess}
 use Rattle.ga_races.specs.declared.act.Sides.{Sides}
-use Rattle.ga_races.specs.Orders.{CanBe}
+use Rattle.ga_races.specs.Orders.{IsEnabled}
 use Rattle.ga_races.specs.HappensBefore.{action_of}
 use Rattle.ga_races.specs.Acts.{side_leads_to, shown_by}
 use Rattle.ga_races.specs.inner.{shown_as, is_changed, HasChangedSides}
-use Rattle.ga_races.proofs.Frees.{stays}
+use Rattle.ga_races.proofs.Independence.{stays}
 use Rattle.ga_races.proofs.Reaching.{or4_cases, or4_from}
-use Rattle.ga_races.proofs.Rivals.{number_of as number_is}
+use Rattle.ga_races.proofs.Conflicts.{number_of as number_is}
 
 -- ---- the bits of a side
 
@@ -38,42 +38,42 @@ unbits (suc zero) = 0
 unbits (suc (suc zero)) = 0
 unbits (suc (suc (suc k))) = 2
 
-unbits_back : (b : Beside) → unbits (bits (shown_as b)) ≡ shown_as b
+unbits_back : (b : NeighbourState) → unbits (bits (shown_as b)) ≡ shown_as b
 unfolding bits unbits
 unbits_back Nobody = refl
 unbits_back Idle = refl
 unbits_back Reading = refl
 unbits_back Writing = refl
 
-bits_few : (b : Beside) → bits (shown_as b) ≤ 3
+bits_few : (b : NeighbourState) → bits (shown_as b) ≤ 3
 unfolding bits
 bits_few Nobody = omega arith
 bits_few Idle = omega arith
 bits_few Reading = omega arith
 bits_few Writing = omega arith
 
-right_is : (b : Beside) → shown b 16 15 ≡ 32768 * bits (shown_as b)
+right_is : (b : NeighbourState) → shown b 16 15 ≡ 32768 * bits (shown_as b)
 unfolding bits
 right_is Nobody = refl
 right_is Idle = refl
 right_is Reading = refl
 right_is Writing = refl
 
-down_is : (b : Beside) → shown b 14 13 ≡ 8192 * bits (shown_as b)
+down_is : (b : NeighbourState) → shown b 14 13 ≡ 8192 * bits (shown_as b)
 unfolding bits
 down_is Nobody = refl
 down_is Idle = refl
 down_is Reading = refl
 down_is Writing = refl
 
-left_is : (b : Beside) → shown b 12 11 ≡ 2048 * bits (shown_as b)
+left_is : (b : NeighbourState) → shown b 12 11 ≡ 2048 * bits (shown_as b)
 unfolding bits
 left_is Nobody = refl
 left_is Idle = refl
 left_is Reading = refl
 left_is Writing = refl
 
-up_is : (b : Beside) → shown b 10 9 ≡ 512 * bits (shown_as b)
+up_is : (b : NeighbourState) → shown b 10 9 ≡ 512 * bits (shown_as b)
 unfolding bits
 up_is Nobody = refl
 up_is Idle = refl
@@ -135,14 +135,14 @@ module _ (c d : List NodeRecord) (n : ℕ) where
   abbrev part : List NodeRecord → Side → ℕ
   part chip side = bits (shown_as (beside_in chip side (neighbour_of n side)))
 
-  word_at : (chip : List NodeRecord) → io_word (seen_from chip n) ≡ word_of_bits (part chip Right) (part chip Down) (part chip Left) (part chip Up)
-  unfolding seen_from
-  word_at chip = word_is (seen_from chip n)
+  word_at : (chip : List NodeRecord) → io_word (neighbour_states chip n) ≡ word_of_bits (part chip Right) (part chip Down) (part chip Left) (part chip Up)
+  unfolding neighbour_states
+  word_at chip = word_is (neighbour_states chip n)
 
   few : (chip : List NodeRecord) (side : Side) → part chip side ≤ 3
   few chip side = bits_few (beside_in chip side (neighbour_of n side))
 
-  same_all : io_word (seen_from d n) ≡ io_word (seen_from c n) → changed_some c d n ≡ false
+  same_all : io_word (neighbour_states d n) ≡ io_word (neighbour_states c n) → changed_some c d n ≡ false
   unfolding changed_some
   same_all q =
       let s = same_bits (part d Right) (part d Down) (part d Left) (part d Up) (part c Right) (part c Down) (part c Left) (part c Up)
@@ -154,7 +154,7 @@ module _ (c d : List NodeRecord) (n : ℕ) where
       (or_from (changed_at c d Left (neighbour_of n Left)) (changed_at c d Up (neighbour_of n Up))
       (unchanged_at c d Left (neighbour_of n Left) s.left) (unchanged_at c d Up (neighbour_of n Up) s.up)))
 
-  all_same : changed_some c d n ≡ false → io_word (seen_from d n) ≡ io_word (seen_from c n)
+  all_same : changed_some c d n ≡ false → io_word (neighbour_states d n) ≡ io_word (neighbour_states c n)
   unfolding changed_some
   all_same h =
       let p = or_parts (changed_at c d Right (neighbour_of n Right)) (changed_at c d Down (neighbour_of n Down) || (changed_at c d Left (neighbour_of n Left) || changed_at c d Up (neighbour_of n Up))) h in
@@ -165,10 +165,10 @@ module _ (c d : List NodeRecord) (n : ℕ) where
       ∙ ap₂ (λ (x y : ℕ). word_of_bits (part c Right) (part c Down) x y) (bits_at c d Left (neighbour_of n Left) r.0) (bits_at c d Up (neighbour_of n Up) r.1)
       ∙ sym (word_at c)
 
-  changes_is : not (io_word (seen_from d n) == io_word (seen_from c n)) ≡ changed_some c d n
-  changes_is = elim (cases_eq (io_word (seen_from d n)) (io_word (seen_from c n))) [
-    | inl q ↦ ap not (eq-eqb (io_word (seen_from d n)) (io_word (seen_from c n)) q) ∙ sym (same_all q)
-    | inr ne ↦ ap not (ne_eqb (io_word (seen_from d n)) (io_word (seen_from c n)) ne) ∙ sym (true_from_ne_false (changed_some c d n) (λ f. ne (all_same f)))
+  changes_is : not (io_word (neighbour_states d n) == io_word (neighbour_states c n)) ≡ changed_some c d n
+  changes_is = elim (cases_eq (io_word (neighbour_states d n)) (io_word (neighbour_states c n))) [
+    | inl q ↦ ap not (eq-eqb (io_word (neighbour_states d n)) (io_word (neighbour_states c n)) q) ∙ sym (same_all q)
+    | inr ne ↦ ap not (ne_eqb (io_word (neighbour_states d n)) (io_word (neighbour_states c n)) ne) ∙ sym (true_from_ne_false (changed_some c d n) (λ f. ne (all_same f)))
   ]
 
 -- ---- the sides of the nodes of an event
@@ -214,7 +214,7 @@ neighbour_there c d side None h = absurd (both_ways false refl h)
 neighbour_there c d side (Some k) h = (k, refl, λ same. both_ways (is_changed (record_at c k).wait (record_at d k).wait side) (unchanged c d k side same) h)
 
 module _ (c : List NodeRecord) (n : ℕ) (l : n < 144) where
-  own_side : (m : NodeId) (side : Side) → CanBe c (Own m) → of_node c (after c (Own m)).0 m.number n side ≡ changed_at c (after c (Own m)).0 side (neighbour_of n side)
+  own_side : (m : NodeId) (side : Side) → IsEnabled c (Own m) → of_node c (after c (Own m)).0 m.number n side ≡ changed_at c (after c (Own m)).0 side (neighbour_of n side)
   own_side m side can = alike (of_node c (after c (Own m)).0 m.number n side) (changed_at c (after c (Own m)).0 side (neighbour_of n side)) (node_to c (after c (Own m)).0 m.number n side m.in_range l) back
     where
       back : changed_at c (after c (Own m)).0 side (neighbour_of n side) ≡ true → of_node c (after c (Own m)).0 m.number n side ≡ true
@@ -225,7 +225,7 @@ module _ (c : List NodeRecord) (n : ℕ) (l : n < 144) where
             | inr ne ↦ absurd (k.2 ((stays c (Own m) can).same k.0 (or_from (m.number == k.0) false (ne_eqb m.number k.0 ne) refl)))
           ]
 
-  pass_side : (w r : NodeId) (s side : Side) → CanBe c (Pass w r s)
+  pass_side : (w r : NodeId) (s side : Side) → IsEnabled c (Pass w r s)
       → (of_node c (after c (Pass w r s)).0 w.number n side || of_node c (after c (Pass w r s)).0 r.number n side) ≡ changed_at c (after c (Pass w r s)).0 side (neighbour_of n side)
   pass_side w r s side can =
       alike (of_node c (after c (Pass w r s)).0 w.number n side || of_node c (after c (Pass w r s)).0 r.number n side) (changed_at c (after c (Pass w r s)).0 side (neighbour_of n side)) forth back
@@ -286,7 +286,7 @@ or8 a b c d x y z w = alike ((a || (b || (c || d))) || (x || (y || (z || w)))) (
 four : (a b c d x y z w : Bool) → a ≡ x → b ≡ y → c ≡ z → d ≡ w → (a || (b || (c || d))) ≡ (x || (y || (z || w)))
 four a b c d x y z w p q r s = ap₂ (λ (i j : Bool). i || j) p (ap₂ (λ (i j : Bool). i || j) q (ap₂ (λ (i j : Bool). i || j) r s))
 
-sides_of : (e : Event) (c : List NodeRecord) (act : EventAccess) (n : ℕ) → n < 144 → CanBe c e → HasChangedSides c (after c e).0 act e → shown_by e act.first act.second n ≡ changed_some c (after c e).0 n
+sides_of : (e : Event) (c : List NodeRecord) (act : EventAccess) (n : ℕ) → n < 144 → IsEnabled c e → HasChangedSides c (after c e).0 act e → shown_by e act.first act.second n ≡ changed_some c (after c e).0 n
 unfolding changed_some
 sides_of (Own m) c act n l can has =
     ap (λ (s : Sides). side_leads_to s m.number n) has
@@ -296,7 +296,7 @@ sides_of (Pass w r s) c act n l can has =
     ∙ or8 (of_node c (after c (Pass w r s)).0 w.number n Right) (of_node c (after c (Pass w r s)).0 w.number n Down) (of_node c (after c (Pass w r s)).0 w.number n Left) (of_node c (after c (Pass w r s)).0 w.number n Up) (of_node c (after c (Pass w r s)).0 r.number n Right) (of_node c (after c (Pass w r s)).0 r.number n Down) (of_node c (after c (Pass w r s)).0 r.number n Left) (of_node c (after c (Pass w r s)).0 r.number n Up)
     ∙ four _ _ _ _ _ _ _ _ (pass_side c n l w r s Right can) (pass_side c n l w r s Down can) (pass_side c n l w r s Left can) (pass_side c n l w r s Up can)
 
-pub act_changes : (c : List NodeRecord) (e : Event) (act : EventAccess) (n : ℕ) → n < 144 → CanBe c e → act.cause.event ≡ e → HasChangedSides c (after c e).0 act e
+pub act_changes : (c : List NodeRecord) (e : Event) (act : EventAccess) (n : ℕ) → n < 144 → IsEnabled c e → act.cause.event ≡ e → HasChangedSides c (after c e).0 act e
     → shown_by act.cause.event act.first act.second n ≡ (action_of c e).changes n
 act_changes c e act n l can is has =
     ap (λ (z : Event). shown_by z act.first act.second n) is ∙ sides_of e c act n l can has ∙ sym (changes_is c (after c e).0 n)

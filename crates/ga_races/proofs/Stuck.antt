@@ -13,11 +13,11 @@ use Rattle.ga_grid.proofs.NodeIds.{neighbour_of-back}
 use Rattle.ga_event.specs.declared.event.Event.{Event}
 use Rattle.ga_event.specs.declared.event.Event.TheVariants.{Own, Pass}
 use Rattle.ga_event.specs.declared.event.Cause.{Cause}
-use Rattle.ga_event.specs.Apply.{Told, cause_of, writes_to, reads_from, is_number, refusal_of, unless, after, run, replay, Agree}
+use Rattle.ga_event.specs.Apply.{EventOutcome, cause_of, writes_to, reads_from, is_number, refusal_of, when_allowed, after, run, replay, Agree}
 use Rattle.ga_event.specs.Touches.{touches}
 use Rattle.ga_event.proofs.Locality.{apply_keeps}
-use Rattle.ga_races.specs.Acts.{AreStuck}
-use Rattle.ga_races.proofs.Rivals.{matched_of as matched, number_of}
+use Rattle.ga_races.specs.Acts.{AreDeadlocked}
+use Rattle.ga_races.proofs.Conflicts.{matched_of as matched, number_of}
 
 -- the ends of an enabled pass
 record Open (chip : List NodeRecord) (w r : NodeId) (side : Side) : Type 0 where
@@ -32,15 +32,15 @@ opened chip w r side can =
     record { near = number_of (neighbour_of w.number side) r.number ends.0; writes = ends.1; reads = all.1 }
 
 -- an enabled event touches none of them
-not_passed : (chip : List NodeRecord) (marks : ℕ → Bool) (w r : NodeId) (side : Side) → AreStuck chip marks → Open chip w r side → marks w.number ≡ true → marks r.number ≡ true → ⊥
+not_passed : (chip : List NodeRecord) (marks : ℕ → Bool) (w r : NodeId) (side : Side) → AreDeadlocked chip marks → Open chip w r side → marks w.number ≡ true → marks r.number ≡ true → ⊥
 not_passed chip marks w r side s o mw mr = true≢false (sym o.reads ∙ s.apart w.number r.number side mw mr o.near o.writes)
 
-writer_free : (chip : List NodeRecord) (marks : ℕ → Bool) (w r : NodeId) (side : Side) → AreStuck chip marks → Open chip w r side → marks w.number ≡ true → ⊥
+writer_free : (chip : List NodeRecord) (marks : ℕ → Bool) (w r : NodeId) (side : Side) → AreDeadlocked chip marks → Open chip w r side → marks w.number ≡ true → ⊥
 writer_free chip marks w r side s o m =
     not_passed chip marks w r side s o m
     (s.inside w.number r.number side m (or_left (writes_to (record_at chip w.number).wait side) (reads_from (record_at chip w.number).wait side) o.writes) o.near)
 
-reader_free : (chip : List NodeRecord) (marks : ℕ → Bool) (w r : NodeId) (side : Side) → AreStuck chip marks → Open chip w r side → marks r.number ≡ true → ⊥
+reader_free : (chip : List NodeRecord) (marks : ℕ → Bool) (w r : NodeId) (side : Side) → AreDeadlocked chip marks → Open chip w r side → marks r.number ≡ true → ⊥
 reader_free chip marks w r side s o m =
     not_passed chip marks w r side s o
     (s.inside r.number w.number side m (or_right (writes_to (record_at chip r.number).wait side) (reads_from (record_at chip r.number).wait side) o.reads)
@@ -49,7 +49,7 @@ reader_free chip marks w r side s o m =
 apart_from : (a n : ℕ) → (n ≡ a → ⊥) → (a == n) ≡ false
 apart_from a n ne = ne_eqb a n (λ e. ne (sym e))
 
-untouched : (chip : List NodeRecord) (marks : ℕ → Bool) (e : Event) (n : ℕ) → AreStuck chip marks → refusal_of chip e ≡ None → marks n ≡ true → touches e n ≡ false
+untouched : (chip : List NodeRecord) (marks : ℕ → Bool) (e : Event) (n : ℕ) → AreDeadlocked chip marks → refusal_of chip e ≡ None → marks n ≡ true → touches e n ≡ false
 untouched chip marks (Own k) n s can m =
     or_from (k.number == n) false (apart_from k.number n (λ e. s.halted n m (ap (λ z. refusal (record_at chip z)) e ∙ can))) refl
 untouched chip marks (Pass w r side) n s can m =
@@ -61,31 +61,31 @@ untouched chip marks (Pass w r side) n s can m =
 abbrev Stand : List NodeRecord → List NodeRecord → (ℕ → Bool) → Type 0
 Stand c d marks = (n : ℕ) → marks n ≡ true → record_at c n ≡ record_at d n
 
-stuck_on : (c d : List NodeRecord) (marks : ℕ → Bool) → AreStuck c marks → Stand c d marks → AreStuck d marks
+stuck_on : (c d : List NodeRecord) (marks : ℕ → Bool) → AreDeadlocked c marks → Stand c d marks → AreDeadlocked d marks
 stuck_on c d marks s same = record {
   halted = λ n m h. s.halted n m (ap refusal (same n m) ∙ h);
   inside = λ n k side m h near. s.inside n k side m (ap (λ (z : NodeRecord). writes_to z.wait side || reads_from z.wait side) (same n m) ∙ h) near;
   apart = λ n k side m mk near h. ap (λ (z : NodeRecord). reads_from z.wait side) (sym (same k mk)) ∙ s.apart n k side m mk near (ap (λ (z : NodeRecord). writes_to z.wait side) (same n m) ∙ h);
 }
 
-stand_after : (c : List NodeRecord) (marks : ℕ → Bool) (e : Event) → AreStuck c marks → refusal_of c e ≡ None → Stand c (after c e).0 marks
+stand_after : (c : List NodeRecord) (marks : ℕ → Bool) (e : Event) → AreDeadlocked c marks → refusal_of c e ≡ None → Stand c (after c e).0 marks
 stand_after c marks e s can n m =
-    let a : Agree (touches e) c (after c e).0 = subst (λ o. IfSome (unless o (after c e)) (λ done. Agree (touches e) c done.0)) can (apply_keeps c e) in
+    let a : Agree (touches e) c (after c e).0 = subst (λ o. IfSome (when_allowed o (after c e)) (λ done. Agree (touches e) c done.0)) can (apply_keeps c e) in
     a.same n (untouched c marks e n s can m)
 
-pub stays : (c : List NodeRecord) (events : List Event) (marks : ℕ → Bool) → AreStuck c marks → IfSome (replay c events) (λ later. Stand c later marks)
+pub stays : (c : List NodeRecord) (events : List Event) (marks : ℕ → Bool) → AreDeadlocked c marks → IfSome (replay c events) (λ later. Stand c later marks)
 stays c [] marks s = λ n m. refl
 stays c (e ∷ es) marks s = go (refusal_of c e) refl
     (λ can. stays (after c e).0 es marks (stuck_on c (after c e).0 marks s (stand_after c marks e s can)))
   where
-    more : (first : List NodeRecord × Told) (o : Option (List NodeRecord × List (Cause × Told))) → Stand c first.0 marks
+    more : (first : List NodeRecord × EventOutcome) (o : Option (List NodeRecord × List (Cause × EventOutcome))) → Stand c first.0 marks
         → IfSome (option_map {U = List NodeRecord} (λ done. done.0) o) (λ later. Stand first.0 later marks)
-        → IfSome (option_map {U = List NodeRecord} (λ done. done.0) (option_map {U = List NodeRecord × List (Cause × Told)} (λ rest. (rest.0, (cause_of c e, first.1) ∷ rest.1)) o)) (λ later. Stand c later marks)
+        → IfSome (option_map {U = List NodeRecord} (λ done. done.0) (option_map {U = List NodeRecord × List (Cause × EventOutcome)} (λ rest. (rest.0, (cause_of c e, first.1) ∷ rest.1)) o)) (λ later. Stand c later marks)
     more first None on h = tt
     more first (Some rest) on h = λ n m. on n m ∙ h n m
 
     go : (o : Option NotReady) → refusal_of c e ≡ o
         → (refusal_of c e ≡ None → IfSome (replay (after c e).0 es) (λ later. Stand (after c e).0 later marks))
-        → IfSome (option_map {U = List NodeRecord} (λ done. done.0) (option_and_then (λ first. option_map {U = List NodeRecord × List (Cause × Told)} (λ rest. (rest.0, (cause_of c e, first.1) ∷ rest.1)) (run first.0 es)) (unless o (after c e)))) (λ later. Stand c later marks)
+        → IfSome (option_map {U = List NodeRecord} (λ done. done.0) (option_and_then (λ first. option_map {U = List NodeRecord × List (Cause × EventOutcome)} (λ rest. (rest.0, (cause_of c e, first.1) ∷ rest.1)) (run first.0 es)) (when_allowed o (after c e)))) (λ later. Stand c later marks)
     go None is later = more (after c e) (run (after c e).0 es) (stand_after c marks e s is) (later is)
     go (Some why) is later = tt

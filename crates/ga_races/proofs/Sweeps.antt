@@ -13,14 +13,14 @@ use Rattle.ga_event.specs.declared.event.Event.{Event}
 use Rattle.ga_event.specs.declared.event.Event.TheVariants.{Pass}
 use Rattle.ga_event.specs.Touches.{touches}
 use Rattle.ga_event.specs.Apply.{writes_to, reads_from, is_number, unmatched, after, replay}
-use Rattle.ga_causal.proofs.Shuffles.{touched_of}
-use Rattle.ga_races.specs.Orders.{CanBe, AreOrders, same, later, joined, IsRace, AreRivals}
-use Rattle.ga_races.specs.HappensBefore.{Action, action_of, actions, action_at, are_bound, IsBound, HappensBefore, directly, through, chip_at, made_at, IsNear, IsContended}
-use Rattle.ga_races.proofs.Frees.{replay_more, first_of, can_back, stays, apart-sym, touches_reader}
-use Rattle.ga_races.proofs.Orders.{is_some_of, can_behind}
+use Rattle.ga_causal.proofs.Equivalences.{touched_of}
+use Rattle.ga_races.specs.Orders.{IsEnabled, AreReorderings, same, later, joined, IsRace, AreConflicting}
+use Rattle.ga_races.specs.HappensBefore.{Action, action_of, actions, action_at, are_dependent, IsDirectlyBefore, HappensBefore, directly, through, chip_at, made_at, IsRacingPair, IsContended}
+use Rattle.ga_races.proofs.Independence.{replay_more, first_of, can_back, stays, apart-sym, touches_reader}
+use Rattle.ga_races.proofs.Orders.{is_some_of, enabled_after}
 use Rattle.ga_races.proofs.Exact.{replay_into}
 use Rattle.ga_races.proofs.Kahn.{begins}
-use Rattle.ga_races.proofs.Rivals.{actor}
+use Rattle.ga_races.proofs.Conflicts.{actor}
 use Rattle.ga_races.proofs.Bound.{Apart, unbound_apart, free_exact}
 use Rattle.ga_races.proofs.Before.{meets_some, reached, before_of, actions_into, actions_length, IsOver, over}
 
@@ -69,12 +69,12 @@ record IsSwept (c d : List NodeRecord) (e : Event) (xs post : List Event) (q : A
   behind : List Event
   now : List NodeRecord
   led : replay c before ≡ Some now
-  can : CanBe now e
+  can : IsEnabled now e
   still : action_of now e ≡ action_of c e
   then : replay (after now e).0 behind ≡ Some d
   none : list_any q (actions (after now e).0 behind) ≡ false
   kept : (n : ℕ) → touches e n ≡ true → record_at now n ≡ record_at c n
-  order : AreOrders c xs (before ++ e ∷ (behind ++ post))
+  order : AreReorderings c xs (before ++ e ∷ (behind ++ post))
 
 swept_over : (c d last : List NodeRecord) (e : Event) (fs : List Event) (y : Event) (zs post : List Event) (q : Action → Bool) → IsOver c d (e ∷ fs) y zs → Apart e y
     → IsSwept (after c y).0 last e (e ∷ (fs ++ zs)) post q → IsSwept c last e (e ∷ (fs ++ y ∷ zs)) post q
@@ -91,12 +91,12 @@ swept_over c d last e fs y zs post q o apart s = record {
   order = joined o.order (later o.can s.order);
 }
 
-swept_next : (c d last : List NodeRecord) (e : Event) (fs : List Event) (y : Event) (mid post : List Event) (q : Action → Bool) → CanBe c e → replay (after c e).0 fs ≡ Some d → CanBe d y
+swept_next : (c d last : List NodeRecord) (e : Event) (fs : List Event) (y : Event) (mid post : List Event) (q : Action → Bool) → IsEnabled c e → replay (after c e).0 fs ≡ Some d → IsEnabled d y
     → list_any q (actions (after c e).0 fs) ≡ false
     → (b : Bool) → meets_some (actions c (e ∷ fs)) (action_of d y) ≡ b → (meets_some (actions c (e ∷ fs)) (action_of d y) ≡ true → q (action_of d y) ≡ false)
     → (replay (after c e).0 (fs ++ y ∷ []) ≡ Some (after d y).0 → list_any q (actions (after c e).0 (fs ++ y ∷ [])) ≡ false → meets_some (actions c (e ∷ fs)) (action_of d y) ≡ true
     → actions c (e ∷ (fs ++ y ∷ [])) ≡ actions c (e ∷ fs) ++ action_of d y ∷ [] → IsSwept c last e (e ∷ ((fs ++ y ∷ []) ++ (mid ++ post))) post q)
-    → ((now : List NodeRecord) → CanBe now e → replay (after now e).0 fs ≡ Some (after d y).0 → list_any q (actions (after now e).0 fs) ≡ false → meets_some (actions c (e ∷ fs)) (action_of d y) ≡ false
+    → ((now : List NodeRecord) → IsEnabled now e → replay (after now e).0 fs ≡ Some (after d y).0 → list_any q (actions (after now e).0 fs) ≡ false → meets_some (actions c (e ∷ fs)) (action_of d y) ≡ false
     → actions now (e ∷ fs) ≡ actions c (e ∷ fs) → IsSwept now last e (e ∷ (fs ++ (mid ++ post))) post q)
     → IsSwept c last e (e ∷ (fs ++ ((y ∷ mid) ++ post))) post q
 swept_next c d last e fs y mid post q can h cany none true is kind held spared =
@@ -108,12 +108,12 @@ swept_next c d last e fs y mid post q can h cany none true is kind held spared =
 swept_next c d last e fs y mid post q can h cany none false is kind held spared =
     let o : IsOver c d (e ∷ fs) y (mid ++ post) = over (e ∷ fs) c d y (mid ++ post) (replay_more c e fs can ∙ h) cany is in
     let p = first_of (after c y).0 e fs (after d y).0 o.led in
-    let apart : Apart e y = unbound_apart (action_of c e) (action_of d y) ((or_parts (are_bound (action_of c e) (action_of d y)) (meets_some (actions (after c e).0 fs) (action_of d y)) is).0) in
+    let apart : Apart e y = unbound_apart (action_of c e) (action_of d y) ((or_parts (are_dependent (action_of c e) (action_of d y)) (meets_some (actions (after c e).0 fs) (action_of d y)) is).0) in
     swept_over c d last e fs y (mid ++ post) post q o apart
     (spared (after c y).0 p.can p.then
     (ap (list_any q) (others_same (action_of (after c y).0 e) (action_of c e) (actions (after (after c y).0 e).0 fs) (actions (after c e).0 fs) o.kept) ∙ none) is o.kept)
 
-swept : (mid : List Event) (c d last : List NodeRecord) (e : Event) (fs post : List Event) (q : Action → Bool) → CanBe c e → replay (after c e).0 fs ≡ Some d → replay d mid ≡ Some last
+swept : (mid : List Event) (c d last : List NodeRecord) (e : Event) (fs post : List Event) (q : Action → Bool) → IsEnabled c e → replay (after c e).0 fs ≡ Some d → replay d mid ≡ Some last
     → list_any q (actions (after c e).0 fs) ≡ false
     → ((j : ℕ) → j < length mid → reached (actions c (e ∷ fs)) (actions d mid) j ≡ true → q (action_at (actions d mid) j) ≡ false)
     → IsSwept c last e (e ∷ (fs ++ (mid ++ post))) post q
@@ -165,7 +165,7 @@ split_at (e ∷ es) (suc j) l =
 
 -- ---- what is near races
 
-race_later : (c : List NodeRecord) (e : Event) (es : List Event) (step other : Event) → CanBe c e → IsRace (after c e).0 es step other → IsRace c (e ∷ es) step other
+race_later : (c : List NodeRecord) (e : Event) (es : List Event) (step other : Event) → IsEnabled c e → IsRace (after c e).0 es step other → IsRace c (e ∷ es) step other
 race_later c e es step other can r = record {
   before = e ∷ r.before;
   later = r.later;
@@ -180,7 +180,7 @@ race_later c e es step other can r = record {
 pub happens_later : (a : Action) (xs : List Action) (i j : ℕ) → HappensBefore xs i j → HappensBefore (a ∷ xs) (suc i) (suc j)
 happens_later a xs i j (directly d) = directly (bound_later a xs i j d)
   where
-    bound_later : (a : Action) (xs : List Action) (i j : ℕ) → IsBound xs i j → IsBound (a ∷ xs) (suc i) (suc j)
+    bound_later : (a : Action) (xs : List Action) (i j : ℕ) → IsDirectlyBefore xs i j → IsDirectlyBefore (a ∷ xs) (suc i) (suc j)
     bound_later a xs i j d = let l : i < j = d.before in let m : j < length xs = d.within in record { before = omega (arith, l); within = omega (arith, m); bound = d.bound }
 happens_later a xs i j (through {middle} h d) =
     let l : middle < j = d.before in
@@ -190,15 +190,15 @@ happens_later a xs i j (through {middle} h d) =
 unlike : (e y : Event) → Apart e y → e ≢ y
 unlike e y apart h = let t = touched_of e in both_ways (touches y t.node) (apart t.node t.is) (subst (λ (z : Event). touches z t.node ≡ true) h t.is)
 
-near_split : (mid : List Event) (c d last : List NodeRecord) (e y : Event) (post : List Event) → CanBe c e → replay (after c e).0 mid ≡ Some d → CanBe d y → Apart e y
-    → are_bound (action_of c e) (action_of d y) ≡ true
-    → ((j : ℕ) → j < length mid → reached (actions c (e ∷ [])) (actions (after c e).0 mid) j ≡ true → are_bound (action_at (actions (after c e).0 mid) j) (action_of d y) ≡ false)
+near_split : (mid : List Event) (c d last : List NodeRecord) (e y : Event) (post : List Event) → IsEnabled c e → replay (after c e).0 mid ≡ Some d → IsEnabled d y → Apart e y
+    → are_dependent (action_of c e) (action_of d y) ≡ true
+    → ((j : ℕ) → j < length mid → reached (actions c (e ∷ [])) (actions (after c e).0 mid) j ≡ true → are_dependent (action_at (actions (after c e).0 mid) j) (action_of d y) ≡ false)
     → IsRace c (e ∷ (mid ++ y ∷ post)) e y
 near_split mid c d last e y post can h cany apart bound kind =
-    let s : IsSwept c d e (e ∷ ([] ++ (mid ++ y ∷ post))) (y ∷ post) (λ a. are_bound a (action_of d y)) =
-    swept mid c (after c e).0 d e [] (y ∷ post) (λ a. are_bound a (action_of d y)) can refl h refl kind in
+    let s : IsSwept c d e (e ∷ ([] ++ (mid ++ y ∷ post))) (y ∷ post) (λ a. are_dependent a (action_of d y)) =
+    swept mid c (after c e).0 d e [] (y ∷ post) (λ a. are_dependent a (action_of d y)) can refl h refl kind in
     let o : IsOver (after s.now e).0 d s.behind y post = over s.behind (after s.now e).0 d y post s.then cany s.none in
-    let now_can : CanBe s.now y = can_back s.now y e (apart-sym e y apart) s.can o.can in
+    let now_can : IsEnabled s.now y = can_back s.now y e (apart-sym e y apart) s.can o.can in
     record {
       before = s.before;
       later = s.behind ++ y ∷ post;
@@ -207,25 +207,25 @@ near_split mid c d last e y post can h cany apart bound kind =
       led = s.led;
       can = now_can;
       differ = unlike e y apart;
-      bound = λ free. both_ways (are_bound (action_of c e) (action_of d y)) (ap₂ are_bound (sym s.still) (sym o.still) ∙ (free_exact s.now e y s.can o.can).1 (now_can, free)) bound;
+      bound = λ free. both_ways (are_dependent (action_of c e) (action_of d y)) (ap₂ are_dependent (sym s.still) (sym o.still) ∙ (free_exact s.now e y s.can o.can).1 (now_can, free)) bound;
     }
 
-near_first : (c last : List NodeRecord) (e : Event) (mid : List Event) (y : Event) (post : List Event) → replay c (e ∷ (mid ++ y ∷ post)) ≡ Some last → IsNear c (e ∷ (mid ++ y ∷ post)) 0 (suc (length mid)) → IsRace c (e ∷ (mid ++ y ∷ post)) e y
+near_first : (c last : List NodeRecord) (e : Event) (mid : List Event) (y : Event) (post : List Event) → replay c (e ∷ (mid ++ y ∷ post)) ≡ Some last → IsRacingPair c (e ∷ (mid ++ y ∷ post)) 0 (suc (length mid)) → IsRace c (e ∷ (mid ++ y ∷ post)) e y
 near_first c last e mid y post h n =
     let p = first_of c e (mid ++ y ∷ post) last h in
     let b = begins mid (y ∷ post) (after c e).0 last p.then in
-    let cany : CanBe b.0 y = can_behind mid (after c e).0 b.0 y post b.1 (is_some_of (replay (after c e).0 (mid ++ y ∷ post)) last p.then) in
+    let cany : IsEnabled b.0 y = enabled_after mid (after c e).0 b.0 y post b.1 (is_some_of (replay (after c e).0 (mid ++ y ∷ post)) last p.then) in
     let there : action_at (actions (after c e).0 (mid ++ y ∷ post)) (length mid) ≡ action_of b.0 y = action_there mid (after c e).0 b.0 y post b.1 in
-    near_split mid c b.0 last e y post p.can b.1 cany (λ k t. ap (λ (a : Action). touches a.cause.event k) (sym there) ∙ n.apart k t) (ap (are_bound (action_of c e)) (sym there) ∙ n.bound.bound)
-    (λ j l t. false_from_ne_true (are_bound (action_at (actions (after c e).0 mid) j) (action_of b.0 y))
+    near_split mid c b.0 last e y post p.can b.1 cany (λ k t. ap (λ (a : Action). touches a.cause.event k) (sym there) ∙ n.apart k t) (ap (are_dependent (action_of c e)) (sym there) ∙ n.bound.bound)
+    (λ j l t. false_from_ne_true (are_dependent (action_at (actions (after c e).0 mid) j) (action_of b.0 y))
     (λ u. n.none (suc j) (reached_first c e mid (y ∷ post) b.0 j b.1 l t)
     (directly (record {
       before = omega (arith, l);
       within = n.bound.within;
-      bound = ap₂ are_bound (action_before mid (after c e).0 (y ∷ post) j l) there ∙ u;
+      bound = ap₂ are_dependent (action_before mid (after c e).0 (y ∷ post) j l) there ∙ u;
     }))))
 
-near_at_first : (c last : List NodeRecord) (e : Event) (es : List Event) (j : ℕ) → replay c (e ∷ es) ≡ Some last → IsNear c (e ∷ es) 0 (suc j) → IsRace c (e ∷ es) e (made_at c (e ∷ es) (suc j))
+near_at_first : (c last : List NodeRecord) (e : Event) (es : List Event) (j : ℕ) → replay c (e ∷ es) ≡ Some last → IsRacingPair c (e ∷ es) 0 (suc j) → IsRace c (e ∷ es) e (made_at c (e ∷ es) (suc j))
 near_at_first c last e es j h n =
     let size : length (actions (after c e).0 es) ≡ length es = actions_length (after c e).0 es in
     let l : suc j < suc (length (actions (after c e).0 es)) = n.bound.within in
@@ -240,13 +240,13 @@ near_at_first c last e es j h n =
     go mid (y ∷ post) is size l =
         let found : IsRace c (e ∷ (mid ++ y ∷ post)) e y =
         near_first c last e mid y post (subst (λ (z : List Event). replay c (e ∷ z) ≡ Some last) is h)
-        (subst₂ (λ (z : List Event) (k : ℕ). IsNear c (e ∷ z) 0 (suc k)) is (sym size) n) in
+        (subst₂ (λ (z : List Event) (k : ℕ). IsRacingPair c (e ∷ z) 0 (suc k)) is (sym size) n) in
         let b = begins mid (y ∷ post) (after c e).0 last ((first_of c e (mid ++ y ∷ post) last (subst (λ (z : List Event). replay c (e ∷ z) ≡ Some last) is h)).then) in
         let there : made_at c (e ∷ (mid ++ y ∷ post)) (suc (length mid)) ≡ y = ap (λ (a : Action). a.cause.event) (action_there mid (after c e).0 b.0 y post b.1) in
         subst₂ (λ (z : List Event) (k : ℕ). IsRace c (e ∷ z) e (made_at c (e ∷ z) (suc k))) (sym is) size
         (subst (IsRace c (e ∷ (mid ++ y ∷ post)) e) (sym there) found)
 
-near_tail : (c : List NodeRecord) (e : Event) (es : List Event) (i j : ℕ) → IsNear c (e ∷ es) (suc i) (suc j) → IsNear (after c e).0 es i j
+near_tail : (c : List NodeRecord) (e : Event) (es : List Event) (i j : ℕ) → IsRacingPair c (e ∷ es) (suc i) (suc j) → IsRacingPair (after c e).0 es i j
 near_tail c e es i j n =
     let l : suc i < suc j = n.bound.before in
     let m : suc j < suc (length (actions (after c e).0 es)) = n.bound.within in
@@ -256,7 +256,7 @@ near_tail c e es i j n =
       none = λ middle a b. n.none (suc middle) (happens_later (action_of c e) (actions (after c e).0 es) i middle a) (happens_later (action_of c e) (actions (after c e).0 es) middle j b);
     }
 
-pub near_races : (es : List Event) (c last : List NodeRecord) (i j : ℕ) → replay c es ≡ Some last → IsNear c es i j → IsRace c es (made_at c es i) (made_at c es j)
+pub near_races : (es : List Event) (c last : List NodeRecord) (i j : ℕ) → replay c es ≡ Some last → IsRacingPair c es i j → IsRace c es (made_at c es i) (made_at c es j)
 near_races [] c last i j h n = let m : j < 0 = n.bound.within in absurd (omega (arith, m))
 near_races (e ∷ es) c last i zero h n = let l : i < 0 = n.bound.before in absurd (omega (arith, l))
 near_races (e ∷ es) c last zero (suc j) h n = near_at_first c last e es j h n
@@ -266,7 +266,7 @@ near_races (e ∷ es) c last (suc i) (suc j) h n =
 
 -- ---- what is contended races
 
-can_pass : (c : List NodeRecord) (w r : NodeId) (side : Side) → neighbour_of w.number side ≡ Some r.number → writes_to (record_at c w.number).wait side ≡ true → reads_from (record_at c r.number).wait side ≡ true → CanBe c (Pass w r side)
+can_pass : (c : List NodeRecord) (w r : NodeId) (side : Side) → neighbour_of w.number side ≡ Some r.number → writes_to (record_at c w.number).wait side ≡ true → reads_from (record_at c r.number).wait side ≡ true → IsEnabled c (Pass w r side)
 can_pass c w r side near writes reads =
     let beside : is_number (neighbour_of w.number side) r.number ≡ true = ap (λ o. is_number o r.number) near ∙ eq-eqb r.number r.number refl in
     ap unmatched (and_from (is_number (neighbour_of w.number side) r.number && writes_to (record_at c w.number).wait side) (reads_from (record_at c r.number).wait side)
@@ -285,7 +285,7 @@ writer_apart w r x side other ne near =
     or_from (w.number == x.number) ((r.number == x.number) || false) (ne_eqb w.number x.number ne)
     (or_from (r.number == x.number) false (ne_eqb r.number x.number (neighbour_of-other x.number r.number other near)) refl)
 
-contended_split : (mid : List Event) (c d last : List NodeRecord) (e other : Event) (post : List Event) (rivals : AreRivals e other) → CanBe c e → replay (after c e).0 mid ≡ Some d
+contended_split : (mid : List Event) (c d last : List NodeRecord) (e other : Event) (post : List Event) (rivals : AreConflicting e other) → IsEnabled c e → replay (after c e).0 mid ≡ Some d
     → neighbour_of rivals.second.number rivals.other ≡ Some rivals.reader.number → reads_from (record_at c rivals.reader.number).wait rivals.other ≡ true → writes_to (record_at d rivals.second.number).wait rivals.other ≡ true
     → ((j : ℕ) → j < length mid → reached (actions c (e ∷ [])) (actions (after c e).0 mid) j ≡ true → touches (action_at (actions (after c e).0 mid) j).cause.event rivals.second.number ≡ false)
     → IsRace c (e ∷ (mid ++ post)) e other
@@ -297,8 +297,8 @@ contended_split mid c d last e other post rivals can h near reads writes kind =
     let out : touches e x ≡ false = ap (λ (z : Event). touches z x) rivals.one ∙ writer_apart rivals.first rivals.reader rivals.second rivals.side rivals.other rivals.writers near in
     let read : touches e r ≡ true = ap (λ (z : Event). touches z r) rivals.one ∙ touches_reader rivals.first rivals.reader rivals.side in
     let at_writer : record_at s.now x ≡ record_at d x = (stays s.now e s.can).same x out ∙ untouched_run s.behind (after s.now e).0 d x s.then s.none in
-    let can_other : CanBe s.now other =
-    subst (CanBe s.now) (sym rivals.two) (can_pass s.now rivals.second rivals.reader rivals.other near
+    let can_other : IsEnabled s.now other =
+    subst (IsEnabled s.now) (sym rivals.two) (can_pass s.now rivals.second rivals.reader rivals.other near
     (ap (λ (z : NodeRecord). writes_to z.wait rivals.other) at_writer ∙ writes) (ap (λ (z : NodeRecord). reads_from z.wait rivals.other) (s.kept r read) ∙ reads)) in
     record {
       before = s.before;
@@ -321,7 +321,7 @@ abbrev IsPosted : List NodeRecord → Event → ℕ → Side → List Event → 
 IsPosted c e x side es k = (writes_to (record_at (chip_at c (e ∷ es) k) x).wait side ≡ true)
     × ((step : ℕ) → step < k → touches (made_at c (e ∷ es) step) x ≡ true → HappensBefore (actions c (e ∷ es)) 0 step → ⊥)
 
-contended_mid : (c last : List NodeRecord) (e : Event) (mid post : List Event) (other : Event) (rivals : AreRivals e other) → replay c (e ∷ (mid ++ post)) ≡ Some last
+contended_mid : (c last : List NodeRecord) (e : Event) (mid post : List Event) (other : Event) (rivals : AreConflicting e other) → replay c (e ∷ (mid ++ post)) ≡ Some last
     → neighbour_of rivals.second.number rivals.other ≡ Some rivals.reader.number → reads_from (record_at c rivals.reader.number).wait rivals.other ≡ true
     → IsPosted c e rivals.second.number rivals.other (mid ++ post) (suc (length mid)) → IsRace c (e ∷ (mid ++ post)) e other
 contended_mid c last e mid post other rivals h near reads posted =
@@ -333,7 +333,7 @@ contended_mid c last e mid post other rivals h near reads posted =
     (λ u. posted.1 (suc j) (omega (arith, l)) (ap (λ (a : Action). touches a.cause.event rivals.second.number) (action_before mid (after c e).0 post j l) ∙ u)
     (reached_first c e mid post b.0 j b.1 l t)))
 
-contended_now : (c : List NodeRecord) (e : Event) (es : List Event) (other : Event) (rivals : AreRivals e other)
+contended_now : (c : List NodeRecord) (e : Event) (es : List Event) (other : Event) (rivals : AreConflicting e other)
     → neighbour_of rivals.second.number rivals.other ≡ Some rivals.reader.number → reads_from (record_at c rivals.reader.number).wait rivals.other ≡ true
     → writes_to (record_at c rivals.second.number).wait rivals.other ≡ true → IsRace c (e ∷ es) e other
 contended_now c e es other rivals near reads writes =
@@ -344,13 +344,13 @@ contended_now c e es other rivals near reads writes =
       now = c;
       order = same;
       led = refl;
-      can = subst (CanBe c) (sym rivals.two) (can_pass c rivals.second rivals.reader rivals.other near writes reads);
+      can = subst (IsEnabled c) (sym rivals.two) (can_pass c rivals.second rivals.reader rivals.other near writes reads);
       differ = λ q. rivals.writers (ap actor (sym rivals.one ∙ q ∙ rivals.two));
       bound = λ free. both_ways (touches other r) (free.apart r (ap (λ (z : Event). touches z r) rivals.one ∙ touches_reader rivals.first rivals.reader rivals.side))
           (ap (λ (z : Event). touches z r) rivals.two ∙ touches_reader rivals.second rivals.reader rivals.other);
     }
 
-contended_first : (c last : List NodeRecord) (e : Event) (es : List Event) (other : Event) (rivals : AreRivals e other) (k : ℕ) → replay c (e ∷ es) ≡ Some last → k ≤ length (e ∷ es)
+contended_first : (c last : List NodeRecord) (e : Event) (es : List Event) (other : Event) (rivals : AreConflicting e other) (k : ℕ) → replay c (e ∷ es) ≡ Some last → k ≤ length (e ∷ es)
     → neighbour_of rivals.second.number rivals.other ≡ Some rivals.reader.number → reads_from (record_at c rivals.reader.number).wait rivals.other ≡ true
     → IsPosted c e rivals.second.number rivals.other es k → IsRace c (e ∷ es) e other
 contended_first c last e es other rivals zero h l near reads posted = contended_now c e es other rivals near reads posted.0
@@ -360,7 +360,7 @@ contended_first c last e es other rivals (suc k) h l near reads posted =
     (contended_mid c last e s.mid s.post other rivals (subst (λ (z : List Event). replay c (e ∷ z) ≡ Some last) s.is h) near reads
     (subst₂ (λ (z : List Event) (n : ℕ). IsPosted c e rivals.second.number rivals.other z (suc n)) s.is (sym s.size) posted))
 
-contended_at : (es : List Event) (c last : List NodeRecord) (i k : ℕ) (other : Event) (rivals : AreRivals (made_at c es i) other) → replay c es ≡ Some last → i < length es → i ≤ k → k ≤ length es
+contended_at : (es : List Event) (c last : List NodeRecord) (i k : ℕ) (other : Event) (rivals : AreConflicting (made_at c es i) other) → replay c es ≡ Some last → i < length es → i ≤ k → k ≤ length es
     → neighbour_of rivals.second.number rivals.other ≡ Some rivals.reader.number → reads_from (record_at (chip_at c es i) rivals.reader.number).wait rivals.other ≡ true
     → writes_to (record_at (chip_at c es k) rivals.second.number).wait rivals.other ≡ true
     → ((step : ℕ) → step < k → touches (made_at c es step) rivals.second.number ≡ true → HappensBefore (actions c es) i step → ⊥)

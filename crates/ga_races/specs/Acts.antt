@@ -13,8 +13,8 @@ use Rattle.ga_event.specs.declared.event.Event.{Event}
 use Rattle.ga_event.specs.declared.event.Event.TheVariants.{Own, Pass}
 use Rattle.ga_races.specs.declared.act.EventAccess.{EventAccess}
 use Rattle.ga_races.specs.declared.act.Sides.{Sides}
-use Rattle.ga_races.specs.declared.near.Near.{Near}
-use Rattle.ga_races.specs.HappensBefore.{Action, action_at, AreNear}
+use Rattle.ga_races.specs.declared.racing_pairs.RacingPair.{RacingPair}
+use Rattle.ga_races.specs.HappensBefore.{Action, action_at, AreRacing}
 
 -- ---- sets of nodes of the chip, one within another
 
@@ -32,7 +32,7 @@ awaits wait side = writes_to wait side || reads_from wait side
 
 -- The marked nodes are deadlocked: each waits or is stopped, each neighbour that it awaits is marked, and no two of them can
 -- transfer a word.
-pub record AreStuck (chip : List NodeRecord) (marks : ℕ → Bool) : Type 0 where
+pub record AreDeadlocked (chip : List NodeRecord) (marks : ℕ → Bool) : Type 0 where
   pub halted : (n : ℕ) → marks n ≡ true → refusal (record_at chip n) ≢ None
   pub inside : (n m : ℕ) (side : Side) → marks n ≡ true → awaits (record_at chip n).wait side ≡ true → neighbour_of n side ≡ Some m → marks m ≡ true
   pub apart : (n m : ℕ) (side : Side) → marks n ≡ true → marks m ≡ true → neighbour_of n side ≡ Some m
@@ -64,8 +64,8 @@ abbrev pub is_look_of : Action → ℕ → Bool
 is_look_of action n = action.cause.look && is_own_of action.cause.event n
 
 -- At the two places are a look of a node and a change of what is shown to it, and they are a racing pair, in whichever order.
-pub record IsNearLook (acts : List EventAccess) (near : Near) : Type 0 where
+pub record IsNearLook (acts : List EventAccess) (near : RacingPair) : Type 0 where
   pub node : ℕ
   pub look : is_look_of (action_at (actions_in acts) near.look) node ≡ true
   pub change : (action_at (actions_in acts) near.change).changes node ≡ true
-  pub order : AreNear (actions_in acts) near.look near.change ⊎ AreNear (actions_in acts) near.change near.look
+  pub order : AreRacing (actions_in acts) near.look near.change ⊎ AreRacing (actions_in acts) near.change near.look

@@ -7,7 +7,7 @@ use Rattle.std.specs.Prelude.{◌≡◌, ℕ, Bool, true, ◌||◌, ◌⊎◌, S
 use Rattle.ga_ports.specs.declared.side.Side.{Side}
 use Rattle.ga_ports.specs.declared.side.Side.TheVariants.{Right, Down, Left, Up}
 use Rattle.ga_grid.specs.Grid.{neighbour_of}
-use Rattle.ga_event.specs.Apply.{is_number, writes_to, reads_from, seen_from, after, cause_of}
+use Rattle.ga_event.specs.Apply.{is_number, writes_to, reads_from, neighbour_states, after, cause_of}
 use Rattle.std.specs.List.{list_any}
 use Rattle.ga_node.specs.Io.{io_word}
 use Rattle.ga_node.specs.Record.{NodeRecord}
@@ -17,7 +17,7 @@ use Rattle.ga_event.specs.declared.event.Cause.{Cause}
 use Rattle.ga_event.specs.Touches.{touches}
 use Rattle.ga_causal.specs.Dependence.{cause_nodes, cause_touches, no_cause}
 use Rattle.ga_causal.specs.Steps.{touching, IsStep}
-use Rattle.ga_races.specs.Orders.{AreRivals}
+use Rattle.ga_races.specs.Orders.{AreConflicting}
 
 -- ---- nodes at which an event can change what the next event is: those that it touches and their neighbours (F18A Technology
 -- Reference DB001, ports; G144A12 Chip Reference DB002, links). A node's next event depends on its own wait and stop and on the
@@ -42,7 +42,7 @@ pub record Action : Type 0 where
 abbrev pub action_of : List NodeRecord → Event → Action
 action_of chip event = record {
   cause = cause_of chip event;
-  changes = λ n. not (io_word (seen_from (after chip event).0 n) == io_word (seen_from chip n));
+  changes = λ n. not (io_word (neighbour_states (after chip event).0 n) == io_word (neighbour_states chip n));
 }
 
 -- the events of a list that can be made, each as it is made
@@ -66,20 +66,20 @@ is_shown look change = look.cause.look && list_any change.changes (cause_nodes l
 
 -- Whether two actions touch a common node, or one is a look and the other changes what is shown to it, in whichever order: the
 -- dependence of a trace's symbols. Neighbours in a list are so exactly if they are not independent (law `happens_before`).
-abbrev pub are_bound : Action → Action → Bool
-are_bound first second =
+abbrev pub are_dependent : Action → Action → Bool
+are_dependent first second =
     list_any (cause_touches first.cause) (cause_nodes second.cause) || (is_shown first second || is_shown second first)
 
 -- whether the action at the place `later` depends directly on the one at the place `earlier`
-pub record IsBound (actions : List Action) (earlier later : ℕ) : Type 0 where
+pub record IsDirectlyBefore (actions : List Action) (earlier later : ℕ) : Type 0 where
   pub before : earlier < later
   pub within : later < length actions
-  pub bound : are_bound (action_at actions earlier) (action_at actions later) ≡ true
+  pub bound : are_dependent (action_at actions earlier) (action_at actions later) ≡ true
 
--- the action at one place happens before that at another: the least transitive relation that contains `IsBound`
+-- the action at one place happens before that at another: the least transitive relation that contains `IsDirectlyBefore`
 pub data HappensBefore (actions : List Action) (first : ℕ) : ℕ → Type 0 where
-  directly : {later : ℕ} → IsBound actions first later → HappensBefore actions first later
-  through : {middle later : ℕ} → HappensBefore actions first middle → IsBound actions middle later → HappensBefore actions first later
+  directly : {later : ℕ} → IsDirectlyBefore actions first later → HappensBefore actions first later
+  through : {middle later : ℕ} → HappensBefore actions first middle → IsDirectlyBefore actions middle later → HappensBefore actions first later
 
 -- the action at the place is the k-th that touches the node: the node's step k
 abbrev pub IsStepOf : List NodeRecord → List Event → ℕ → ℕ → ℕ → Type 0
@@ -101,19 +101,19 @@ abbrev pub made_at : List NodeRecord → List Event → ℕ → Event
 made_at chip events place = (action_at (actions chip events) place).cause.event
 
 -- Two dependent actions that touch no common node, and between which nothing happens.
-pub record AreNear (actions : List Action) (first later : ℕ) : Type 0 where
-  pub bound : IsBound actions first later
+pub record AreRacing (actions : List Action) (first later : ℕ) : Type 0 where
+  pub bound : IsDirectlyBefore actions first later
   pub apart : (n : ℕ) → touches (action_at actions first).cause.event n ≡ true → touches (action_at actions later).cause.event n ≡ false
   pub none : (middle : ℕ) → HappensBefore actions first middle → HappensBefore actions middle later → ⊥
 
 -- A racing pair: a look and a change of what is shown to it that keep their order only by this, in whichever order.
-abbrev pub IsNear : List NodeRecord → List Event → ℕ → ℕ → Type 0
-IsNear chip events first later = AreNear (actions chip events) first later
+abbrev pub IsRacingPair : List NodeRecord → List Event → ℕ → ℕ → Type 0
+IsRacingPair chip events first later = AreRacing (actions chip events) first later
 
 -- The event at the place is a pass, and another writer could have been there first: the reader waits for it too, and after
 -- `posted` events, none of which is a step of this writer that happens after the pass, it waits to write to the reader.
 pub record IsContended (chip : List NodeRecord) (events : List Event) (place : ℕ) (other : Event) : Type 0 where
-  pub rivals : AreRivals (made_at chip events place) other
+  pub rivals : AreConflicting (made_at chip events place) other
   pub stands : place < length events
   pub posted : ℕ
   pub before : place ≤ posted

@@ -16,8 +16,8 @@ use Rattle.ga_causal.specs.Words.{word_of}
 -- ---- A set of nodes that holds those that have an event
 
 -- the node of this number has an event
-abbrev pub can_go : List NodeRecord → ℕ → Bool
-can_go chip n = nat_lt n 144 && is_ok (next chip (node_id n))
+abbrev pub has_event : List NodeRecord → ℕ → Bool
+has_event chip n = nat_lt n 144 && is_ok (next chip (node_id n))
 
 -- the first of k numbers from this one on, round the chip, that passes a test
 abbrev pub first_in : (ℕ → Bool) → ℕ → ℕ → Option NodeId
@@ -25,29 +25,29 @@ first_in test n zero = None
 first_in test n (suc k) = if test (n % 144) then Some (node_id n) else first_in test (n + 1) k
 
 -- whether the event is enabled on the chip
-abbrev pub CanBe : List NodeRecord → Event → Type 0
-CanBe chip event = refusal_of chip event ≡ None
+abbrev pub IsEnabled : List NodeRecord → Event → Type 0
+IsEnabled chip event = refusal_of chip event ≡ None
 
 -- whether no event is enabled on the chip
-abbrev pub IsAtEnd : List NodeRecord → Type 0
-IsAtEnd chip = (event : Event) → CanBe chip event → ⊥
+abbrev pub IsTerminal : List NodeRecord → Type 0
+IsTerminal chip = (event : Event) → IsEnabled chip event → ⊥
 
 -- Two events touch no common node, and to each comes the same word from outside (in a pass, in `io`) where the other is made first.
-pub record AreFree (chip : List NodeRecord) (e f : Event) : Type 0 where
+pub record AreIndependentOn (chip : List NodeRecord) (e f : Event) : Type 0 where
   pub apart : (n : ℕ) → touches e n ≡ true → touches f n ≡ false
   pub first : word_of (after chip f).0 e ≡ word_of chip e
   pub second : word_of (after chip e).0 f ≡ word_of chip f
 
 -- On a chip, the one list is the other in another order: they differ by swaps of neighbours that are independent where they
 -- are.
-pub data AreOrders : List NodeRecord → List Event → List Event → Type 0 where
-  same : {chip : List NodeRecord} {xs : List Event} → AreOrders chip xs xs
+pub data AreReorderings : List NodeRecord → List Event → List Event → Type 0 where
+  same : {chip : List NodeRecord} {xs : List Event} → AreReorderings chip xs xs
   swapped : {chip : List NodeRecord} {e f : Event} {xs : List Event}
-      → CanBe chip e → CanBe chip f → AreFree chip e f → AreOrders chip (e ∷ f ∷ xs) (f ∷ e ∷ xs)
+      → IsEnabled chip e → IsEnabled chip f → AreIndependentOn chip e f → AreReorderings chip (e ∷ f ∷ xs) (f ∷ e ∷ xs)
   later : {chip : List NodeRecord} {e : Event} {xs ys : List Event}
-      → CanBe chip e → AreOrders (after chip e).0 xs ys → AreOrders chip (e ∷ xs) (e ∷ ys)
+      → IsEnabled chip e → AreReorderings (after chip e).0 xs ys → AreReorderings chip (e ∷ xs) (e ∷ ys)
   joined : {chip : List NodeRecord} {xs ys zs : List Event}
-      → AreOrders chip xs ys → AreOrders chip ys zs → AreOrders chip xs zs
+      → AreReorderings chip xs ys → AreReorderings chip ys zs → AreReorderings chip xs zs
 
 -- A step of the list races with another event: in some order of the list the step comes next where the other event is enabled
 -- too, and the two are not independent.
@@ -55,17 +55,17 @@ pub record IsRace (chip : List NodeRecord) (events : List Event) (step other : E
   pub before : List Event
   pub later : List Event
   pub now : List NodeRecord
-  pub order : AreOrders chip events (before ++ step ∷ later)
+  pub order : AreReorderings chip events (before ++ step ∷ later)
   pub led : replay chip before ≡ Some now
-  pub can : CanBe now other
+  pub can : IsEnabled now other
   pub differ : step ≢ other
-  pub bound : AreFree now step other → ⊥
+  pub bound : AreIndependentOn now step other → ⊥
 
 abbrev pub HasNoRace : List NodeRecord → List Event → Type 0
 HasNoRace chip events = (step other : Event) → IsRace chip events step other → ⊥
 
 -- two passes to one reader, from two writers, over two sides
-pub record AreRivals (e f : Event) : Type 0 where
+pub record AreConflicting (e f : Event) : Type 0 where
   pub first : NodeId
   pub second : NodeId
   pub reader : NodeId
@@ -80,7 +80,7 @@ pub record AreRivals (e f : Event) : Type 0 where
 
 -- the event comes first in an order of the list
 abbrev pub ComesFirst : List NodeRecord → List Event → Event → Type 0
-ComesFirst chip events event = (others : List Event) × AreOrders chip events (event ∷ others)
+ComesFirst chip events event = (others : List Event) × AreReorderings chip events (event ∷ others)
 
 -- The set has lists that can be made, the empty one among them. It continues each list after which some event is enabled, by
 -- some event. And it reverses races. Suppose that it continued with an event, that an order of the list from there on has some
@@ -90,10 +90,10 @@ ComesFirst chip events event = (others : List Event) × AreOrders chip events (e
 pub record IsExplored (chip : List NodeRecord) (has : List Event → Type 0) : Type 0 where
   pub made : (events : List Event) → has events → IsSome (replay chip events)
   pub begun : has []
-  pub onward : (events : List Event) (now : List NodeRecord) (event : Event) → has events → replay chip events ≡ Some now → CanBe now event
-      → (next : Event) × CanBe now next × has (events ++ next ∷ [])
+  pub onward : (events : List Event) (now : List NodeRecord) (event : Event) → has events → replay chip events ≡ Some now → IsEnabled now event
+      → (next : Event) × IsEnabled now next × has (events ++ next ∷ [])
   pub turned : (events behind before later : List Event) (now there : List NodeRecord) (event other : Event)
-      → has (events ++ event ∷ behind) → replay chip events ≡ Some now → AreOrders now (event ∷ behind) (before ++ event ∷ later)
-      → replay now before ≡ Some there → CanBe there other → event ≢ other → (AreFree there event other → ⊥)
-      → AreRivals event other ⊎ ((more : List Event) × (later ≡ other ∷ more))
+      → has (events ++ event ∷ behind) → replay chip events ≡ Some now → AreReorderings now (event ∷ behind) (before ++ event ∷ later)
+      → replay now before ≡ Some there → IsEnabled there other → event ≢ other → (AreIndependentOn there event other → ⊥)
+      → AreConflicting event other ⊎ ((more : List Event) × (later ≡ other ∷ more))
       → (next : Event) × ComesFirst now (before ++ other ∷ []) next × has (events ++ next ∷ [])

@@ -5,12 +5,12 @@ use Rattle.ga_grid.specs.Grid.{neighbour_of}
 use Rattle.ga_event.specs.Apply.{is_number, shows, writes_to, reads_from}
 use Rattle.ga_races.specs.declared.act.EventAccess.{EventAccess}
 use Rattle.ga_races.specs.declared.act.Sides.{Sides}
-use Rattle.ga_races.specs.declared.near.Near.{Near}
-use Rattle.ga_races.specs.HappensBefore.{action_at, Action, are_bound, HappensBefore}
+use Rattle.ga_races.specs.declared.racing_pairs.RacingPair.{RacingPair}
+use Rattle.ga_races.specs.HappensBefore.{action_at, Action, are_dependent, HappensBefore}
 use Rattle.ga_races.specs.Acts.{side_leads_to, actions_in, is_look_of, IsNearLook, awaits}
 use Rattle.ga_ports.specs.declared.side.Side.TheVariants.{Right, Down, Left, Up}
-use Rattle.ga_node.specs.declared.seen.Beside.{Beside}
-use Rattle.ga_node.specs.declared.seen.Beside.TheVariants.{Nobody, Idle, Reading, Writing}
+use Rattle.ga_node.specs.declared.seen.NeighbourState.{NeighbourState}
+use Rattle.ga_node.specs.declared.seen.NeighbourState.TheVariants.{Nobody, Idle, Reading, Writing}
 use Rattle.ga_node.specs.declared.wait.Wait.{Wait}
 use Rattle.ga_node.specs.Record.{NodeRecord}
 use Rattle.ga_grid.specs.Chip.{record_at}
@@ -25,38 +25,38 @@ use Rattle.ga_causal.specs.Dependence.{cause_nodes}
 -- ---- which racing pairs a part of a list adds
 
 -- A list of pairs after an addition: it has its old pairs, else only racing pairs, and all racing pairs of the requested ones.
-pub record IsMore (acts : List EventAccess) (asked : Near → Type 0) (old new : List Near) : Type 0 where
-  pub kept : (near : Near) → Contains old near → Contains new near
-  pub sound : (near : Near) → Contains new near → Contains old near ⊎ IsNearLook acts near
-  pub all : (near : Near) → asked near → IsNearLook acts near → Contains new near
+pub record IsMore (acts : List EventAccess) (asked : RacingPair → Type 0) (old new : List RacingPair) : Type 0 where
+  pub kept : (near : RacingPair) → Contains old near → Contains new near
+  pub sound : (near : RacingPair) → Contains new near → Contains old near ⊎ IsNearLook acts near
+  pub all : (near : RacingPair) → asked near → IsNearLook acts near → Contains new near
 
 -- whether the look and the change are at these two places
-abbrev pub OfPair : ℕ → ℕ → Near → Type 0
+abbrev pub OfPair : ℕ → ℕ → RacingPair → Type 0
 OfPair look change near = (near.look ≡ look) × (near.change ≡ change)
 
 -- whether the look is at this place, and the change before it from a place on
-abbrev pub OfLook : ℕ → ℕ → Near → Type 0
+abbrev pub OfLook : ℕ → ℕ → RacingPair → Type 0
 OfLook look from near = (near.look ≡ look) × (near.change < look) × (from ≤ near.change)
 
 -- whether the change is at this place, and before it a look of the node
-abbrev pub OfChange : List EventAccess → ℕ → ℕ → Near → Type 0
+abbrev pub OfChange : List EventAccess → ℕ → ℕ → RacingPair → Type 0
 OfChange acts change n near =
     (near.change ≡ change) × (near.look < change) × (is_look_of (action_at (actions_in acts) near.look) n ≡ true)
 
 -- whether the change is at this place, and before it a look of the neighbour on a side of a node, if `has` is true
-abbrev pub OverSide : List EventAccess → ℕ → ℕ → Side → Bool → Near → Type 0
+abbrev pub OverSide : List EventAccess → ℕ → ℕ → Side → Bool → RacingPair → Type 0
 OverSide acts change m side has near = (n : ℕ) × OfChange acts change n near × ((has && is_number (neighbour_of m side) n) ≡ true)
 
 -- whether the change is at this place, and before it a look of the neighbour on one of the sides of a node
-abbrev pub OverSides : List EventAccess → ℕ → ℕ → Sides → Near → Type 0
+abbrev pub OverSides : List EventAccess → ℕ → ℕ → Sides → RacingPair → Type 0
 OverSides acts change m sides near = (n : ℕ) × OfChange acts change n near × (side_leads_to sides m n ≡ true)
 
 -- whether the later of the look and the change is at the place
-abbrev pub AtPlace : ℕ → Near → Type 0
+abbrev pub AtPlace : ℕ → RacingPair → Type 0
 AtPlace place near = ((near.look ≡ place) × (near.change < place)) ⊎ ((near.change ≡ place) × (near.look < place))
 
 -- whether the look and the change are both before the place
-abbrev pub BelowPlace : ℕ → Near → Type 0
+abbrev pub BelowPlace : ℕ → RacingPair → Type 0
 BelowPlace place near = (near.look < place) × (near.change < place)
 
 -- each node that looks before the place is marked
@@ -66,7 +66,7 @@ LooksAreMarked acts place marks = (q n : ℕ) → q < place → is_look_of (acti
 -- ---- on which sides of a node what it shows there changes
 
 -- the number of what a side shows: 0 for nothing, 1 for a node that waits to read there, 2 for one that waits to write
-abbrev pub shown_as : Beside → ℕ
+abbrev pub shown_as : NeighbourState → ℕ
 shown_as Nobody = 0
 shown_as Idle = 0
 shown_as Reading = 1
@@ -168,7 +168,7 @@ pub record AreReached (actions : List Action) (first later place : ℕ) (one two
   pub touched : AreMarked actions first place has_touched one
   pub shown : AreMarked actions first place has_shown two
   pub looked : AreMarked actions first place has_looked three
-  pub none : (m : ℕ) → m < place → HappensBefore actions first m → are_bound (action_at actions m) (action_at actions later) ≡ false
+  pub none : (m : ℕ) → m < place → HappensBefore actions first m → are_dependent (action_at actions m) (action_at actions later) ≡ false
 
 -- ---- the parts in which two nodes are compared
 

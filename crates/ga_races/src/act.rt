@@ -6,7 +6,7 @@ ghost use Rattle.ga_grid.specs.Grid.{neighbour_of};
 ghost use Rattle.ga_event.specs.Apply.{is_number};
 ghost use Rattle.ga_causal.specs.Dependence.{cause_touches, cause_nodes};
 ghost use Rattle.ga_races.specs.Acts.{side_leads_to, action_in};
-ghost use Rattle.ga_races.specs.HappensBefore.{are_bound, is_shown};
+ghost use Rattle.ga_races.specs.HappensBefore.{are_dependent, is_shown};
 
 use ga_event::{Cause, Event, touches};
 use ga_grid::{NodeId, neighbour};
@@ -101,14 +101,14 @@ impl EventAccess {
     }
 
     /// Whether two events keep their order in each order of a list in which they are neighbours.
-    pub fn is_bound(&self, other: &EventAccess) -> bool
-        ensures { result ≡ are_bound (action_in self.now) (action_in other.now) }
+    pub fn is_dependent(&self, other: &EventAccess) -> bool
+        ensures { result ≡ are_dependent (action_in self.now) (action_in other.now) }
     {
         self.meets(&other.cause) || self.is_shown(other) || other.is_shown(self)
     }
 
     /// Whether two events touch a common node.
-    pub fn is_beside(&self, other: &EventAccess) -> bool
+    pub fn shares_node(&self, other: &EventAccess) -> bool
         ensures { result ≡ list_any (cause_touches self.now.cause) (cause_nodes other.now.cause) }
     {
         self.meets(&other.cause)

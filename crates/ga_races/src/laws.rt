@@ -8,165 +8,165 @@ ghost use Rattle.ga_event.specs.declared.event.Event.{Event};
 ghost use Rattle.ga_event.specs.declared.event.Event.TheVariants.{Pass};
 ghost use Rattle.ga_event.specs.Touches.{touches};
 ghost use Rattle.ga_event.specs.declared.event.Cause.{Cause};
-ghost use Rattle.ga_event.specs.Apply.{Told, after, replay, run, apply};
+ghost use Rattle.ga_event.specs.Apply.{EventOutcome, after, replay, run, apply};
 ghost use Rattle.ga_event.specs.Told.{steps_of, events_in};
-ghost use Rattle.ga_causal.specs.Dependence.{rewound_list, NoneLooks};
+ghost use Rattle.ga_causal.specs.Dependence.{rewound_list, HasNoLooks};
 ghost use Rattle.ga_causal.specs.Equivalence.{AreEquivalent};
-ghost use Rattle.ga_causal.specs.Words.{account_read};
-ghost use Rattle.ga_races.specs.Orders.{IsExplored, CanBe, IsAtEnd, AreOrders, AreFree, IsRace, HasNoRace, AreRivals};
-ghost use Rattle.ga_races.specs.HappensBefore.{Action, action_at, IsBound, IsClock, clock_after, action_of, actions, causes_in, are_bound, HappensBefore, IsStepOf, StandsBefore, made_at, IsNear, IsContended, IsMarkedOrBeside};
+ghost use Rattle.ga_causal.specs.Words.{local_history_with_reads};
+ghost use Rattle.ga_races.specs.Orders.{IsExplored, IsEnabled, IsTerminal, AreReorderings, AreIndependentOn, IsRace, HasNoRace, AreConflicting};
+ghost use Rattle.ga_races.specs.HappensBefore.{Action, action_at, IsDirectlyBefore, IsClock, clock_after, action_of, actions, causes_in, are_dependent, HappensBefore, IsStepOf, StandsBefore, made_at, IsRacingPair, IsContended, IsMarkedOrBeside};
 ghost use Rattle.ga_races.specs.Kahn.{HasOneWriter};
 ghost use Rattle.ga_races.specs.Rounds.{events_without, IsRound, HasNoRound};
 ghost use Rattle.ga_grid.specs.Chip.{record_at};
 ghost use Rattle.ga_event.specs.Next.{next};
-ghost use Rattle.ga_races.specs.Acts.{AreStuck};
+ghost use Rattle.ga_races.specs.Acts.{AreDeadlocked};
 
 /// Two different events that are enabled on a chip can both be made, in both orders and with the same chip, if they are
 /// independent. If they touch a common node they are passes to one reader from two writers, over two sides: a word can only be
 /// lost to another word where a reader waits on several sides.
 pub fn diamond()
-    ensures order { (chip : List NodeRecord) (e f : Event) → CanBe chip e → CanBe chip f → AreFree chip e f →
+    ensures order { (chip : List NodeRecord) (e f : Event) → IsEnabled chip e → IsEnabled chip f → AreIndependentOn chip e f →
         IsSome (replay chip (e ∷ f ∷ [])) × (replay chip (e ∷ f ∷ []) ≡ replay chip (f ∷ e ∷ [])) }
-    ensures rivals { (chip : List NodeRecord) (e f : Event) (n : ℕ) → CanBe chip e → CanBe chip f → e ≢ f →
-        touches e n ≡ true → touches f n ≡ true → AreRivals e f }
+    ensures rivals { (chip : List NodeRecord) (e f : Event) (n : ℕ) → IsEnabled chip e → IsEnabled chip f → e ≢ f →
+        touches e n ≡ true → touches f n ≡ true → AreConflicting e f }
 {}
 
 /// If a list has no race, any other list that can be made from the same chip, in which no node makes more steps, is a prefix of
 /// the list in another order: it can be continued until each node has the local history with the words that it has in the list.
 #[tactic(auto, using(crate::proofs::Orders::beginning_within))]
-pub fn beginnings()
+pub fn race_free_prefixes_extend()
     ensures { (chip : List NodeRecord) (events others : List Event) → IsSome (replay chip events) → HasNoRace chip events →
         IsSome (replay chip others) → ((n : ℕ) → steps_of n others ≤ steps_of n events) →
-        (later : List Event) × AreOrders chip events (others ++ later) }
+        (later : List Event) × AreReorderings chip events (others ++ later) }
 {}
 
 /// A list has no race if each other list that can be made from the same chip is a prefix of it in another order. For a list
-/// that ends without an enabled event this is equivalent to having no race (`one_end`).
-pub fn exact()
+/// that ends without an enabled event this is equivalent to having no race (`race_free_end_is_unique`).
+pub fn no_race_if_confluent()
     ensures { (chip last : List NodeRecord) (events : List Event) → replay chip events ≡ Some last →
-        ((others : List Event) → IsSome (replay chip others) → (later : List Event) × AreOrders chip events (others ++ later)) →
+        ((others : List Event) → IsSome (replay chip others) → (later : List Event) × AreReorderings chip events (others ++ later)) →
         HasNoRace chip events }
 {}
 
 /// If a list has no race and ends without an enabled event, each order of steps is a prefix of it, and each that can't be
 /// continued is the list in another order: it ends on the same chip. No node makes more steps in any.
-pub fn one_end()
+pub fn race_free_end_is_unique()
     ensures beginning { (chip last : List NodeRecord) (events others : List Event) → replay chip events ≡ Some last → HasNoRace chip events →
-        IsAtEnd last → IsSome (replay chip others) →
-        (later : List Event) × AreOrders chip events (others ++ later) }
+        IsTerminal last → IsSome (replay chip others) →
+        (later : List Event) × AreReorderings chip events (others ++ later) }
     ensures steps { (chip last : List NodeRecord) (events others : List Event) (n : ℕ) → replay chip events ≡ Some last →
-        HasNoRace chip events → IsAtEnd last → IsSome (replay chip others) →
+        HasNoRace chip events → IsTerminal last → IsSome (replay chip others) →
         steps_of n others ≤ steps_of n events }
     ensures chip { (chip last now : List NodeRecord) (events others : List Event) → replay chip events ≡ Some last →
-        HasNoRace chip events → IsAtEnd last → replay chip others ≡ Some now → IsAtEnd now →
-        AreOrders chip events others × (now ≡ last) }
+        HasNoRace chip events → IsTerminal last → replay chip others ≡ Some now → IsTerminal now →
+        AreReorderings chip events others × (now ≡ last) }
 {}
 
 /// If no event of a list looks and the list ends without an enabled event, it has no race exactly if no rollback of a node's
 /// step leaves a chip on which two neighbours wait to write to the node while it waits for both: what `rewind` of a step leaves
 /// shows each race. (A race of two passes shows there also if an event is enabled at the end.)
-pub fn race_free_by_rollbacks()
-    ensures shows { (chip last : List NodeRecord) (events : List Event) (steps : List (Cause × Told)) (w x r : NodeId) (side other : Side) →
-        run chip events ≡ Some (last, steps) → let causes = map (λ (s : Cause × Told). s.0) steps in
-        NoneLooks causes → IsRace chip events (Pass w r side) (Pass x r other) → AreRivals (Pass w r side) (Pass x r other) →
+pub fn rollbacks_reveal_races()
+    ensures shows { (chip last : List NodeRecord) (events : List Event) (steps : List (Cause × EventOutcome)) (w x r : NodeId) (side other : Side) →
+        run chip events ≡ Some (last, steps) → let causes = map (λ (s : Cause × EventOutcome). s.0) steps in
+        HasNoLooks causes → IsRace chip events (Pass w r side) (Pass x r other) → AreConflicting (Pass w r side) (Pass x r other) →
         (k : ℕ) × (now : List NodeRecord) × (replay chip (events_in (rewound_list causes r.number k)) ≡ Some now)
-        × CanBe now (Pass w r side) × CanBe now (Pass x r other) }
-    ensures decided { (chip last : List NodeRecord) (events : List Event) (steps : List (Cause × Told)) →
-        run chip events ≡ Some (last, steps) → let causes = map (λ (s : Cause × Told). s.0) steps in
-        NoneLooks causes → IsAtEnd last →
+        × IsEnabled now (Pass w r side) × IsEnabled now (Pass x r other) }
+    ensures decided { (chip last : List NodeRecord) (events : List Event) (steps : List (Cause × EventOutcome)) →
+        run chip events ≡ Some (last, steps) → let causes = map (λ (s : Cause × EventOutcome). s.0) steps in
+        HasNoLooks causes → IsTerminal last →
         (HasNoRace chip events ↔
         ((k : ℕ) (now : List NodeRecord) (w x r : NodeId) (side other : Side) →
         replay chip (events_in (rewound_list causes r.number k)) ≡ Some now →
-        CanBe now (Pass w r side) → CanBe now (Pass x r other) → side ≢ other → ⊥)) }
+        IsEnabled now (Pass w r side) → IsEnabled now (Pass x r other) → side ≢ other → ⊥)) }
 {}
 
 /// A list has no race where no event of it looks, it ends without a next event, and whenever a node takes a word, of the neighbours on
-/// the sides on which it waits only one ever writes to it in the list (after Kahn). So every order of steps ends alike (`one_end`).
+/// the sides on which it waits only one ever writes to it in the list (after Kahn). So every order of steps ends alike (`race_free_end_is_unique`).
 pub fn one_writer()
-    ensures { (chip last : List NodeRecord) (events : List Event) (steps : List (Cause × Told)) →
-        run chip events ≡ Some (last, steps) → NoneLooks (map (λ (s : Cause × Told). s.0) steps) → IsAtEnd last →
+    ensures { (chip last : List NodeRecord) (events : List Event) (steps : List (Cause × EventOutcome)) →
+        run chip events ≡ Some (last, steps) → HasNoLooks (map (λ (s : Cause × EventOutcome). s.0) steps) → IsTerminal last →
         HasOneWriter chip events → HasNoRace chip events }
 {}
 
 /// Lists that differ by swaps of adjacent independent events are orders of one another: if neither sees what the other touches,
 /// both have the same words. The first list must be one that can be made. Orders have the same chip.
 #[tactic(auto, using(crate::proofs::Exact::order_of, crate::proofs::Orders::order_replay, crate::proofs::Orders::order_read))]
-pub fn orders()
+pub fn equivalent_lists_are_reorderings()
     ensures swaps { (chip : List NodeRecord) (events others : List Event) → AreEquivalent chip events others → IsSome (replay chip events) →
-        AreOrders chip events others }
-    ensures chip { (chip : List NodeRecord) (events others : List Event) → AreOrders chip events others →
+        AreReorderings chip events others }
+    ensures chip { (chip : List NodeRecord) (events others : List Event) → AreReorderings chip events others →
         replay chip events ≡ replay chip others }
-    ensures words { (chip : List NodeRecord) (events others : List Event) (n : ℕ) → AreOrders chip events others →
-        account_read n chip events ≡ account_read n chip others }
+    ensures words { (chip : List NodeRecord) (events others : List Event) (n : ℕ) → AreReorderings chip events others →
+        local_history_with_reads n chip events ≡ local_history_with_reads n chip others }
 {}
 
 /// If no list that can be made from a chip is longer than some number, a set that continues each of its lists and reverses each
 /// race covers every order: each list that can be made is, in another order, a prefix of a list of the set, and each that ends
 /// without an enabled event is a list of the set in another order. The set is therefore enough to know how all of them end.
-pub fn explored()
+pub fn exploration_is_complete()
     ensures all { (chip : List NodeRecord) (has : List Event → Bool) (most : ℕ) → IsExplored chip (λ events. has events ≡ true) →
         ((events : List Event) → IsSome (replay chip events) → length events ≤ most) →
         (others : List Event) → IsSome (replay chip others) →
-        (met : List Event) × (more : List Event) × (has met ≡ true) × AreOrders chip met (others ++ more) }
+        (met : List Event) × (more : List Event) × (has met ≡ true) × AreReorderings chip met (others ++ more) }
     ensures ends { (chip last : List NodeRecord) (has : List Event → Bool) (most : ℕ) → IsExplored chip (λ events. has events ≡ true) →
         ((events : List Event) → IsSome (replay chip events) → length events ≤ most) →
-        (others : List Event) → replay chip others ≡ Some last → IsAtEnd last →
-        (met : List Event) × (has met ≡ true) × AreOrders chip met others }
+        (others : List Event) → replay chip others ≡ Some last → IsTerminal last →
+        (met : List Event) × (has met ≡ true) × AreReorderings chip met others }
 {}
 
 /// Happens-before (Lamport) in a list is what every order of the list keeps: the past of an event can be read from the one list
-/// that was made. Two neighbours in a list are not dependent as actions (`are_bound`) exactly if they are independent
-/// (`AreFree`). The events are named by their steps: each is one, and is in every order as the step of the same number. The
+/// that was made. Two neighbours in a list are not dependent as actions (`are_dependent`) exactly if they are independent
+/// (`AreIndependentOn`). The events are named by their steps: each is one, and is in every order as the step of the same number. The
 /// list must be one that can be made, as nothing is swapped past an event that is not enabled.
 pub fn happens_before()
-    ensures free { (chip : List NodeRecord) (e f : Event) → CanBe chip e → CanBe (after chip e).0 f →
-        ((are_bound (action_of chip e) (action_of (after chip e).0 f) ≡ false) ↔ (CanBe chip f × AreFree chip e f)) }
-    ensures causes { (chip last : List NodeRecord) (events : List Event) (steps : List (Cause × Told)) → run chip events ≡ Some (last, steps) →
-        causes_in (actions chip events) ≡ map (λ (s : Cause × Told). s.0) steps }
+    ensures free { (chip : List NodeRecord) (e f : Event) → IsEnabled chip e → IsEnabled (after chip e).0 f →
+        ((are_dependent (action_of chip e) (action_of (after chip e).0 f) ≡ false) ↔ (IsEnabled chip f × AreIndependentOn chip e f)) }
+    ensures causes { (chip last : List NodeRecord) (events : List Event) (steps : List (Cause × EventOutcome)) → run chip events ≡ Some (last, steps) →
+        causes_in (actions chip events) ≡ map (λ (s : Cause × EventOutcome). s.0) steps }
     ensures named { (chip : List NodeRecord) (events : List Event) (place : ℕ) → place < length events →
         (n : ℕ) × (k : ℕ) × IsStepOf chip events n k place }
-    ensures stands { (chip : List NodeRecord) (events others : List Event) (n k place : ℕ) → AreOrders chip events others →
+    ensures stands { (chip : List NodeRecord) (events others : List Event) (n k place : ℕ) → AreReorderings chip events others →
         IsStepOf chip events n k place → (there : ℕ) × IsStepOf chip others n k there }
     ensures every { (chip : List NodeRecord) (events others : List Event) (first later : ℕ) → HappensBefore (actions chip events) first later →
-        AreOrders chip events others → StandsBefore chip events others first later }
+        AreReorderings chip events others → StandsBefore chip events others first later }
     ensures some { (chip : List NodeRecord) (events : List Event) (first later : ℕ) → IsSome (replay chip events) →
         first < later → later < length events → ¬ HappensBefore (actions chip events) first later →
-        (others : List Event) × AreOrders chip events others × StandsBefore chip events others later first }
+        (others : List Event) × AreReorderings chip events others × StandsBefore chip events others later first }
     ensures exact { (chip : List NodeRecord) (events : List Event) (first later : ℕ) → IsSome (replay chip events) →
         first < later → later < length events →
         (HappensBefore (actions chip events) first later
-        ↔ ((others : List Event) → AreOrders chip events others → StandsBefore chip events others first later)) }
+        ↔ ((others : List Event) → AreReorderings chip events others → StandsBefore chip events others first later)) }
 {}
 
 /// Which events of a list race can be read from the list alone, by happens-before (after Netzer and Miller). A look and a
 /// change of what is shown to it race if nothing happens between them. A pass races with the pass of another writer exactly if
 /// this writer comes to wait to write to the reader by steps of which none happens after the pass. For a list that ends without
 /// an enabled event these are enough: it has no race exactly if there is neither, and then every order of steps ends on its
-/// chip (`one_end`).
-pub fn nearest()
+/// chip (`race_free_end_is_unique`).
+pub fn races_read_from_list()
     ensures looks { (chip last : List NodeRecord) (events : List Event) (first later : ℕ) → replay chip events ≡ Some last →
-        IsNear chip events first later → IsRace chip events (made_at chip events first) (made_at chip events later) }
+        IsRacingPair chip events first later → IsRace chip events (made_at chip events first) (made_at chip events later) }
     ensures passes { (chip last : List NodeRecord) (events : List Event) (place : ℕ) (other : Event) → replay chip events ≡ Some last →
         IsContended chip events place other → IsRace chip events (made_at chip events place) other }
     ensures rivals { (chip last : List NodeRecord) (events : List Event) (step other : Event) → replay chip events ≡ Some last →
-        IsRace chip events step other → AreRivals step other →
+        IsRace chip events step other → AreConflicting step other →
         (place : ℕ) × (made_at chip events place ≡ step) × IsContended chip events place other }
-    ensures decided { (chip last : List NodeRecord) (events : List Event) → replay chip events ≡ Some last → IsAtEnd last →
+    ensures decided { (chip last : List NodeRecord) (events : List Event) → replay chip events ≡ Some last → IsTerminal last →
         (HasNoRace chip events
-        ↔ (((first later : ℕ) → ¬ IsNear chip events first later) × ((place : ℕ) (other : Event) → ¬ IsContended chip events place other))) }
+        ↔ (((first later : ℕ) → ¬ IsRacingPair chip events first later) × ((place : ℕ) (other : Event) → ¬ IsContended chip events place other))) }
 {}
 
 /// Of two actions that touch a common node the earlier happens before the later. A clock can be made of those of earlier
 /// places, in one pass over a list: of some on which the place depends directly, if each on which it depends directly is among
 /// them or happens before one of them. It is therefore enough to take the last action of each node that is touched; for a look
 /// also the last change by each neighbour; and for a change also the last look of each node to which it shows.
-pub fn clocks()
+pub fn vector_clocks_exact()
     ensures node { (actions : List Action) (first later n : ℕ) → first < later → later < length actions →
         touches (action_at actions first).cause.event n ≡ true → touches (action_at actions later).cause.event n ≡ true →
         HappensBefore actions first later }
     ensures made { (actions : List Action) (place : ℕ) (known : List (ℕ × (ℕ → ℕ))) → place < length actions →
-        All (λ (clock : ℕ × (ℕ → ℕ)). IsBound actions clock.0 place × IsClock actions clock.0 clock.1) known →
-        ((earlier : ℕ) → IsBound actions earlier place →
+        All (λ (clock : ℕ × (ℕ → ℕ)). IsDirectlyBefore actions clock.0 place × IsClock actions clock.0 clock.1) known →
+        ((earlier : ℕ) → IsDirectlyBefore actions earlier place →
         (clock : ℕ × (ℕ → ℕ)) × Contains known clock × ((earlier ≡ clock.0) ⊎ HappensBefore actions earlier clock.0)) →
         IsClock actions place (clock_after actions place known) }
 {}
@@ -180,8 +180,8 @@ pub fn next_changes_near_alone()
 
 /// Whatever further events are made, each of some nodes that are stuck stays as it is.
 #[tactic(auto, using(crate::proofs::Stuck::stays))]
-pub fn stuck_stay()
-    ensures { (chip : List NodeRecord) (events : List Event) (marks : ℕ → Bool) → AreStuck chip marks →
+pub fn deadlock_is_permanent()
+    ensures { (chip : List NodeRecord) (events : List Event) (marks : ℕ → Bool) → AreDeadlocked chip marks →
         IfSome (replay chip events) (λ later. (n : ℕ) → marks n ≡ true → record_at chip n ≡ record_at later n) }
 {}
 
@@ -189,7 +189,7 @@ pub fn stuck_stay()
 /// leads to the chip on which it began. The events of other nodes within it can be made without it too, since a node that runs
 /// shows them nothing: a list without a round leads to the same chip, whatever the looks of the round read. A shortest list to
 /// a chip has no round, so the lists without one reach each chip that any list reaches.
-pub fn rounds()
+pub fn polling_rounds_removable()
     ensures alone { (chip : List NodeRecord) (n : ℕ) (round : List Event) → IsRound chip n round → events_without n round ≡ [] →
         replay chip round ≡ Some chip }
     ensures left { (chip now : List NodeRecord) (before round later : List Event) (n : ℕ) → replay chip before ≡ Some now →

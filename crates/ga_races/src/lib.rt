@@ -2,14 +2,14 @@
 #![tactic(auto)]
 
 mod act;
-mod freed;
+mod deadlock;
 pub mod laws;
 mod links;
-mod near;
+mod racing_pairs;
 mod same;
 
 pub use act::{EventAccess, Sides};
-pub use freed::{awaits, find_stuck};
+pub use deadlock::{awaits, find_deadlocked};
 pub use links::are_linked;
-pub use near::{Near, find_near};
+pub use racing_pairs::{RacingPair, find_racing_pairs};
 pub use same::is_same_node;

@@ -4,17 +4,17 @@ use Rattle.std.specs.List.{sum_by}
 use Rattle.std.proofs.lemmas.Bool.{cases_eq, cases_lt}
 use Rattle.std.proofs.lemmas.List.{length-take-le, set_past}
 use Rattle.std.proofs.lemmas.List.Sums.{sum_by-set}
-use Rattle.ga_journal.specs.Histories.{one_more, Past, Book, history}
+use Rattle.ga_journal.specs.Histories.{one_more, EntryRecord, JournalState, history}
 use Rattle.ga_journal.specs.Events.{kept_of, causes_in_book, events_of}
 use Rattle.ga_event.specs.Told.{steps_of, events_in}
-use Rattle.ga_journal.specs.Logs.{Stamped, built, IsLog, IsWhole}
+use Rattle.ga_journal.specs.Logs.{Stamped, histories_of_log, IsLog, IsWhole}
 use Rattle.ga_journal.specs.inner.Histories.{older_causes}
-use Rattle.ga_journal.specs.Marks.{AreMarks, mark_of, going_of, waits, counted_at, raised, IsAtRest}
+use Rattle.ga_journal.specs.Marks.{AreMarks, mark_of, entries_to_remove, is_pending, counted_at, raised, IsAtRest}
 use Rattle.ga_journal.specs.inner.Marks.{to_go}
 use Rattle.ga_journal.proofs.Logs.{steps_log, length-built}
 use Rattle.ga_causal.specs.Dependence.{rewound_list}
 use Rattle.ga_causal.proofs.Places.{touching_in}
-use Rattle.ga_rollback.specs.Rolled.{left}
+use Rattle.ga_rollback.specs.Rolled.{without_dropped}
 use Rattle.ga_rollback.specs.Rewound.{WouldGo}
 use Rattle.ga_rollback.specs.inner.{staying, IsMarked, IsUnseen, counted_in, counted_of, counted_staying, one_counted, IsRaising, AreCounted}
 use Rattle.ga_rollback.proofs.Counted.{sum_none, counted_next, counted_fewer, counted_log}
@@ -24,7 +24,7 @@ use Rattle.ga_rollback.proofs.Causes.{length_older, steps_older}
 use Rattle.ga_rollback.proofs.Rewinding.{IsCut, is_cut, causes_log, number_log, same_length}
 
 -- nothing is raised yet
-pub raising_none : (first : Book) → AreMarks first → IsRaising first first 0
+pub raising_none : (first : JournalState) → AreMarks first → IsRaising first first 0
 raising_none first sound = record {
   others = refl;
   sized = sound.going_size;
@@ -33,12 +33,12 @@ raising_none first sound = record {
 }
 
 -- one entry more
-pub raising_more : (first book : Book) (events n : ℕ) (new : Book) (now : ℕ) → AreMarks book → IsRaising first book events → mark_of book n < length (history book.histories n) → new ≡ raised book n
+pub raising_more : (first book : JournalState) (events n : ℕ) (new : JournalState) (now : ℕ) → AreMarks book → IsRaising first book events → mark_of book n < length (history book.histories n) → new ≡ raised book n
     → now ≡ events + one_counted (counted_at book.histories n (mark_of book n)) → IsRaising first new now
 raising_more first book events n new now sound raising some same counted =
     let in_book : n < length book.histories = node_within book.histories n (mark_of book n) some in
     let in_going : n < length book.going = (let a = sound.size in let b = sound.going_size in omega arith) in
-    let h : List Past = history book.histories n in
+    let h : List EntryRecord = history book.histories n in
     let within : get_or book.going n 0 ≤ length h = sound.within n in
     let place : length h - (get_or book.going n 0 - 1) ≡ suc (length h - get_or book.going n 0) = omega arith in
     let stay : counted_of (staying book.histories (set book.going n (get_or book.going n 0 - 1))) + counted_in (take (length h - get_or book.going n 0) h) ≡ counted_of (staying book.histories book.going) + counted_in (take (length h - (get_or book.going n 0 - 1)) h) =
@@ -48,7 +48,7 @@ raising_more first book events n new now sound raising some same counted =
     let go : sum_by (λ (x : ℕ). x) (set book.going n (get_or book.going n 0 - 1)) + get_or book.going n 0 ≡ sum_by (λ (x : ℕ). x) book.going + (get_or book.going n 0 - 1) =
     sum_by-set (λ (x : ℕ). x) book.going n (get_or book.going n 0 - 1) 0 in_going in
     let after : IsRaising first (raised book n) now = record {
-      others = ap (λ (b : Book). record b { going = set book.going n (get_or book.going n 0 - 1); ticks = one_more book.ticks }) raising.others;
+      others = ap (λ (b : JournalState). record b { going = set book.going n (get_or book.going n 0 - 1); ticks = one_more book.ticks }) raising.others;
       sized = length-set book.going n (get_or book.going n 0 - 1) ∙ raising.sized;
       ticked = let a = raising.ticked in omega arith;
       number = let a = raising.number in omega arith;
@@ -56,19 +56,19 @@ raising_more first book events n new now sound raising some same counted =
     subst (λ z. IsRaising first z now) (sym same) after
 
 -- there is room for the events
-pub raising_few : (first book : Book) (events n most : ℕ) → AreMarks book → IsRaising first book events → mark_of book n < length (history book.histories n) → counted_of first.histories < most
+pub raising_few : (first book : JournalState) (events n most : ℕ) → AreMarks book → IsRaising first book events → mark_of book n < length (history book.histories n) → counted_of first.histories < most
     → events + one_counted (counted_at book.histories n (mark_of book n)) < most
 raising_few first book events n most sound raising some few =
     let after : IsRaising first (raised book n) (events + one_counted (counted_at book.histories n (mark_of book n))) = raising_more first book events n (raised book n) _ sound raising some refl refl in
-    let same : counted_of book.histories ≡ counted_of first.histories = ap (λ (b : Book). counted_of b.histories) raising.others in
+    let same : counted_of book.histories ≡ counted_of first.histories = ap (λ (b : JournalState). counted_of b.histories) raising.others in
     let a = after.number in
     let b = counted_fewer book.histories (raised book n).going in
     omega arith
 
 -- the marks, raised
-pub raised_less : (book new : Book) (n m : ℕ) → new ≡ raised book n → going_of book m ≡ 0 → going_of new m ≡ 0
+pub raised_less : (book new : JournalState) (n m : ℕ) → new ≡ raised book n → entries_to_remove book m ≡ 0 → entries_to_remove new m ≡ 0
 raised_less book new n m same none =
-    ap (λ (b : Book). get_or b.going m 0) same ∙ ⊎_elim
+    ap (λ (b : JournalState). get_or b.going m 0) same ∙ ⊎_elim
     (λ is. ⊎_elim
     (λ l. ap (λ z. get_or (set book.going n (get_or book.going n 0 - 1)) z 0) is ∙ get_or-set_same book.going n (get_or book.going n 0 - 1) 0 l ∙ (let a : get_or book.going n 0 ≡ 0 = ap (λ z. get_or book.going z 0) (sym is) ∙ none in omega arith))
     (λ l. ap (λ z. get_or z m 0) (set_past book.going n (get_or book.going n 0 - 1) l) ∙ none)
@@ -76,12 +76,12 @@ raised_less book new n m same none =
     (λ ne. get_or-set_other book.going n m (get_or book.going n 0 - 1) 0 ne ∙ none)
     (cases_eq m n)
 
-pub raised_same : (book new : Book) (n m : ℕ) → new ≡ raised book n → m ≢ n → going_of new m ≡ going_of book m
+pub raised_same : (book new : JournalState) (n m : ℕ) → new ≡ raised book n → m ≢ n → entries_to_remove new m ≡ entries_to_remove book m
 raised_same book new n m same ne =
-    ap (λ (b : Book). get_or b.going m 0) same ∙ get_or-set_other book.going n m (get_or book.going n 0 - 1) 0 ne
+    ap (λ (b : JournalState). get_or b.going m 0) same ∙ get_or-set_other book.going n m (get_or book.going n 0 - 1) 0 ne
 
 -- how many entries are to go falls
-pub raised_fewer : (book new : Book) (n : ℕ) → AreMarks book → mark_of book n < length (history book.histories n) → new ≡ raised book n → to_go new < to_go book
+pub raised_fewer : (book new : JournalState) (n : ℕ) → AreMarks book → mark_of book n < length (history book.histories n) → new ≡ raised book n → to_go new < to_go book
 raised_fewer book new n sound some same =
     let in_book : n < length book.histories = node_within book.histories n (mark_of book n) some in
     let go : sum_by (λ (x : ℕ). x) (set book.going n (get_or book.going n 0 - 1)) + get_or book.going n 0 ≡ sum_by (λ (x : ℕ). x) book.going + (get_or book.going n 0 - 1) =
@@ -90,33 +90,33 @@ raised_fewer book new n sound some same =
     omega arith
 
 -- all events are counted
-pub counted_all : (old : Book) → IsWhole old.histories old.made → counted_of old.histories ≡ length (kept_of old)
+pub counted_all : (old : JournalState) → IsWhole old.histories old.made → counted_of old.histories ≡ length (kept_of old)
 counted_all old whole = ap counted_of whole.records.histories ∙ counted_log whole.log old.made whole.records.order ∙ sym (number_log whole.log old whole.records)
 
 -- those that stay are counted by the entries that stay
-counted_left : (log : List Stamped) (old mid : Book) (n j : ℕ) → IsLog log old.made → AreMarks mid → IsCut log mid n j → counted_staying mid ≡ length (left log (gone (mark_of mid) log))
+counted_left : (log : List Stamped) (old mid : JournalState) (n j : ℕ) → IsLog log old.made → AreMarks mid → IsCut log mid n j → counted_staying mid ≡ length (without_dropped log (gone (mark_of mid) log))
 counted_left log old mid n j order sound cut =
-    let stay : List Stamped = left log (gone (mark_of mid) log) in
-    let same : staying mid.histories mid.going ≡ built stay =
-    ext_get_or [] (staying mid.histories mid.going) (built stay) (length-staying mid.histories mid.going ∙ sound.size ∙ sym (length-built stay))
+    let stay : List Stamped = without_dropped log (gone (mark_of mid) log) in
+    let same : staying mid.histories mid.going ≡ histories_of_log stay =
+    ext_get_or [] (staying mid.histories mid.going) (histories_of_log stay) (length-staying mid.histories mid.going ∙ sound.size ∙ sym (length-built stay))
     (λ m l. staying_at mid.histories mid.going m (sound.size ∙ sym sound.going_size)
     ∙ ap (λ z. take (mark_of mid m) (history z m)) cut.same
     ∙ sym (left_cut (mark_of mid) log old.made order cut.closed m)) in
     ap counted_of same ∙ counted_log stay old.made (left_log log (gone (mark_of mid) log) old.made order)
 
-pub would_go : (old mid new : Book) (n k events : ℕ) (steps : List ℕ) → IsWhole old.histories old.made → 0 < k → k ≤ length (history old.histories n) → mid ≡ record old { going = mid.going; waiting = mid.waiting; ticks = mid.ticks }
-    → IsMarked mid mid.going n (k - 1) → ((m : ℕ) → IsUnseen mid m) → IsRaising mid new events → ((m : ℕ) → going_of new m ≡ 0) → ((m : ℕ) → get_or steps m 0 ≡ going_of mid m)
+pub would_go : (old mid new : JournalState) (n k events : ℕ) (steps : List ℕ) → IsWhole old.histories old.made → 0 < k → k ≤ length (history old.histories n) → mid ≡ record old { going = mid.going; waiting = mid.waiting; ticks = mid.ticks }
+    → IsMarked mid mid.going n (k - 1) → ((m : ℕ) → IsUnseen mid m) → IsRaising mid new events → ((m : ℕ) → entries_to_remove new m ≡ 0) → ((m : ℕ) → get_or steps m 0 ≡ entries_to_remove mid m)
     → WouldGo old n k events steps
 would_go old mid new n k events steps whole some there same marked saw raising none each =
     let log : List Stamped = whole.log in
     let order : IsLog log old.made = whole.records.order in
     let cut : IsCut log mid n (k - 1) = is_cut old n (k - 1) mid log whole.records (omega (arith, some, there)) same marked saw in
-    let stay : List Stamped = left log (gone (mark_of mid) log) in
+    let stay : List Stamped = without_dropped log (gone (mark_of mid) log) in
     let step : suc (k - 1) ≡ k = omega (arith, some) in
     let list : rewound_list (causes_in_book old) n k ≡ older_causes stay =
     ap (λ z. rewound_list z n k) (causes_log log old whole.records) ∙ ap (rewound_list (older_causes log) n) (sym step) ∙ sym cut.events in
     let all : counted_staying new ≡ length log =
-    ap counted_of (staying_none new.histories new.going none) ∙ ap (λ (b : Book). counted_of b.histories) raising.others ∙ ap counted_of cut.same ∙ counted_log log old.made order in
+    ap counted_of (staying_none new.histories new.going none) ∙ ap (λ (b : JournalState). counted_of b.histories) raising.others ∙ ap counted_of cut.same ∙ counted_log log old.made order in
     let few : counted_staying mid ≡ length stay = counted_left log old mid n (k - 1) order marked.sound cut in
     let long : length (rewound_list (causes_in_book old) n k) ≡ length stay = ap length list ∙ length_older stay in
     let total : length (events_of old) ≡ length log = same_length old ∙ number_log log old whole.records in
@@ -126,29 +126,29 @@ would_go old mid new n k events steps whole some there same marked saw raising n
       each = λ m.
           let a = each m in
           let b : length (history old.histories m) ≡ steps_of m (events_of old) = steps_log old m whole in
-          let w : going_of mid m ≤ length (history mid.histories m) = marked.sound.within m in
-          let h : length (history mid.histories m) ≡ length (history old.histories m) = ap (λ (z : Book). length (history z.histories m)) same in
-          let i : length (history (built log) m) ≡ length (history mid.histories m) = ap (λ z. length (history z m)) (sym cut.same) in
-          let d : steps_of m (events_in (rewound_list (causes_in_book old) n k)) ≡ length (history (built stay) m) =
+          let w : entries_to_remove mid m ≤ length (history mid.histories m) = marked.sound.within m in
+          let h : length (history mid.histories m) ≡ length (history old.histories m) = ap (λ (z : JournalState). length (history z.histories m)) same in
+          let i : length (history (histories_of_log log) m) ≡ length (history mid.histories m) = ap (λ z. length (history z m)) (sym cut.same) in
+          let d : steps_of m (events_in (rewound_list (causes_in_book old) n k)) ≡ length (history (histories_of_log stay) m) =
           ap (λ z. steps_of m (events_in z)) list ∙ sym (touching_in m (older_causes stay)) ∙ sym (steps_older stay old.made m (left_log log (gone (mark_of mid) log) old.made order)) in
-          let e : length (history (built stay) m) ≡ mark_of mid m =
-          ap length (left_cut (mark_of mid) log old.made order cut.closed m) ∙ length-take-le (mark_of mid m) (history (built log) m) (omega arith) in
+          let e : length (history (histories_of_log stay) m) ≡ mark_of mid m =
+          ap length (left_cut (mark_of mid) log old.made order cut.closed m) ∙ length-take-le (mark_of mid m) (history (histories_of_log log) m) (omega arith) in
           omega arith;
     }
 
 -- the journal is as before, but for its ticks
-pub as_before : (old mid new : Book) (events : ℕ) → AreMarks old → IsAtRest old → AreMarks mid → mid ≡ record old { going = mid.going; waiting = mid.waiting; ticks = mid.ticks } → ((m : ℕ) → waits mid m ≡ false)
-    → IsRaising mid new events → ((m : ℕ) → going_of new m ≡ 0) → new ≡ record old { ticks = new.ticks }
+pub as_before : (old mid new : JournalState) (events : ℕ) → AreMarks old → IsAtRest old → AreMarks mid → mid ≡ record old { going = mid.going; waiting = mid.waiting; ticks = mid.ticks } → ((m : ℕ) → is_pending mid m ≡ false)
+    → IsRaising mid new events → ((m : ℕ) → entries_to_remove new m ≡ 0) → new ≡ record old { ticks = new.ticks }
 as_before old mid new events sound rest marks same idle raising none =
     let going : new.going ≡ old.going = ext_get_or 0 new.going old.going (raising.sized ∙ sym sound.going_size) (λ m l. none m ∙ sym (rest.settled m)) in
     let waiting : mid.waiting ≡ old.waiting = ext_get_or false mid.waiting old.waiting (marks.waiting_size ∙ sym sound.waiting_size) (λ m l. idle m ∙ sym (rest.idle m)) in
     raising.others
-    ∙ ap (λ (b : Book). record b { going = new.going; ticks = new.ticks }) same
+    ∙ ap (λ (b : JournalState). record b { going = new.going; ticks = new.ticks }) same
     ∙ ap (λ z. record old { going = z; waiting = mid.waiting; ticks = new.ticks }) going
     ∙ ap (λ z. record old { waiting = z; ticks = new.ticks }) waiting
 
 -- its ticks
-pub forecast_ticks : (old mid new : Book) (events : ℕ) (steps : List ℕ) → AreMarks mid → AreCounted old mid → IsRaising mid new events → ((m : ℕ) → going_of new m ≡ 0) → length steps ≡ 144 → ((m : ℕ) → get_or steps m 0 ≡ going_of mid m)
+pub forecast_ticks : (old mid new : JournalState) (events : ℕ) (steps : List ℕ) → AreMarks mid → AreCounted old mid → IsRaising mid new events → ((m : ℕ) → entries_to_remove new m ≡ 0) → length steps ≡ 144 → ((m : ℕ) → get_or steps m 0 ≡ entries_to_remove mid m)
     → new.ticks.count ≤ old.ticks.count + 9 * sum_by (λ (x : ℕ). x) steps
 forecast_ticks old mid new events steps sound counted raising none size each =
     let zero : to_go new ≡ 0 = sum_none (λ (x : ℕ). x) 0 new.going none in
@@ -161,8 +161,8 @@ forecast_ticks old mid new events steps sound counted raising none size each =
     omega arith
 
 -- the steps of the node
-pub steps_whole : (book : Book) (n steps : ℕ) → IsWhole book.histories book.made → IsAtRest book → steps ≡ mark_of book n → steps ≡ steps_of n (events_of book)
+pub steps_whole : (book : JournalState) (n steps : ℕ) → IsWhole book.histories book.made → IsAtRest book → steps ≡ mark_of book n → steps ≡ steps_of n (events_of book)
 steps_whole book n steps whole rest is =
-    let none : going_of book n ≡ 0 = rest.settled n in
+    let none : entries_to_remove book n ≡ 0 = rest.settled n in
     let long : length (history book.histories n) ≡ steps_of n (events_of book) = steps_log book n whole in
     omega arith

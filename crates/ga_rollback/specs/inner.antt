@@ -3,9 +3,9 @@ use Rattle.std.specs.Prelude.{◌≡◌, ℕ, ◌+◌, List, ◌∷◌, ◌++◌
 use Rattle.ga_node.specs.Record.{NodeState}
 use Rattle.ga_grid.specs.Chip.{node_at}
 use Rattle.ga_event.specs.Undo.{CanRestore}
-use Rattle.ga_journal.specs.Histories.{Past, Book, history}
-use Rattle.ga_journal.specs.Walked.{walked}
-use Rattle.ga_journal.specs.Marks.{mark_of, entries, partner_of, partner_at, entry_at, going_of, waits, ticked, ticked_in_vain, lowered, AreMarks, is_counted}
+use Rattle.ga_journal.specs.Histories.{EntryRecord, JournalState, history}
+use Rattle.ga_journal.specs.Walked.{walked_back}
+use Rattle.ga_journal.specs.Marks.{mark_of, entries, partner_of, partner_at, entry_at, entries_to_remove, is_pending, ticked, ticked_in_vain, lowered, AreMarks, is_counted}
 use Rattle.ga_journal.specs.inner.Marks.{to_go, in_line}
 use Rattle.ga_ports.specs.declared.side.Side.{Side}
 use Rattle.ga_ports.specs.declared.side.Side.TheVariants.{Right, Down, Left, Up}
@@ -18,21 +18,21 @@ use Rattle.ga_rollback.specs.Rewound.{looks_of}
 -- ---- the ends of histories, restored
 
 -- what a history lost of its end
-abbrev pub end_of : List (List Past) → List (List Past) → ℕ → List Past
+abbrev pub end_of : List (List EntryRecord) → List (List EntryRecord) → ℕ → List EntryRecord
 end_of hs gs n = drop (length (history gs n)) (history hs n)
 
 -- each node can be walked back over each end of its history
-abbrev pub CanGoBack : List NodeState → List (List Past) → Type 0
+abbrev pub CanGoBack : List NodeState → List (List EntryRecord) → Type 0
 CanGoBack chip hs =
-    (n : ℕ) (front end : List Past) (e : Past) → history hs n ≡ front ++ e ∷ end
-    → CanRestore (walked (node_at chip n) end) e.saved
+    (n : ℕ) (front end : List EntryRecord) (e : EntryRecord) → history hs n ≡ front ++ e ∷ end
+    → CanRestore (walked_back (node_at chip n) end) e.saved
 
 -- some of the entries that are to be removed are removed, and the nodes restored by them; each of them was a tick
-pub record IsRestoring (chip : List NodeState) (first : Book) (now : List NodeState) (book : Book) : Type 0 where
+pub record IsRestoring (chip : List NodeState) (first : JournalState) (now : List NodeState) (book : JournalState) : Type 0 where
   pub nodes : length now ≡ length chip
   pub size : length book.histories ≡ length first.histories
   pub ends : (m : ℕ) → history first.histories m ≡ history book.histories m ++ end_of first.histories book.histories m
-  pub restored : (m : ℕ) → node_at now m ≡ walked (node_at chip m) (end_of first.histories book.histories m)
+  pub restored : (m : ℕ) → node_at now m ≡ walked_back (node_at chip m) (end_of first.histories book.histories m)
   pub marks : (m : ℕ) → mark_of book m ≡ mark_of first m
   pub sized : length book.going ≡ 144
   pub others : book ≡ record first { histories = book.histories; ready = book.ready; going = book.going; ticks = book.ticks }
@@ -61,64 +61,64 @@ is_link n side number (Some k) = (number == k) && (nat_lt number 144 && is_numbe
 -- ---- why an entry is to go, and the marks while they are lowered
 
 -- from where on a node's entries were visited
-abbrev pub visited_to : Book → List ℕ → ℕ → ℕ
+abbrev pub visited_to : JournalState → List ℕ → ℕ → ℕ
 visited_to book visited m = length (history book.histories m) - slice_index visited m
 
-abbrev pub stamp_of : Option Past → ℕ
+abbrev pub stamp_of : Option EntryRecord → ℕ
 stamp_of None = 0
 stamp_of (Some e) = e.stamp
 
 -- the stamp of a node's entry at a position
-abbrev pub stamp_at : Book → ℕ → ℕ → ℕ
+abbrev pub stamp_at : JournalState → ℕ → ℕ → ℕ
 stamp_at book n p = stamp_of (entry_at book.histories n p)
 
 -- why an entry is to go: it is of the event with stamp s, or an earlier entry is to go, of one of its event's nodes or of a
 -- neighbour at which it looked
-pub data IsDue (book : Book) (s m p : ℕ) (e : Past) : Type 0 where
+pub data IsDue (book : JournalState) (s m p : ℕ) (e : EntryRecord) : Type 0 where
   Start : e.stamp ≡ s → IsDue book s m p e
   Later : mark_of book m < p → IsDue book s m p e
   Other : (j q : ℕ) → partner_of e.act ≡ Some (j, q) → mark_of book j < q → IsDue book s m p e
-  Saw : (j q : ℕ) (side : Side) (f : Past) → has_looked_in e.act ≡ true → neighbour_of m side ≡ Some j
+  Saw : (j q : ℕ) (side : Side) (f : EntryRecord) → has_looked_in e.act ≡ true → neighbour_of m side ≡ Some j
       → entry_at book.histories j q ≡ Some f → mark_of book j ≤ q → f.stamp < e.stamp → IsDue book s m p e
 
 -- the marks of a rollback of node n from its entry at k on: each entry to go has a cause, and what an entry that was visited
 -- names is to go with it
-pub record IsMarked (book : Book) (visited : List ℕ) (n k : ℕ) : Type 0 where
+pub record IsMarked (book : JournalState) (visited : List ℕ) (n k : ℕ) : Type 0 where
   pub sound : AreMarks book
   pub start : mark_of book n ≤ k
-  pub caused : (m p : ℕ) (e : Past) → entry_at book.histories m p ≡ Some e → mark_of book m ≤ p
+  pub caused : (m p : ℕ) (e : EntryRecord) → entry_at book.histories m p ≡ Some e → mark_of book m ≤ p
       → IsDue book (stamp_at book n k) m p e
   pub whole : (m p j q : ℕ) → visited_to book visited m ≤ p → partner_at book.histories m p ≡ Some (j, q) → mark_of book j ≤ q
 
 -- an entry visited: the mark of the node that it names is low enough, or is lowered
-pub data IsFollowed (old : Book) (m p : ℕ) (new : Book) : Type 0 where
+pub data IsFollowed (old : JournalState) (m p : ℕ) (new : JournalState) : Type 0 where
   Passed : ((j q : ℕ) → partner_at old.histories m p ≡ Some (j, q) → mark_of old j ≤ q)
       → new ≡ ticked old → IsFollowed old m p new
   Lowered : (j q : ℕ) → partner_at old.histories m p ≡ Some (j, q) → q < mark_of old j
       → new ≡ lowered (ticked old) j q → IsFollowed old m p new
 
 -- no look of a neighbour that is to stay came after an entry of node j that is to go
-abbrev pub IsUnseen : Book → ℕ → Type 0
+abbrev pub IsUnseen : JournalState → ℕ → Type 0
 IsUnseen book j = (m : ℕ) (side : Side) → neighbour_of j side ≡ Some m → SawNoneToGo book j m
 
 -- marks of a node's neighbours lowered one after another, each to a look that came after an entry of the node that is to be
--- removed, in two ticks; and `vain` searches that found none, each of a node that has a look, in one tick
-pub data AreLowered (old : Book) (node : ℕ) : ℕ → Book → Type 0 where
-  Same : {vain : ℕ} {new : Book} → vain ≡ 0 → new ≡ old → AreLowered old node vain new
-  Further : {vain : ℕ} {new : Book} (book : Book) (m p : ℕ) (side : Side) → AreLowered old node vain book
+-- removed, in two ticks; and `fruitless` searches that found none, each of a node that has a look, in one tick
+pub data AreLowered (old : JournalState) (node : ℕ) : ℕ → JournalState → Type 0 where
+  Same : {vain : ℕ} {new : JournalState} → vain ≡ 0 → new ≡ old → AreLowered old node vain new
+  Further : {vain : ℕ} {new : JournalState} (book : JournalState) (m p : ℕ) (side : Side) → AreLowered old node vain book
       → neighbour_of m side ≡ Some node → IsLookToGo book node m p → new ≡ lowered (ticked book) m p
       → AreLowered old node vain new
-  Vain : {vain : ℕ} {new : Book} (book : Book) (before m : ℕ) → AreLowered old node before book
+  Vain : {vain : ℕ} {new : JournalState} (book : JournalState) (before m : ℕ) → AreLowered old node before book
       → HasLook (history book.histories m) → vain ≡ before + 1 → new ≡ ticked_in_vain book → AreLowered old node vain new
 
 -- marks of a node's neighbours were lowered as in `AreLowered`, with at most `most` searches that found none
-pub record AreLoweredBy (most : ℕ) (old : Book) (node : ℕ) (new : Book) : Type 0 where
+pub record AreLoweredBy (most : ℕ) (old : JournalState) (node : ℕ) (new : JournalState) : Type 0 where
   pub vain : ℕ
   pub few : vain ≤ most
   pub chain : AreLowered old node vain new
 
 -- the entries that are to stay, where `going` has how many at the end of each history are to be removed
-abbrev pub staying : List (List Past) → List ℕ → List (List Past)
+abbrev pub staying : List (List EntryRecord) → List ℕ → List (List EntryRecord)
 staying [] going = []
 staying (h ∷ hs) [] = h ∷ staying hs []
 staying (h ∷ hs) (k ∷ going) = take (length h - k) h ∷ staying hs going
@@ -126,11 +126,11 @@ staying (h ∷ hs) (k ∷ going) = take (length h - k) h ∷ staying hs going
 -- the marks while they are lowered: no entry that stays was visited, and each tick was a pending node processed, an entry
 -- visited, a search for a look to be removed or a mark lowered; at most four more searches in vain can come for each pending
 -- node, and `more` besides
-pub record IsMarking (first : Book) (n k : ℕ) (book : Book) (visited : List ℕ) (more : ℕ) : Type 0 where
+pub record IsMarking (first : JournalState) (n k : ℕ) (book : JournalState) (visited : List ℕ) (more : ℕ) : Type 0 where
   pub marked : IsMarked book visited n k
   pub others : book ≡ record first { going = book.going; waiting = book.waiting; ticks = book.ticks }
   pub size : length visited ≡ 144
-  pub fits : (m : ℕ) → slice_index visited m ≤ going_of book m
+  pub fits : (m : ℕ) → slice_index visited m ≤ entries_to_remove book m
   pub found : ℕ
   pub vain : ℕ
   pub apart : book.ticks.vain ≡ first.ticks.vain + vain
@@ -141,20 +141,20 @@ pub record IsMarking (first : Book) (n k : ℕ) (book : Book) (visited : List �
   pub bound : book.ticks.count + in_line book ≤ first.ticks.count + 2 * to_go book + sum_by (λ (x : ℕ). x) visited + found + vain
 
 -- where a node does not wait, all its entries to go were visited, and no look that is to stay saw one of them
-abbrev pub IsDone : Book → List ℕ → ℕ → Type 0
-IsDone book visited m = waits book m ≡ false → (going_of book m ≤ slice_index visited m) × IsUnseen book m
+abbrev pub IsDone : JournalState → List ℕ → ℕ → Type 0
+IsDone book visited m = is_pending book m ≡ false → (entries_to_remove book m ≤ slice_index visited m) × IsUnseen book m
 
 -- ---- marks raised again, entry by entry, and how many events the entries are of
 
 -- how many events are counted by these entries
-abbrev pub counted_in : List Past → ℕ
-counted_in entries = count_by (λ (e : Past). is_counted e.act) entries
+abbrev pub counted_in : List EntryRecord → ℕ
+counted_in entries = count_by (λ (e : EntryRecord). is_counted e.act) entries
 
-abbrev pub counted_of : List (List Past) → ℕ
+abbrev pub counted_of : List (List EntryRecord) → ℕ
 counted_of hs = sum_by counted_in hs
 
 -- how many events are counted by the entries that are to stay
-abbrev pub counted_staying : Book → ℕ
+abbrev pub counted_staying : JournalState → ℕ
 counted_staying book = counted_of (staying book.histories book.going)
 
 -- how many events are counted by one entry
@@ -163,7 +163,7 @@ one_counted None = 0
 one_counted (Some b) = if b then 1 else 0
 
 -- some marks were raised, an entry in a tick, and `events` events are counted by these entries
-pub record IsRaising (first book : Book) (events : ℕ) : Type 0 where
+pub record IsRaising (first book : JournalState) (events : ℕ) : Type 0 where
   pub others : book ≡ record first { going = book.going; ticks = book.ticks }
   pub sized : length book.going ≡ 144
   pub ticked : book.ticks.count + to_go book ≡ first.ticks.count + to_go first
@@ -172,7 +172,7 @@ pub record IsRaising (first book : Book) (events : ℕ) : Type 0 where
 -- ---- the ticks of lowering the marks, counted
 
 -- How much lowering the marks did, where the entries that are to go are known.
-pub record AreCounted (old new : Book) : Type 0 where
+pub record AreCounted (old new : JournalState) : Type 0 where
   pub found : ℕ
   pub vain : ℕ
   pub apart : new.ticks.vain ≡ old.ticks.vain + vain

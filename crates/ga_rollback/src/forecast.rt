@@ -6,7 +6,7 @@ ghost use Rattle.ga_event.specs.Told.{steps_of};
 ghost use Rattle.ga_journal.specs.Histories.{history};
 ghost use Rattle.ga_journal.specs.Events.{events_of};
 ghost use Rattle.ga_journal.specs.Logs.{IsWhole};
-ghost use Rattle.ga_journal.specs.Marks.{AreMarks, IsAtRest, mark_of, going_of, counted_at, raised, entries};
+ghost use Rattle.ga_journal.specs.Marks.{AreMarks, IsAtRest, mark_of, entries_to_remove, counted_at, raised, entries};
 ghost use Rattle.ga_journal.specs.inner.Marks.{to_go};
 ghost use Rattle.ga_rollback.specs.Rewound.{WouldGo};
 ghost use Rattle.ga_rollback.specs.inner.{counted_of, one_counted, IsRaising};
@@ -18,7 +18,7 @@ use ga_journal::Journal;
 
 /// What a rollback would remove: the number of events, and the number of steps of each node.
 #[derive(Drop)]
-pub struct Going {
+pub struct RollbackForecast {
     /// How many events a rollback would take.
     pub events: u32,
     /// How many steps of each node a rollback would take.
@@ -30,7 +30,11 @@ pub struct Going {
 ///
 /// # Errors
 /// `NoStep`, where the node has no such step.
-pub fn would_rewind(journal: &mut Journal, node: NodeId, step: u32) -> Result<Going, RollbackFault>
+pub fn would_rewind(
+    journal: &mut Journal,
+    node: NodeId,
+    step: u32,
+) -> Result<RollbackForecast, RollbackFault>
     requires rest { IsAtRest journal.old }
     requires whole { IsWhole journal.old.histories journal.old.made }
     requires fits { journal.old.ticks.count + 40 * entries journal.old + 8 < 2 ^ 64 }
@@ -54,7 +58,7 @@ pub fn would_rewind(journal: &mut Journal, node: NodeId, step: u32) -> Result<Go
     let mut going = Visited::none();
     mark(journal, node, step - 1, &mut going);
     let events = release(journal, &going);
-    Ok(Going {
+    Ok(RollbackForecast {
         events,
         steps: going,
     })
@@ -62,17 +66,17 @@ pub fn would_rewind(journal: &mut Journal, node: NodeId, step: u32) -> Result<Go
 
 /// Raises all marks up to the ends of the histories, and returns how many events have an entry that was to be removed.
 fn release(journal: &mut Journal, going: &Visited) -> u32
-    requires going { (m : ℕ) → slice_index going.now m ≡ going_of journal.old m }
+    requires going { (m : ℕ) → slice_index going.now m ≡ entries_to_remove journal.old m }
     requires sound { AreMarks journal.old }
     requires few { counted_of journal.old.histories < 2 ^ 32 }
     requires fits { journal.old.ticks.count + to_go journal.old < 2 ^ 64 }
     ensures done { IsRaising journal.old journal.new result }
-    ensures none { (m : ℕ) → going_of journal.new m ≡ 0 }
+    ensures none { (m : ℕ) → entries_to_remove journal.new m ≡ 0 }
 {
     let mut events = 0;
     'nodes: for n in going.first()..going.past() {
         let node = NodeId::new(n);
-        'marks: while journal.going_of(node) > 0 {
+        'marks: while journal.entries_to_remove(node) > 0 {
             events = let_stay(journal, node, events);
         }
     }

@@ -7,20 +7,20 @@ use Rattle.std.proofs.lemmas.List.{drop_more, drop_all, take-append-drop, length
 use Rattle.ga_grid.specs.declared.node_id.NodeId.{NodeId}
 use Rattle.ga_event.specs.Told.{steps_of, made_in, made_after, causes_told, events_told}
 use Rattle.ga_event.specs.declared.made.Made.{Made}
-use Rattle.ga_lab.specs.Machine.{State, Standing, standing, earlier, undone, told_of_kept, Telling, telling, told_before, causes_of, rest_answer}
+use Rattle.ga_lab.specs.Machine.{State, NodeAtStep, node_at_step, earlier, undone, outcomes_of_kept, BackwardState, backward_state, made_before, causes_of, rest_answer}
 use Rattle.ga_scheduler.specs.declared.condition.Condition.{Condition}
 use Rattle.ga_scheduler.specs.Conditions.{holds, first_held, is_step_of}
 use Rattle.ga_scheduler.specs.Running.{held_told}
-use Rattle.ga_scheduler.specs.Backward.{held_behind, is_among, is_asked_held, newest_before, IsNewestHeld, undone_often, newest_held, number_of_step, gone_from}
+use Rattle.ga_scheduler.specs.Backward.{held_behind, is_among, is_asked_held, newest_before, IsNewestHeld, undone_often, find_newest_holding, number_of_step, gone_from}
 use Rattle.ga_scheduler.specs.inner.{held_one, is_held, held_upto, all_upto, newest_place}
 use Rattle.ga_scheduler.proofs.Newest.{undone_earlier, whole_earlier, of_made, ToldAt, told_at}
 use Rattle.std.specs.Result.{result_ok}
 use Rattle.ga_event.specs.declared.event.Event.{Event}
 use Rattle.ga_event.specs.declared.event.Event.TheVariants as event
 use Rattle.ga_event.specs.declared.event.Cause.{Cause}
-use Rattle.ga_event.specs.Apply.{Told, Did, Carried}
+use Rattle.ga_event.specs.Apply.{EventOutcome, Did, Carried}
 use Rattle.ga_event.specs.declared.made.Made.TheVariants as made
-use Rattle.ga_causal.specs.Dependence.{cause_touches, place_of}
+use Rattle.ga_causal.specs.Dependence.{cause_touches, position_of_step}
 use Rattle.ga_causal.proofs.Places.{touching_in, place_split}
 
 -- ---- the search back for a condition, event by event and condition by condition
@@ -41,7 +41,7 @@ upto_more c only s n m b e h =
     ap (held_upto c only s) (e ∙ add-one n) ∙ ap (λ (z : Bool). cond z (suc n) (held_upto c only s n)) h ∙ ap (λ (z : ℕ). cond b z (held_upto c only s n)) (sym (add-one n) ∙ sym e)
 
 -- the report of the event
-pub held_as : (c : Condition) (only : Option NodeId) (s : State) (n : ℕ) (m : Made) (a h : Bool) → made_in (told_of_kept s) n ≡ Some m → a ≡ is_among only (Some m)
+pub held_as : (c : Condition) (only : Option NodeId) (s : State) (n : ℕ) (m : Made) (a h : Bool) → made_in (outcomes_of_kept s) n ≡ Some m → a ≡ is_among only (Some m)
     → h ≡ holds c m (earlier s (n + 1)) → is_held c only s n ≡ a && h
 held_as c only s n m a h is among here =
     ap (λ (z : Option Made). is_among only z && held_one c z (earlier s (n + 1))) is
@@ -51,7 +51,7 @@ and_false : (a : Bool) → a && false ≡ false
 and_false true = refl
 and_false false = refl
 
-pub not_among : (c : Condition) (only : Option NodeId) (s : State) (n : ℕ) (m : Made) → made_in (told_of_kept s) n ≡ Some m → false ≡ is_among only (Some m) → is_held c only s n ≡ false
+pub not_among : (c : Condition) (only : Option NodeId) (s : State) (n : ℕ) (m : Made) → made_in (outcomes_of_kept s) n ≡ Some m → false ≡ is_among only (Some m) → is_held c only s n ≡ false
 not_among c only s n m is among =
     ap (λ (z : Option Made). is_among only z && held_one c z (earlier s (n + 1))) is ∙ ap (λ (z : Bool). z && holds c m (earlier s (n + 1))) (sym among)
 
@@ -87,17 +87,17 @@ max_step true false true n x y l k = omega (arith, l)
 max_step true false false n x y l k = refl
 
 all_step : (cs : List Condition) (only : Option NodeId) (s : State) (n : ℕ)
-    → all_upto cs only s (suc n) ≡ cond (is_among only (made_in (told_of_kept s) n) && is_some (held_behind cs s n)) (suc n) (all_upto cs only s n)
+    → all_upto cs only s (suc n) ≡ cond (is_among only (made_in (outcomes_of_kept s) n) && is_some (held_behind cs s n)) (suc n) (all_upto cs only s n)
 all_step [] only s n =
-    sym (ap (λ (z : Bool). cond z (suc n) 0) (ap (λ (z : Bool). is_among only (made_in (told_of_kept s) n) && z) (none_asked (made_in (told_of_kept s) n) (earlier s (n + 1)))
-    ∙ and_false (is_among only (made_in (told_of_kept s) n))))
+    sym (ap (λ (z : Bool). cond z (suc n) 0) (ap (λ (z : Bool). is_among only (made_in (outcomes_of_kept s) n) && z) (none_asked (made_in (outcomes_of_kept s) n) (earlier s (n + 1)))
+    ∙ and_false (is_among only (made_in (outcomes_of_kept s) n))))
 all_step (c ∷ cs) only s n =
-    let a : Bool = is_among only (made_in (told_of_kept s) n) in
-    let h : Bool = held_one c (made_in (told_of_kept s) n) (earlier s (n + 1)) in
+    let a : Bool = is_among only (made_in (outcomes_of_kept s) n) in
+    let h : Bool = held_one c (made_in (outcomes_of_kept s) n) (earlier s (n + 1)) in
     let g : Bool = is_some (held_behind cs s n) in
     ap (λ (z : ℕ). max (held_upto c only s (suc n)) z) (all_step cs only s n)
     ∙ max_step a h g n (held_upto c only s n) (all_upto cs only s n) (upto_within c only s n) (all_within cs only s n)
-    ∙ ap (λ (z : Bool). cond (a && z) (suc n) (max (held_upto c only s n) (all_upto cs only s n))) (sym (some_held c cs (made_in (told_of_kept s) n) (earlier s (n + 1))))
+    ∙ ap (λ (z : Bool). cond (a && z) (suc n) (max (held_upto c only s n) (all_upto cs only s n))) (sym (some_held c cs (made_in (outcomes_of_kept s) n) (earlier s (n + 1))))
 
 all_zero : (cs : List Condition) (only : Option NodeId) (s : State) → all_upto cs only s 0 ≡ 0
 all_zero [] only s = refl
@@ -110,7 +110,7 @@ place_step false n x = refl
 pub newest_is : (cs : List Condition) (only : Option NodeId) (s : State) (n : ℕ) → newest_before cs only s n ≡ newest_place (all_upto cs only s n)
 newest_is cs only s zero = ap newest_place (sym (all_zero cs only s))
 newest_is cs only s (suc n) =
-    let b : Bool = is_among only (made_in (told_of_kept s) n) && is_some (held_behind cs s n) in
+    let b : Bool = is_among only (made_in (outcomes_of_kept s) n) && is_some (held_behind cs s n) in
     ap (λ (o : Option ℕ). cond b (Some n) o) (newest_is cs only s n)
     ∙ place_step b n (all_upto cs only s n)
     ∙ ap newest_place (sym (all_step cs only s n))
@@ -153,9 +153,9 @@ none_found cs only s (suc n) h p l = by_test (is_asked_held cs only s n) refl h 
 -- ---- the walk over the events
 
 -- the report of the event just before a place
-pub told_prev : (s : State) (n : ℕ) (m : Made) → 0 < n → Some m ≡ told_before s n → made_in (told_of_kept s) (n - 1) ≡ Some m
+pub told_prev : (s : State) (n : ℕ) (m : Made) → 0 < n → Some m ≡ made_before s n → made_in (outcomes_of_kept s) (n - 1) ≡ Some m
 told_prev s zero m l h = absurd (omega arith)
-told_prev s (suc n) m l h = ap (made_in (told_of_kept s)) (let e : suc n - 1 ≡ n = omega arith in e) ∙ sym h
+told_prev s (suc n) m l h = ap (made_in (outcomes_of_kept s)) (let e : suc n - 1 ≡ n = omega arith in e) ∙ sym h
 
 -- if no event is found at it, the search continues below, and ends where it may
 pub below : (c : Condition) (only : Option NodeId) (s : State) (least n m total : ℕ) → m + 1 ≡ n → is_held c only s m ≡ false
@@ -173,12 +173,12 @@ pub ended : (c : Condition) (only : Option NodeId) (s : State) (least n total : 
 ended c only s least n total l same = (let q : least ≡ max least (held_upto c only s n) = omega (arith, l, upto_within c only s n) in q) ∙ same
 
 -- a walk that is after the event which the other events precede
-pub stands_now : (w : Standing) (t : Telling) (s : State) (n : NodeId) (k place m : ℕ) → w.machine ≡ s → w.node ≡ n → w.step ≡ k → k ≡ steps_of n.number (take place s.kept)
-    → t ≡ telling s m → m + 1 ≡ place → w ≡ standing t.machine n (steps_of n.number (take (t.place + 1) t.machine.kept))
+pub stands_now : (w : NodeAtStep) (t : BackwardState) (s : State) (n : NodeId) (k place m : ℕ) → w.machine ≡ s → w.node ≡ n → w.step ≡ k → k ≡ steps_of n.number (take place s.kept)
+    → t ≡ backward_state s m → m + 1 ≡ place → w ≡ node_at_step t.machine n (steps_of n.number (take (t.place + 1) t.machine.kept))
 stands_now w t s n k place m machine node step at told e =
-    let here : w ≡ standing s n k = ap (λ (z : State). standing z w.node w.step) machine ∙ ap (λ (z : NodeId). standing s z w.step) node ∙ ap (standing s n) step in
-    subst (λ (z : Telling). w ≡ standing z.machine n (steps_of n.number (take (z.place + 1) z.machine.kept))) (sym told)
-    (here ∙ ap (standing s n) at ∙ ap (λ (z : ℕ). standing s n (steps_of n.number (take z s.kept))) (sym e))
+    let here : w ≡ node_at_step s n k = ap (λ (z : State). node_at_step z w.node w.step) machine ∙ ap (λ (z : NodeId). node_at_step s z w.step) node ∙ ap (node_at_step s n) step in
+    subst (λ (z : BackwardState). w ≡ node_at_step z.machine n (steps_of n.number (take (z.place + 1) z.machine.kept))) (sym told)
+    (here ∙ ap (node_at_step s n) at ∙ ap (λ (z : ℕ). node_at_step s n (steps_of n.number (take z s.kept))) (sym e))
 
 pub steps_whole : (s : State) (n place : ℕ) → place ≡ length s.kept → steps_of n (take place s.kept) ≡ steps_of n s.kept
 steps_whole s n place e = ap (λ (z : ℕ). steps_of n (take z s.kept)) e ∙ ap (steps_of n) (take_all (length s.kept) s.kept (omega arith))
@@ -214,7 +214,7 @@ undone_from s place l =
 -- ---- the step of a node that a search backwards finds is the event at that place
 
 -- the report of an event has the number of its step of each of its nodes
-number_behind : (before : List Event) (e : Event) (what : Told) (m : Made) (n : ℕ) → made_after before e what ≡ Some m → is_step_of n m ≡ true
+number_behind : (before : List Event) (e : Event) (what : EventOutcome) (m : Made) (n : ℕ) → made_after before e what ≡ Some m → is_step_of n m ≡ true
     → number_of_step n (Some m) ≡ steps_of n before + 1
 number_behind before (event.Own node) (Did kind) m n is own =
     let e : made.Own node (steps_of node.number before + 1) kind ≡ m = same_Some (made.Own node (steps_of node.number before + 1) kind) m is in
@@ -232,59 +232,59 @@ number_behind before (event.Pass w r side) (Carried word) m n is own =
     by_end true at h = ap (λ (z : ℕ). steps_of z before + 1) (eqb-true w.number n at)
     by_end false at h = ap (λ (z : ℕ). steps_of z before + 1) (eqb-true r.number n h)
 
-causes_apart : (xs ys : List (Cause × Told)) → causes_told (xs ++ ys) ≡ causes_told xs ++ causes_told ys
+causes_apart : (xs ys : List (Cause × EventOutcome)) → causes_told (xs ++ ys) ≡ causes_told xs ++ causes_told ys
 causes_apart [] ys = refl
 causes_apart (x ∷ xs) ys = ap (λ (z : List Cause). x.0 ∷ z) (causes_apart xs ys)
 
-causes_many : (xs : List (Cause × Told)) → length (causes_told xs) ≡ length xs
+causes_many : (xs : List (Cause × EventOutcome)) → length (causes_told xs) ≡ length xs
 causes_many [] = refl
 causes_many (x ∷ xs) = ap suc (causes_many xs)
 
-placed : (told : List (Cause × Told)) (n place : ℕ) (m : Made) → made_in told place ≡ Some m → is_step_of n m ≡ true
-    → place_of (causes_told told) n (number_of_step n (Some m)) ≡ Some place
+placed : (told : List (Cause × EventOutcome)) (n place : ℕ) (m : Made) → made_in told place ≡ Some m → is_step_of n m ≡ true
+    → position_of_step (causes_told told) n (number_of_step n (Some m)) ≡ Some place
 placed told n place m is own =
     let a : ToldAt told place m = told_at told place m is in
     let within : place < length told = slice_get_within told place a.one a.is in
-    let before : List (Cause × Told) = take place told in
-    let behind : List (Cause × Told) = drop (place + 1) told in
+    let before : List (Cause × EventOutcome) = take place told in
+    let behind : List (Cause × EventOutcome) = drop (place + 1) told in
     let apart : before ++ a.one ∷ behind ≡ told =
-    ap (λ (z : List (Cause × Told)). before ++ z) (sym (drop_more told place a.one within ∙ ap (λ (z : Cause × Told). z ∷ behind) (get_or_from_slice_get told place a.one a.one a.is)))
+    ap (λ (z : List (Cause × EventOutcome)). before ++ z) (sym (drop_more told place a.one within ∙ ap (λ (z : Cause × EventOutcome). z ∷ behind) (get_or_from_slice_get told place a.one a.one a.is)))
     ∙ take-append-drop place told in
     let number : number_of_step n (Some m) ≡ suc (steps_of n (events_told before)) =
     number_behind (events_told before) a.one.0.event a.one.1 m n a.made own ∙ add-one (steps_of n (events_told before)) in
     let touched : cause_touches a.one.0 n ≡ true = of_made (events_told before) a.one.0.event a.one.1 m n a.made ∙ own in
     let many : length (causes_told before) ≡ place = causes_many before ∙ (let q : length before ≡ place = omega (arith, length-take place told, within) in q) in
-    ap (place_of (causes_told told) n) number
-    ∙ ap (λ (z : List Cause). place_of z n (suc (steps_of n (events_told before)))) (sym (ap causes_told apart) ∙ causes_apart before (a.one ∷ behind))
+    ap (position_of_step (causes_told told) n) number
+    ∙ ap (λ (z : List Cause). position_of_step z n (suc (steps_of n (events_told before)))) (sym (ap causes_told apart) ∙ causes_apart before (a.one ∷ behind))
     ∙ place_split n (steps_of n (events_told before)) (causes_told before) a.one.0 (causes_told behind) (touching_in n (causes_told before)) touched
     ∙ ap Some many
 
-among_placed : (s : State) (node : NodeId) (place : ℕ) (o : Option Made) → made_in (told_of_kept s) place ≡ o → is_among (Some node) o ≡ true
-    → place_of (causes_of s) node.number (number_of_step node.number o) ≡ Some place
+among_placed : (s : State) (node : NodeId) (place : ℕ) (o : Option Made) → made_in (outcomes_of_kept s) place ≡ o → is_among (Some node) o ≡ true
+    → position_of_step (causes_of s) node.number (number_of_step node.number o) ≡ Some place
 among_placed s node place None is h = absurd (cc)
-among_placed s node place (Some m) is h = placed (told_of_kept s) node.number place m is h
+among_placed s node place (Some m) is h = placed (outcomes_of_kept s) node.number place m is h
 
 left_true : (a b : Bool) → (a && b) ≡ true → a ≡ true
 left_true true b h = refl
 left_true false b h = h
 
-pub found_placed : (until : List Condition) (node : NodeId) (s : State) (place : ℕ) → newest_held until (Some node) s ≡ Some place
-    → place_of (causes_of s) node.number (number_of_step node.number (made_in (told_of_kept s) place)) ≡ Some place
+pub found_placed : (until : List Condition) (node : NodeId) (s : State) (place : ℕ) → find_newest_holding until (Some node) s ≡ Some place
+    → position_of_step (causes_of s) node.number (number_of_step node.number (made_in (outcomes_of_kept s) place)) ≡ Some place
 found_placed until node s place h =
     let found : IsNewestHeld until (Some node) s (length s.kept) place = newest_found until (Some node) s (length s.kept) place h in
-    among_placed s node place (made_in (told_of_kept s) place) refl (left_true (is_among (Some node) (made_in (told_of_kept s) place)) _ found.here)
+    among_placed s node place (made_in (outcomes_of_kept s) place) refl (left_true (is_among (Some node) (made_in (outcomes_of_kept s) place)) _ found.here)
 
 -- so some events go
 some_goes : (s : State) (only : Option NodeId) (o : Option ℕ)
     → ((node : NodeId) (place : ℕ) → only ≡ Some node → o ≡ Some place
-    → place_of (causes_of s) node.number (number_of_step node.number (made_in (told_of_kept s) place)) ≡ Some place)
+    → position_of_step (causes_of s) node.number (number_of_step node.number (made_in (outcomes_of_kept s) place)) ≡ Some place)
     → is_some (gone_from only s o) ≡ is_some o
 some_goes s only None f = refl
 some_goes s None (Some place) f = refl
 some_goes s (Some node) (Some place) f = ap (λ (z : Option ℕ). is_some (result_ok (rest_answer (causes_of s) z))) (f node place refl refl)
 
-pub found_some : (until : List Condition) (only : Option NodeId) (s : State) → IsSome (gone_from only s (newest_held until only s)) ↔ IsSome (newest_held until only s)
+pub found_some : (until : List Condition) (only : Option NodeId) (s : State) → IsSome (gone_from only s (find_newest_holding until only s)) ↔ IsSome (find_newest_holding until only s)
 found_some until only s =
-    let same : is_some (gone_from only s (newest_held until only s)) ≡ is_some (newest_held until only s) =
-    some_goes s only (newest_held until only s) (λ node place e h. found_placed until node s place (ap (λ (z : Option NodeId). newest_held until z s) (sym e) ∙ h)) in
+    let same : is_some (gone_from only s (find_newest_holding until only s)) ≡ is_some (find_newest_holding until only s) =
+    some_goes s only (find_newest_holding until only s) (λ node place e h. found_placed until node s place (ap (λ (z : Option NodeId). find_newest_holding until z s) (sym e) ∙ h)) in
     (λ h. sym same ∙ h, λ h. same ∙ h)

@@ -6,17 +6,17 @@ use Rattle.std.proofs.lemmas.Bool.{cases_lt}
 use Rattle.ga_event.specs.declared.made.Made.{Made}
 use Rattle.ga_lab.specs.Machine.{State, step_answer, stepped, chip_of}
 use Rattle.ga_scheduler.specs.declared.condition.Condition.{Condition}
-use Rattle.ga_scheduler.specs.declared.running.End.{End}
-use Rattle.ga_scheduler.specs.declared.running.End.TheVariants as the_end
+use Rattle.ga_scheduler.specs.declared.running.RunEnd.{RunEnd}
+use Rattle.ga_scheduler.specs.declared.running.RunEnd.TheVariants as the_end
 use Rattle.ga_grid.specs.declared.node_id.NodeId.{NodeId}
 use Rattle.ga_scheduler.specs.declared.schedule.Schedule.{Schedule}
-use Rattle.ga_scheduler.specs.Schedules.{passed_on}
+use Rattle.ga_scheduler.specs.Schedules.{turn_after}
 use Rattle.ga_scheduler.specs.Conditions.{first_held}
-use Rattle.ga_scheduler.specs.Running.{Running, running, chosen, told_by_step, told, moved_by, run_moved, after_events, AreMade, held_told, held_next, NeverHolds, IsHalted, HasEnded}
+use Rattle.ga_scheduler.specs.Running.{Running, running, node_to_run, told_by_step, next_made, moved_by, run_moved, after_events, AreMade, held_told, held_next, NeverHolds, IsHalted, HasEnded}
 use Rattle.ga_scheduler.specs.inner.{IsOver, events_at}
 use Rattle.ga_scheduler.specs.declared.watched.WatchedEnd.{WatchedEnd}
 use Rattle.ga_scheduler.specs.declared.watched.WatchedEnd.TheVariants as watched_end
-use Rattle.ga_races.specs.Orders.{can_go}
+use Rattle.ga_races.specs.Orders.{has_event}
 use Rattle.ga_scheduler.specs.Watched.{chosen_first, told_first, first_moved, after_first, AreMadeFirst, Watching, seen_told, ends_told, watch_after, ends_behind, NeverEnds, IsHaltedFirst, HasEndedWatched}
 
 -- ---- events made one after another
@@ -28,14 +28,14 @@ after_more r n = ap (after_events r) (add-one n)
 pub gone_on : (start here next : Running) (n : ℕ) → here ≡ after_events start n → next ≡ run_moved here → next ≡ after_events start (n + 1)
 gone_on start here next n at on = on ∙ ap run_moved at ∙ sym (after_more start n)
 
-pub made_more : (start here : Running) (n : ℕ) (made : Made) → here ≡ after_events start n → told here ≡ Some made → AreMade start n → AreMade start (n + 1)
+pub made_more : (start here : Running) (n : ℕ) (made : Made) → here ≡ after_events start n → next_made here ≡ Some made → AreMade start n → AreMade start (n + 1)
 made_more start here n made at is before k l = elim (cases_lt k n) [
   | inl less ↦ before k less
-  | inr more ↦ (let e : k ≡ n = omega arith in subst (λ z. IsSome (told (after_events start z))) (sym e) (subst (λ z. IsSome (told z)) at (ap is_some is)))
+  | inr more ↦ (let e : k ≡ n = omega arith in subst (λ z. IsSome (next_made (after_events start z))) (sym e) (subst (λ z. IsSome (next_made z)) at (ap is_some is)))
 ]
 
 -- which of the conditions holds after it
-pub held_is : (until : List Condition) (here next : Running) (made : Made) (held : Option ℕ) → told here ≡ Some made → next ≡ run_moved here → held ≡ first_held until made next.state → held_next until here ≡ held
+pub held_is : (until : List Condition) (here next : Running) (made : Made) (held : Option ℕ) → next_made here ≡ Some made → next ≡ run_moved here → held ≡ first_held until made next.state → held_next until here ≡ held
 held_is until here next made held is on h =
     ap (λ o. held_told until o (run_moved here).state) is ∙ ap (λ (z : Running). first_held until made z.state) (sym on) ∙ sym h
 
@@ -47,11 +47,11 @@ never_more until start here n at unmet before k l = elim (cases_lt k n) [
 
 -- how it ends
 pub ended_reached : (until : List Condition) (start here : Running) (most n : ℕ) (made : Made) (which : ℕ) → here ≡ after_events start n → NeverHolds until start n
-    → told here ≡ Some made → held_next until here ≡ Some which → HasEnded start most until (n + 1) (the_end.Reached made which)
+    → next_made here ≡ Some made → held_next until here ≡ Some which → HasEnded start most until (n + 1) (the_end.Reached made which)
 ended_reached until start here most n made which at never is met =
-    (n, refl, never, subst (λ z. told z ≡ Some made) at is, subst (λ z. held_next until z ≡ Some which) at met)
+    (n, refl, never, subst (λ z. next_made z ≡ Some made) at is, subst (λ z. held_next until z ≡ Some which) at met)
 
-pub ended_halted : (until : List Condition) (start here : Running) (most n : ℕ) (end : End) → here ≡ after_events start n → n < most → NeverHolds until start n → IsHalted here end → HasEnded start most until n end
+pub ended_halted : (until : List Condition) (start here : Running) (most n : ℕ) (end : RunEnd) → here ≡ after_events start n → n < most → NeverHolds until start n → IsHalted here end → HasEnded start most until n end
 ended_halted until start here most n the_end.Quiet at less never h = (less, never, subst (λ z. IsHalted z the_end.Quiet) at h)
 ended_halted until start here most n (the_end.Refused why) at less never h = (less, never, subst (λ z. IsHalted z (the_end.Refused why)) at h)
 ended_halted until start here most n (the_end.Reached made which) at less never h = absurd h
@@ -71,12 +71,12 @@ never_both until r m n first second k l = elim (cases_lt k m) [
       subst (λ z. held_next until (after_events r z) ≡ None) e (subst (λ z. held_next until z ≡ None) (after_after r m (k - m)) (second (k - m) (omega arith))))
 ]
 
-pub ended_later : (until : List Condition) (r : Running) (most m n : ℕ) (end : End) → NeverHolds until r m → HasEnded (after_events r m) most until n end → HasEnded r (m + most) until (m + n) end
+pub ended_later : (until : List Condition) (r : Running) (most m n : ℕ) (end : RunEnd) → NeverHolds until r m → HasEnded (after_events r m) most until n end → HasEnded r (m + most) until (m + n) end
 ended_later until r most m n (the_end.Reached made which) never h = (
   m + h.0,
   (let e : n ≡ h.0 + 1 = h.1 in omega arith),
   never_both until r m h.0 never h.2,
-  subst (λ z. told z ≡ Some made) (after_after r m h.0) h.3,
+  subst (λ z. next_made z ≡ Some made) (after_after r m h.0) h.3,
   subst (λ z. held_next until z ≡ Some which) (after_after r m h.0) h.4,
 )
 ended_later until r most m n the_end.Made never h = (ap (λ (z : ℕ). m + z) h.0, never_both until r m n never h.1)
@@ -86,10 +86,10 @@ ended_later until r most m n (the_end.Refused why) never h =
     ((let l : n < most = h.0 in omega arith), never_both until r m n never h.1, subst (λ z. IsHalted z (the_end.Refused why)) (after_after r m n) h.2)
 
 -- one event: its report, and where it leads
-pub told_is : (s : State) (schedule : Schedule) (node : NodeId) (made : Made) → chosen (running s schedule) ≡ Some node → step_answer s node ≡ Ok made → told (running s schedule) ≡ Some made
+pub told_is : (s : State) (schedule : Schedule) (node : NodeId) (made : Made) → node_to_run (running s schedule) ≡ Some node → step_answer s node ≡ Ok made → next_made (running s schedule) ≡ Some made
 told_is s schedule node made who answer = ap (told_by_step s) who ∙ ap result_ok answer
 
-pub moved_is : (s t : State) (a b : Schedule) (node : NodeId) → chosen (running s a) ≡ Some node → t ≡ stepped s node → b ≡ passed_on a node → running t b ≡ run_moved (running s a)
+pub moved_is : (s t : State) (a b : Schedule) (node : NodeId) → node_to_run (running s a) ≡ Some node → t ≡ stepped s node → b ≡ turn_after a node → running t b ≡ run_moved (running s a)
 moved_is s t a b node who state schedule =
     ap (λ z. running z b) state ∙ ap (λ z. running (stepped s node) z) schedule ∙ sym (ap (moved_by (running s a)) who)
 
@@ -100,33 +100,33 @@ pub stayed : (s t : State) (a b : Schedule) → t ≡ s → b ≡ a → running 
 stayed s t a b state schedule = ap (λ z. running z b) state ∙ ap (running s) schedule
 
 -- one event more was made
-pub made_one : (start here : Running) (n : ℕ) → here ≡ after_events start n → IsSome (told here) → AreMade start n → AreMade start (n + 1)
+pub made_one : (start here : Running) (n : ℕ) → here ≡ after_events start n → IsSome (next_made here) → AreMade start n → AreMade start (n + 1)
 made_one start here n at is before k l = elim (cases_lt k n) [
   | inl less ↦ before k less
-  | inr more ↦ (let e : k ≡ n = omega arith in subst (λ z. IsSome (told (after_events start z))) (sym e) (subst (λ z. IsSome (told z)) at is))
+  | inr more ↦ (let e : k ≡ n = omega arith in subst (λ z. IsSome (next_made (after_events start z))) (sym e) (subst (λ z. IsSome (next_made z)) at is))
 ]
 
 -- where a run is over
-pub over_state : (until : List Condition) (start here next : Running) (n : ℕ) (end : End) → here ≡ after_events start n → IsOver until here next end → next ≡ after_events start (events_at n end)
+pub over_state : (until : List Condition) (start here next : Running) (n : ℕ) (end : RunEnd) → here ≡ after_events start n → IsOver until here next end → next ≡ after_events start (events_at n end)
 over_state until start here next n (the_end.Reached made which) at h = gone_on start here next n at h.2
 over_state until start here next n the_end.Made at h = absurd h
 over_state until start here next n the_end.Quiet at h = h.1 ∙ at
 over_state until start here next n (the_end.Refused why) at h = h.1 ∙ at
 
-pub over_made : (until : List Condition) (start here next : Running) (n : ℕ) (end : End) → here ≡ after_events start n → IsOver until here next end → AreMade start n → AreMade start (events_at n end)
+pub over_made : (until : List Condition) (start here next : Running) (n : ℕ) (end : RunEnd) → here ≡ after_events start n → IsOver until here next end → AreMade start n → AreMade start (events_at n end)
 over_made until start here next n (the_end.Reached made which) at h before = made_more start here n made at h.0 before
 over_made until start here next n the_end.Made at h before = before
 over_made until start here next n the_end.Quiet at h before = before
 over_made until start here next n (the_end.Refused why) at h before = before
 
-pub over_end : (until : List Condition) (start here next : Running) (most n : ℕ) (end : End) → here ≡ after_events start n → n < most → IsOver until here next end → NeverHolds until start n
+pub over_end : (until : List Condition) (start here next : Running) (most n : ℕ) (end : RunEnd) → here ≡ after_events start n → n < most → IsOver until here next end → NeverHolds until start n
     → HasEnded start most until (events_at n end) end
 over_end until start here next most n (the_end.Reached made which) at less h never = ended_reached until start here most n made which at never h.0 h.1
 over_end until start here next most n the_end.Made at less h never = absurd h
 over_end until start here next most n the_end.Quiet at less h never = ended_halted until start here most n the_end.Quiet at less never h.0
 over_end until start here next most n (the_end.Refused why) at less h never = ended_halted until start here most n (the_end.Refused why) at less never h.0
 
-pub over_most : (n most : ℕ) (end : End) → n < most → events_at n end ≤ most
+pub over_most : (n most : ℕ) (end : RunEnd) → n < most → events_at n end ≤ most
 over_most n most (the_end.Reached made which) less = omega arith
 over_most n most the_end.Made less = omega arith
 over_most n most the_end.Quiet less = omega arith
@@ -136,26 +136,26 @@ over_most n most (the_end.Refused why) less = omega arith
 
 -- ---- who makes the next event
 
-pub chosen_ready : (node : NodeId) (r : Running) → can_go (chip_of r.state) node.number ≡ true → chosen_first (Some node) r ≡ Some node
-chosen_ready node r ready = ap (λ (b : Bool). if b then Some node else chosen r) ready
+pub chosen_ready : (node : NodeId) (r : Running) → has_event (chip_of r.state) node.number ≡ true → chosen_first (Some node) r ≡ Some node
+chosen_ready node r ready = ap (λ (b : Bool). if b then Some node else node_to_run r) ready
 
-pub chosen_other : (node : NodeId) (r : Running) → can_go (chip_of r.state) node.number ≡ false → chosen_first (Some node) r ≡ chosen r
-chosen_other node r ready = ap (λ (b : Bool). if b then Some node else chosen r) ready
+pub chosen_other : (node : NodeId) (r : Running) → has_event (chip_of r.state) node.number ≡ false → chosen_first (Some node) r ≡ node_to_run r
+chosen_other node r ready = ap (λ (b : Bool). if b then Some node else node_to_run r) ready
 
 -- where the schedule finds none, the chip is quiet
 none_chosen : (b : Bool) (node : NodeId) (o : Option NodeId) → (if b then Some node else o) ≡ None → o ≡ None
 none_chosen true node o h = absurd (cc)
 none_chosen false node o h = h
 
-pub none_left : (first : Option NodeId) (r : Running) → chosen_first first r ≡ None → chosen r ≡ None
+pub none_left : (first : Option NodeId) (r : Running) → chosen_first first r ≡ None → node_to_run r ≡ None
 none_left None r h = h
-none_left (Some node) r h = none_chosen (can_go (chip_of r.state) node.number) node (chosen r) h
+none_left (Some node) r h = none_chosen (has_event (chip_of r.state) node.number) node (node_to_run r) h
 
 pub told_is_first : (first : Option NodeId) (s : State) (schedule : Schedule) (node : NodeId) (made : Made) → chosen_first first (running s schedule) ≡ Some node → step_answer s node ≡ Ok made
     → told_first first (running s schedule) ≡ Some made
 told_is_first first s schedule node made who answer = ap (told_by_step s) who ∙ ap result_ok answer
 
-pub moved_is_first : (first : Option NodeId) (s t : State) (a b : Schedule) (node : NodeId) → chosen_first first (running s a) ≡ Some node → t ≡ stepped s node → b ≡ passed_on a node
+pub moved_is_first : (first : Option NodeId) (s t : State) (a b : Schedule) (node : NodeId) → chosen_first first (running s a) ≡ Some node → t ≡ stepped s node → b ≡ turn_after a node
     → running t b ≡ first_moved first (running s a)
 moved_is_first first s t a b node who state schedule =
     ap (λ z. running z b) state ∙ ap (λ z. running (stepped s node) z) schedule ∙ sym (ap (moved_by (running s a)) who)

@@ -8,7 +8,7 @@ use Rattle.std.proofs.lemmas.Option.{same_Some}
 use Rattle.ga_event.specs.declared.made.Made.{Made}
 use Rattle.ga_lab.specs.Machine.{State, chip_of, word_at}
 use Rattle.ga_scheduler.specs.declared.condition.Condition.{Condition}
-use Rattle.ga_scheduler.specs.Conditions.{holds, first_held, is_never, conditions_asked, is_own_at, is_stop, is_wait, fetches_at, stored_at, names_cell, stores_in, node_before, is_word_asked}
+use Rattle.ga_scheduler.specs.Conditions.{holds, first_held, is_never, active_conditions, is_own_at, is_stop, is_wait, fetches_at, stored_at, names_cell, stores_in, node_before, is_word_asked}
 use Rattle.ga_node.specs.Record.{NodeRecord}
 use Rattle.ga_node.specs.Table.{refusal}
 use Rattle.ga_node.specs.declared.kind.Kind.{Kind}
@@ -58,20 +58,20 @@ none_held (c ∷ cs) m s h =
 abbrev pub AreAsked : List Condition → ℕ → Type 0
 AreAsked until n = (k : ℕ) (one : Condition) → slice_get until k ≡ Some one → k < n → is_never one ≡ false
 
-pub asked_before : (until : List Condition) (i : ℕ) (one : Condition) → slice_get until i ≡ Some one → AreAsked until i → is_never one ≡ true → take i until ≡ conditions_asked until
-unfolding conditions_asked
+pub asked_before : (until : List Condition) (i : ℕ) (one : Condition) → slice_get until i ≡ Some one → AreAsked until i → is_never one ≡ true → take i until ≡ active_conditions until
+unfolding active_conditions
 asked_before [] i one is before never = absurd (cc)
-asked_before (c ∷ cs) zero one is before never = sym (ap (λ (b : Bool). cond b [] (c ∷ conditions_asked cs)) (ap is_never (same_Some c one is) ∙ never))
+asked_before (c ∷ cs) zero one is before never = sym (ap (λ (b : Bool). cond b [] (c ∷ active_conditions cs)) (ap is_never (same_Some c one is) ∙ never))
 asked_before (c ∷ cs) (suc i) one is before never =
     ap (λ z. c ∷ z) (asked_before cs i one is (λ k other at l. before (suc k) other at (omega arith)) never)
-    ∙ sym (ap (λ (b : Bool). cond b [] (c ∷ conditions_asked cs)) (before 0 c refl (omega arith)))
+    ∙ sym (ap (λ (b : Bool). cond b [] (c ∷ active_conditions cs)) (before 0 c refl (omega arith)))
 
-pub all_asked : (until : List Condition) → AreAsked until (length until) → until ≡ conditions_asked until
-unfolding conditions_asked
+pub all_asked : (until : List Condition) → AreAsked until (length until) → until ≡ active_conditions until
+unfolding active_conditions
 all_asked [] before = refl
 all_asked (c ∷ cs) before =
     ap (λ z. c ∷ z) (all_asked cs (λ k other at l. before (suc k) other at (omega arith)))
-    ∙ sym (ap (λ (b : Bool). cond b [] (c ∷ conditions_asked cs)) (before 0 c refl (omega arith)))
+    ∙ sym (ap (λ (b : Bool). cond b [] (c ∷ active_conditions cs)) (before 0 c refl (omega arith)))
 
 both : (a b : Bool) → (a && b) ≡ true → (a ≡ true) × (b ≡ true)
 both true true h = (refl, refl)

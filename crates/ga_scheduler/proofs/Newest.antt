@@ -10,12 +10,12 @@ use Rattle.ga_event.specs.declared.event.Event.{Event}
 use Rattle.ga_event.specs.declared.event.Event.TheVariants as event
 use Rattle.ga_event.specs.declared.event.Cause.{Cause}
 use Rattle.ga_event.specs.Touches.{touches}
-use Rattle.ga_event.specs.Apply.{Told, Did, Carried, replay, cause_of, run}
+use Rattle.ga_event.specs.Apply.{EventOutcome, Did, Carried, replay, cause_of, run}
 use Rattle.ga_event.specs.Told.{steps_of, made_after, made_in, causes_told, events_told, mades_of}
 use Rattle.ga_event.specs.declared.made.Made.{Made}
 use Rattle.ga_event.specs.declared.made.Made.TheVariants as made
-use Rattle.ga_lab.specs.Machine.{State, step_answer, stepped, told_of_kept, earlier, told_by, history_of, Standing, standing, chip_of, undone, word_at}
-use Rattle.ga_lab.proofs.Stepping.{told_later}
+use Rattle.ga_lab.specs.Machine.{State, step_answer, stepped, outcomes_of_kept, earlier, told_by, history_of, NodeAtStep, node_at_step, chip_of, undone, word_at}
+use Rattle.ga_lab.proofs.Stepping.{answers_are_stable}
 use Rattle.ga_scheduler.specs.Conditions.{is_step_of, is_own_at, is_word_asked, fetches_at, stores_in, node_before, holds}
 use Rattle.ga_scheduler.specs.inner.{newest_told, counted, counted_by, asked_node}
 use Rattle.ga_scheduler.proofs.WordCounts.{kept_told, behind, history_behind, other_writer, counted_on}
@@ -38,8 +38,8 @@ last_place xs e = grind (arith, length-append)
 pub newest_step : (s : State) (n : NodeId) (m : Made) → IsSome (replay s.load s.kept) → step_answer s n ≡ Ok m → newest_told (stepped s n) ≡ Some m
 newest_step s n m some h =
     let i : StepIs s n m = step_is s n m h in
-    ap (λ (z : ℕ). made_in (told_of_kept (stepped s n)) z) (ap (λ (z : State). length z.kept - 1) (stepped_is s n m i.what h i.is) ∙ last_place s.kept i.what)
-    ∙ told_later s n m some h
+    ap (λ (z : ℕ). made_in (outcomes_of_kept (stepped s n)) z) (ap (λ (z : State). length z.kept - 1) (stepped_is s n m i.what h i.is) ∙ last_place s.kept i.what)
+    ∙ answers_are_stable s n m some h
 
 -- Steps of the first events.
 
@@ -65,35 +65,35 @@ abbrev is_of_told : ℕ → Option Made → Bool
 is_of_told n None = false
 is_of_told n (Some m) = is_step_of n m
 
-pub of_made : (before : List Event) (e : Event) (what : Told) (m : Made) (n : ℕ) → made_after before e what ≡ Some m → touches e n ≡ is_step_of n m
+pub of_made : (before : List Event) (e : Event) (what : EventOutcome) (m : Made) (n : ℕ) → made_after before e what ≡ Some m → touches e n ≡ is_step_of n m
 of_made before (event.Own node) (Did kind) m n is = or_none (node.number == n) ∙ ap (is_of_told n) is
 of_made before (event.Own node) (Carried word) m n is = absurd (cc)
 of_made before (event.Pass w r side) (Did kind) m n is = absurd (cc)
 of_made before (event.Pass w r side) (Carried word) m n is = ap (λ (b : Bool). (w.number == n) || b) (or_none (r.number == n)) ∙ ap (is_of_told n) is
 
 -- the event with this report at a place of a list
-pub record EventAt (told : List (Cause × Told)) (place : ℕ) (m : Made) : Type 0 where
+pub record EventAt (told : List (Cause × EventOutcome)) (place : ℕ) (m : Made) : Type 0 where
   pub event : Event
   pub is : slice_get (events_told told) place ≡ Some event
   pub of : (n : ℕ) → touches event n ≡ is_step_of n m
 
-pub event_at : (told : List (Cause × Told)) (place : ℕ) (m : Made) → made_in told place ≡ Some m → EventAt told place m
+pub event_at : (told : List (Cause × EventOutcome)) (place : ℕ) (m : Made) → made_in told place ≡ Some m → EventAt told place m
 event_at told place m is = go (slice_get told place) refl is
   where
-    go : (o : Option (Cause × Told)) → slice_get told place ≡ o
-        → option_and_then (λ (x : Cause × Told). made_after (events_told (take place told)) x.0.event x.1) o ≡ Some m → EventAt told place m
+    go : (o : Option (Cause × EventOutcome)) → slice_get told place ≡ o
+        → option_and_then (λ (x : Cause × EventOutcome). made_after (events_told (take place told)) x.0.event x.1) o ≡ Some m → EventAt told place m
     go None at h = absurd (cc)
     go (Some x) at h = record {
       event = x.0.event;
-      is = slice_get-map (λ (cause : Cause). cause.event) (causes_told told) place ∙ ap (option_map (λ (cause : Cause). cause.event)) (slice_get-map (λ (y : Cause × Told). y.0) told place ∙ ap (option_map (λ (y : Cause × Told). y.0)) at);
+      is = slice_get-map (λ (cause : Cause). cause.event) (causes_told told) place ∙ ap (option_map (λ (cause : Cause). cause.event)) (slice_get-map (λ (y : Cause × EventOutcome). y.0) told place ∙ ap (option_map (λ (y : Cause × EventOutcome). y.0)) at);
       of = λ n. of_made (events_told (take place told)) x.0.event x.1 m n h;
     }
 
 -- how many steps of a node come after the event at a place
-pub steps_told : (s : State) (n place : ℕ) (m : Made) → IsSome (replay s.load s.kept) → made_in (told_of_kept s) place ≡ Some m
+pub steps_told : (s : State) (n place : ℕ) (m : Made) → IsSome (replay s.load s.kept) → made_in (outcomes_of_kept s) place ≡ Some m
     → steps_of n (take (place + 1) s.kept) ≡ steps_of n (take place s.kept) + one_if (is_step_of n m)
 steps_told s n place m some is =
-    let e : EventAt (told_of_kept s) place m = event_at (told_of_kept s) place m is in
+    let e : EventAt (outcomes_of_kept s) place m = event_at (outcomes_of_kept s) place m is in
     steps_more n place s.kept e.event (ap (λ z. slice_get z place) (sym (kept_told s some)) ∙ e.is)
     ∙ ap (λ b. steps_of n (take place s.kept) + one_if b) (e.of n)
 
@@ -101,7 +101,7 @@ steps_told s n place m some is =
 pub newest_steps : (s : State) (n : ℕ) (m : Made) → IsSome (replay s.load s.kept) → newest_told s ≡ Some m → is_step_of n m ≡ true
     → steps_of n (take (length s.kept - 1) s.kept) + 1 ≡ steps_of n s.kept
 newest_steps s n m some is own =
-    let e : EventAt (told_of_kept s) (length s.kept - 1) m = event_at (told_of_kept s) (length s.kept - 1) m is in
+    let e : EventAt (outcomes_of_kept s) (length s.kept - 1) m = event_at (outcomes_of_kept s) (length s.kept - 1) m is in
     let less : length s.kept - 1 < length s.kept = slice_get_within s.kept (length s.kept - 1) e.event (ap (λ z. slice_get z (length s.kept - 1)) (sym (kept_told s some)) ∙ e.is) in
     sym (steps_told s n (length s.kept - 1) m some is ∙ ap (λ b. steps_of n (take (length s.kept - 1) s.kept) + one_if b) own)
     ∙ ap (steps_of n) (take_all (length s.kept - 1 + 1) s.kept (omega arith))
@@ -113,59 +113,59 @@ own_steps s of node step kind m some is own at = newest_steps s of.number m some
 -- ---- the reports of the first events of the history, and how many words of a link they transferred
 
 -- the first events of a run are a run
-record Front (c : List NodeRecord) (es : List Event) (ts : List (Cause × Told)) (n : ℕ) : Type 0 where
+record Front (c : List NodeRecord) (es : List Event) (ts : List (Cause × EventOutcome)) (n : ℕ) : Type 0 where
   mid : List NodeRecord
   is : run c (take n es) ≡ Some (mid, take n ts)
 
-front : (es : List Event) (c last : List NodeRecord) (ts : List (Cause × Told)) (n : ℕ) → run c es ≡ Some (last, ts) → Front c es ts n
+front : (es : List Event) (c last : List NodeRecord) (ts : List (Cause × EventOutcome)) (n : ℕ) → run c es ≡ Some (last, ts) → Front c es ts n
 front es c last ts zero h = record { mid = c; is = refl }
 front [] c last ts (suc n) h = record {
   mid = c;
-  is = ap (λ (z : List (Cause × Told)). Some (c, take (suc n) z)) (ap (λ (z : List NodeRecord × List (Cause × Told)). z.1) (same_Some (c, []) (last, ts) h));
+  is = ap (λ (z : List (Cause × EventOutcome)). Some (c, take (suc n) z)) (ap (λ (z : List NodeRecord × List (Cause × EventOutcome)). z.1) (same_Some (c, []) (last, ts) h));
 }
 front (e ∷ es) c last ts (suc n) h =
     let f : FirstOf c e es last ts = first_of_run c e es last ts h in
     let g : Front f.mid es f.others n = front es f.mid last f.others n f.then in
     record {
       mid = g.mid;
-      is = ap (λ (o : Option (List NodeRecord × Told)). option_and_then {U = List NodeRecord × List (Cause × Told)}
-          (λ first. option_map {U = List NodeRecord × List (Cause × Told)} (λ rest. (rest.0, (cause_of c e, first.1) ∷ rest.1)) (run first.0 (take n es))) o) f.first
-          ∙ ap (option_map {U = List NodeRecord × List (Cause × Told)} (λ rest. (rest.0, (cause_of c e, f.told) ∷ rest.1))) g.is
-          ∙ ap (λ (z : List (Cause × Told)). Some (g.mid, take (suc n) z)) (sym f.all);
+      is = ap (λ (o : Option (List NodeRecord × EventOutcome)). option_and_then {U = List NodeRecord × List (Cause × EventOutcome)}
+          (λ first. option_map {U = List NodeRecord × List (Cause × EventOutcome)} (λ rest. (rest.0, (cause_of c e, first.1) ∷ rest.1)) (run first.0 (take n es))) o) f.first
+          ∙ ap (option_map {U = List NodeRecord × List (Cause × EventOutcome)} (λ rest. (rest.0, (cause_of c e, f.told) ∷ rest.1))) g.is
+          ∙ ap (λ (z : List (Cause × EventOutcome)). Some (g.mid, take (suc n) z)) (sym f.all);
     }
 
 -- the reports of the first are the first reports
-told_front : (s : State) (n : ℕ) → IsSome (replay s.load s.kept) → told_of_kept (earlier s n) ≡ take n (told_of_kept s)
+told_front : (s : State) (n : ℕ) → IsSome (replay s.load s.kept) → outcomes_of_kept (earlier s n) ≡ take n (outcomes_of_kept s)
 told_front s n some =
     let r : Runs s = runs_of s some in
     let g : Front s.load s.kept r.told n = front s.kept s.load r.last r.told n r.run_is in
-    ap told_by g.is ∙ ap (λ (z : List (Cause × Told)). take n z) (sym (told_is s r))
+    ap told_by g.is ∙ ap (λ (z : List (Cause × EventOutcome)). take n z) (sym (told_is s r))
 
 -- the report of the event at a place
-pub record ToldAt (told : List (Cause × Told)) (n : ℕ) (m : Made) : Type 0 where
-  pub one : Cause × Told
+pub record ToldAt (told : List (Cause × EventOutcome)) (n : ℕ) (m : Made) : Type 0 where
+  pub one : Cause × EventOutcome
   pub is : slice_get told n ≡ Some one
   pub made : made_after (events_told (take n told)) one.0.event one.1 ≡ Some m
 
-pub told_at : (told : List (Cause × Told)) (n : ℕ) (m : Made) → made_in told n ≡ Some m → ToldAt told n m
+pub told_at : (told : List (Cause × EventOutcome)) (n : ℕ) (m : Made) → made_in told n ≡ Some m → ToldAt told n m
 told_at told n m h = go (slice_get told n) refl h
   where
-    go : (o : Option (Cause × Told)) → slice_get told n ≡ o
-        → option_and_then (λ (x : Cause × Told). made_after (events_told (take n told)) x.0.event x.1) o ≡ Some m → ToldAt told n m
+    go : (o : Option (Cause × EventOutcome)) → slice_get told n ≡ o
+        → option_and_then (λ (x : Cause × EventOutcome). made_after (events_told (take n told)) x.0.event x.1) o ≡ Some m → ToldAt told n m
     go None at k = absurd (cc)
     go (Some x) at k = record { one = x; is = at; made = k }
 
 -- so the history of a node is that before the event and what the node did by it
-history_front : (s : State) (n node : ℕ) (m : Made) (a : ToldAt (told_of_kept s) n m) → IsSome (replay s.load s.kept)
+history_front : (s : State) (n node : ℕ) (m : Made) (a : ToldAt (outcomes_of_kept s) n m) → IsSome (replay s.load s.kept)
     → history_of (earlier s (n + 1)) node ≡ history_of (earlier s n) node ++ (if touches a.one.0.event node then m ∷ [] else [])
 history_front s n node m a some =
-    let told : List (Cause × Told) = told_of_kept s in
+    let told : List (Cause × EventOutcome) = outcomes_of_kept s in
     let more : take (n + 1) told ≡ take n told ++ a.one ∷ [] =
-    take_more told n a.one (slice_get_within told n a.one a.is) ∙ ap (λ (z : Cause × Told). take n told ++ z ∷ []) (get_or_from_slice_get told n a.one a.one a.is) in
-    ap (λ (z : List (Cause × Told)). mades_of z node) (told_front s (n + 1) some ∙ more)
+    take_more told n a.one (slice_get_within told n a.one a.is) ∙ ap (λ (z : Cause × EventOutcome). take n told ++ z ∷ []) (get_or_from_slice_get told n a.one a.one a.is) in
+    ap (λ (z : List (Cause × EventOutcome)). mades_of z node) (told_front s (n + 1) some ∙ more)
     ∙ history_behind [] (take n told) a.one node
     ∙ ap (λ (o : Option Made). mades_of (take n told) node ++ (if touches a.one.0.event node then option_to_list o else [])) a.made
-    ∙ ap (λ (z : List (Cause × Told)). mades_of z node ++ (if touches a.one.0.event node then m ∷ [] else [])) (sym (told_front s n some))
+    ∙ ap (λ (z : List (Cause × EventOutcome)). mades_of z node ++ (if touches a.one.0.event node then m ∷ [] else [])) (sym (told_front s n some))
 
 not_over : (w r : ℕ) (m : Made) → is_step_of w m ≡ false → one_over w r m ≡ 0
 not_over w r (made.Own n k what) h = refl
@@ -178,18 +178,18 @@ counted_here hist w r m false h =
     ap (λ (z : List Made). length (words_after w r 0 z)) (append-nil hist)
     ∙ (let q : length (words_after w r 0 hist) ≡ length (words_after w r 0 hist) + one_over w r m = omega (arith, not_over w r m h) in q)
 
-words_front : (s : State) (n : ℕ) (m : Made) (a : ToldAt (told_of_kept s) n m) → IsSome (replay s.load s.kept) → (w r : ℕ)
+words_front : (s : State) (n : ℕ) (m : Made) (a : ToldAt (outcomes_of_kept s) n m) → IsSome (replay s.load s.kept) → (w r : ℕ)
     → word_count (earlier s (n + 1)) w r ≡ word_count (earlier s n) w r + one_over w r m
 words_front s n m a some w r =
-    let of : touches a.one.0.event w ≡ is_step_of w m = of_made (events_told (take n (told_of_kept s))) a.one.0.event a.one.1 m w a.made in
+    let of : touches a.one.0.event w ≡ is_step_of w m = of_made (events_told (take n (outcomes_of_kept s))) a.one.0.event a.one.1 m w a.made in
     ap (λ (z : List Made). length (words_after w r 0 z)) (history_front s n w m a some)
     ∙ counted_here (history_of (earlier s n) w) w r m (touches a.one.0.event w) (sym of)
 
 -- how many words a condition counts, from one event to the next
-pub counted_back : (until : Condition) (s : State) (n : ℕ) (m : Made) → IsSome (replay s.load s.kept) → made_in (told_of_kept s) n ≡ Some m
+pub counted_back : (until : Condition) (s : State) (n : ℕ) (m : Made) → IsSome (replay s.load s.kept) → made_in (outcomes_of_kept s) n ≡ Some m
     → counted until (earlier s (n + 1)) ≡ counted until (earlier s n) + counted_by until m
 counted_back until s n m some h =
-    counted_on until (earlier s n) (earlier s (n + 1)) m (words_front s n m (told_at (told_of_kept s) n m h) some)
+    counted_on until (earlier s n) (earlier s (n + 1)) m (words_front s n m (told_at (outcomes_of_kept s) n m h) some)
 
 -- ---- a condition after an event that others may follow
 
@@ -221,26 +221,26 @@ pub whole_earlier : (s : State) → earlier s (length s.kept) ≡ s
 whole_earlier s = ap (λ (z : List Event). record s { kept = z }) (take_all (length s.kept) s.kept (omega arith))
 
 -- an event with a report is in the history
-pub told_within : (s : State) (place : ℕ) (m : Made) → IsSome (replay s.load s.kept) → made_in (told_of_kept s) place ≡ Some m → place < length s.kept
+pub told_within : (s : State) (place : ℕ) (m : Made) → IsSome (replay s.load s.kept) → made_in (outcomes_of_kept s) place ≡ Some m → place < length s.kept
 told_within s place m some is =
-    let e : EventAt (told_of_kept s) place m = event_at (told_of_kept s) place m is in
+    let e : EventAt (outcomes_of_kept s) place m = event_at (outcomes_of_kept s) place m is in
     slice_get_within s.kept place e.event (ap (λ z. slice_get z place) (sym (kept_told s some)) ∙ e.is)
 
 -- ---- a node that is walked back to a place
 
-pub stands_at : (w : Standing) (s : State) (n : NodeId) (k place : ℕ) (r : NodeRecord) → w ≡ standing s n k → k ≡ steps_of n.number (take place s.kept)
+pub stands_at : (w : NodeAtStep) (s : State) (n : NodeId) (k place : ℕ) (r : NodeRecord) → w ≡ node_at_step s n k → k ≡ steps_of n.number (take place s.kept)
     → ((q : ℕ) → steps_of w.node.number (take q w.machine.kept) ≡ w.step → r ≡ record_at (chip_of (earlier w.machine q)) w.node.number)
     → r ≡ record_at (chip_of (earlier s place)) n.number
 stands_at w s n k place r e at f =
-    subst (λ (z : Standing). (q : ℕ) → steps_of z.node.number (take q z.machine.kept) ≡ z.step → r ≡ record_at (chip_of (earlier z.machine q)) z.node.number) e f place (sym at)
+    subst (λ (z : NodeAtStep). (q : ℕ) → steps_of z.node.number (take q z.machine.kept) ≡ z.step → r ≡ record_at (chip_of (earlier z.machine q)) z.node.number) e f place (sym at)
 
 -- so it is before the node's step
-pub stands_before : (s : State) (n : NodeId) (place : ℕ) (m : Made) (r : NodeRecord) → IsSome (replay s.load s.kept) → made_in (told_of_kept s) place ≡ Some m
+pub stands_before : (s : State) (n : NodeId) (place : ℕ) (m : Made) (r : NodeRecord) → IsSome (replay s.load s.kept) → made_in (outcomes_of_kept s) place ≡ Some m
     → r ≡ record_at (chip_of (earlier s place)) n.number → r ≡ node_before (earlier s (place + 1)) n.number
 stands_before s n place m r some is e =
     e ∙ ap (λ (z : State). record_at (chip_of z) n.number) (sym (undone_earlier s place (told_within s place m some is)))
 
-pub fewer_before : (s : State) (n place : ℕ) (m : Made) → IsSome (replay s.load s.kept) → made_in (told_of_kept s) place ≡ Some m
+pub fewer_before : (s : State) (n place : ℕ) (m : Made) → IsSome (replay s.load s.kept) → made_in (outcomes_of_kept s) place ≡ Some m
     → steps_of n (take place s.kept) ≤ steps_of n (take (place + 1) s.kept)
 fewer_before s n place m some is = omega (arith, steps_told s n place m some is)
 

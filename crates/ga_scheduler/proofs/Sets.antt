@@ -5,7 +5,7 @@ use Rattle.std.specs.Int.{bit_at, w64, trailing_zeros}
 use Rattle.std.proofs.lemmas.Bool.{cases_lt, cases_eq, cases_Bool}
 use Rattle.std.proofs.lemmas.Nat.{and_le_l}
 use Rattle.std.proofs.lemmas.Nat.Bits.{bit_at_and, bit_at-lt, bit_at-zero, bit_at_mask_inside, bit_at_mask_below, ones_shl, bit_at-trailing_zeros}
-use Rattle.ga_scheduler.specs.declared.numbers.Numbers.{Numbers}
+use Rattle.ga_scheduler.specs.declared.numbers.NumberSet.{NumberSet}
 use Rattle.ga_scheduler.specs.inner.{has}
 
 -- ---- the lowest 1 of a word from a place on
@@ -71,11 +71,11 @@ one_is a e = eq-eqb a 1 e
 zero_is : (a : ℕ) → a ≡ 0 → (a == 1) ≡ false
 zero_is a e = ap (λ z. z == 1) e
 
-pub has_bit : (numbers : Numbers) (n : ℕ) → bit_at (get_or numbers.words (n / 64) 0) (n % 64) ≡ 1 → has numbers n ≡ true
+pub has_bit : (numbers : NumberSet) (n : ℕ) → bit_at (get_or numbers.words (n / 64) 0) (n % 64) ≡ 1 → has numbers n ≡ true
 unfolding has
 has_bit numbers n h = one_is _ h
 
-pub has_no_bit : (numbers : Numbers) (n : ℕ) → bit_at (get_or numbers.words (n / 64) 0) (n % 64) ≡ 0 → has numbers n ≡ false
+pub has_no_bit : (numbers : NumberSet) (n : ℕ) → bit_at (get_or numbers.words (n / 64) 0) (n % 64) ≡ 0 → has numbers n ≡ false
 unfolding has
 has_no_bit numbers n h = zero_is _ h
 
@@ -83,25 +83,25 @@ has_no_bit numbers n h = zero_is _ h
 pub split : (n word place : ℕ) → n ≡ 64 * word + place → place < 64 → (n / 64 ≡ word) × (n % 64 ≡ place)
 split n word place e l = (omega arith, omega arith)
 
-pub is_in : (numbers : Numbers) (n word place : ℕ) → n ≡ 64 * word + place → place < 64 → bit_at (get_or numbers.words word 0) place ≡ 1 → has numbers n ≡ true
+pub is_in : (numbers : NumberSet) (n word place : ℕ) → n ≡ 64 * word + place → place < 64 → bit_at (get_or numbers.words word 0) place ≡ 1 → has numbers n ≡ true
 is_in numbers n word place e l h =
     let s = split n word place e l in
     has_bit numbers n (ap (λ z. bit_at (get_or numbers.words z 0) (n % 64)) s.0 ∙ ap (bit_at (get_or numbers.words word 0)) s.1 ∙ h)
 
-pub is_out : (numbers : Numbers) (n word place : ℕ) → n ≡ 64 * word + place → place < 64 → bit_at (get_or numbers.words word 0) place ≡ 0 → has numbers n ≡ false
+pub is_out : (numbers : NumberSet) (n word place : ℕ) → n ≡ 64 * word + place → place < 64 → bit_at (get_or numbers.words word 0) place ≡ 0 → has numbers n ≡ false
 is_out numbers n word place e l h =
     let s = split n word place e l in
     has_no_bit numbers n (ap (λ z. bit_at (get_or numbers.words z 0) (n % 64)) s.0 ∙ ap (bit_at (get_or numbers.words word 0)) s.1 ∙ h)
 
 -- another word at a number's place
-pub put_same : (old new : Numbers) (n word : ℕ) (is : Bool) → length old.words ≡ 3 → n < 192 → new.words ≡ set old.words (n / 64) word
+pub put_same : (old new : NumberSet) (n word : ℕ) (is : Bool) → length old.words ≡ 3 → n < 192 → new.words ≡ set old.words (n / 64) word
     → (is ≡ true → bit_at word (n % 64) ≡ 1) → (is ≡ false → bit_at word (n % 64) ≡ 0) → has new n ≡ is
 put_same old new n word is size l e one zero =
     let w : get_or new.words (n / 64) 0 ≡ word = ap (λ z. get_or z (n / 64) 0) e ∙ get_or-set_same old.words (n / 64) word 0 (omega arith) in
     let b : bit_at (get_or new.words (n / 64) 0) (n % 64) ≡ bit_at word (n % 64) = ap (λ z. bit_at z (n % 64)) w in
     ⊎_elim (λ t. has_bit new n (b ∙ one t) ∙ sym t) (λ f. has_no_bit new n (b ∙ zero f) ∙ sym f) (cases_Bool is)
 
-pub put_other : (old new : Numbers) (n m word : ℕ) → length old.words ≡ 3 → n < 192 → m ≢ n → new.words ≡ set old.words (n / 64) word
+pub put_other : (old new : NumberSet) (n m word : ℕ) → length old.words ≡ 3 → n < 192 → m ≢ n → new.words ≡ set old.words (n / 64) word
     → ((i : ℕ) → i < 64 → i ≢ n % 64 → bit_at word i ≡ bit_at (get_or old.words (n / 64) 0) i) → has new m ≡ has old m
 unfolding has
 put_other old new n m word size l ne e others =
@@ -116,7 +116,7 @@ put_other old new n m word size l ne e others =
     (cases_eq (m / 64) (n / 64))
 
 -- up to a place of a word
-pub none_until : (numbers : Numbers) (first index from place : ℕ) → place ≤ 64
+pub none_until : (numbers : NumberSet) (first index from place : ℕ) → place ≤ 64
     → ((m : ℕ) → first ≤ m → m < 64 * index + from → has numbers m ≡ false)
     → ((i : ℕ) → from ≤ i → i < place → bit_at (get_or numbers.words index 0) i ≡ 0)
     → (m : ℕ) → first ≤ m → m < 64 * index + place → has numbers m ≡ false

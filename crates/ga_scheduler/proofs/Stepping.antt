@@ -13,13 +13,13 @@ use Rattle.ga_grid.specs.Chip.{record_at}
 use Rattle.ga_event.specs.declared.event.Event.{Event}
 use Rattle.ga_event.specs.declared.event.Event.TheVariants as event
 use Rattle.ga_event.specs.Touches.{touches}
-use Rattle.ga_event.specs.Apply.{Agree, Told, apply, after, unless, refusal_of, replay}
+use Rattle.ga_event.specs.Apply.{Agree, EventOutcome, apply, after, when_allowed, refusal_of, replay}
 use Rattle.ga_event.specs.Next.{next}
 use Rattle.ga_event.specs.declared.made.Made.{Made}
 use Rattle.ga_event.specs.declared.made.Made.TheVariants as made
-use Rattle.ga_scheduler.specs.declared.numbers.Numbers.{Numbers}
+use Rattle.ga_scheduler.specs.declared.numbers.NumberSet.{NumberSet}
 use Rattle.ga_scheduler.specs.inner.{has, IsRight, HoldsReady, StaysRight, IsRightAround, IsRefreshed}
-use Rattle.ga_races.specs.Orders.{can_go, first_in}
+use Rattle.ga_races.specs.Orders.{has_event, first_in}
 use Rattle.ga_races.proofs.Nexts.{near_or_same, runs_on}
 use Rattle.ga_journal.proofs.Parts.{two_touched as pass_touched}
 use Rattle.ga_node.specs.declared.kind.NotReady.{NotReady}
@@ -29,18 +29,18 @@ use Rattle.ga_event.proofs.Nexts.{next_can}
 use Rattle.ga_rollback.proofs.Rewinding.{run_snoc}
 use Rattle.ga_lab.specs.declared.fault.LabFault.{LabFault}
 use Rattle.ga_lab.specs.declared.fault.LabFault.TheVariants.{Full, Memory, Spent}
-use Rattle.ga_lab.specs.Machine.{State, chip_of, told_next, answer_to, step_answer, with_event, unless_refused, stepped}
+use Rattle.ga_lab.specs.Machine.{State, chip_of, made_next, answer_to, step_answer, with_event, unless_refused, stepped}
 use Rattle.ga_lab.proofs.Called.{Runs, runs_of, chip_is}
-use Rattle.ga_scheduler.specs.Running.{IsQuiet, IsRefusedFor}
+use Rattle.ga_scheduler.specs.Running.{IsQuiescent, IsRefusedFor}
 use Rattle.ga_races.proofs.Ready.{first_same, none_of}
 
 -- ---- the set of nodes that have an event, from one event to the next
 
-pub none_past : (chip : List NodeRecord) (n : ℕ) → 144 ≤ n → can_go chip n ≡ false
+pub none_past : (chip : List NodeRecord) (n : ℕ) → 144 ≤ n → has_event chip n ≡ false
 none_past chip n l = ap (λ b. b && is_ok (next chip (node_id n))) (le-ltb n 144 l)
 
 -- one number put right
-pub looked_kept : (chip : List NodeRecord) (old new : Numbers) (node : NodeId) → IsRight chip new node.number
+pub looked_kept : (chip : List NodeRecord) (old new : NumberSet) (node : NodeId) → IsRight chip new node.number
     → ((n : ℕ) → n < 192 → n ≢ node.number → has new n ≡ has old n) → StaysRight chip old new
 looked_kept chip old new node here others n was l = ⊎_elim
     (λ e. subst (λ z. IsRight chip new z) (sym e) here l)
@@ -48,7 +48,7 @@ looked_kept chip old new node here others n was l = ⊎_elim
     (cases_eq n node.number)
 
 -- a node's four neighbours
-pub around : (chip : List NodeRecord) (ready : Numbers) (n : ℕ) → IsRight chip ready n
+pub around : (chip : List NodeRecord) (ready : NumberSet) (n : ℕ) → IsRight chip ready n
     → ((m : ℕ) → neighbour_of n Right ≡ Some m → IsRight chip ready m) → ((m : ℕ) → neighbour_of n Down ≡ Some m → IsRight chip ready m)
     → ((m : ℕ) → neighbour_of n Left ≡ Some m → IsRight chip ready m) → ((m : ℕ) → neighbour_of n Up ≡ Some m → IsRight chip ready m) → IsRightAround chip ready n
 around chip ready n here right down left up = record { here = here; beside = by_side }
@@ -59,7 +59,7 @@ around chip ready n here right down left up = record { here = here; beside = by_
     by_side Left = left
     by_side Up = up
 
-pub around_stays : (chip : List NodeRecord) (old new : Numbers) (n : ℕ) → StaysRight chip old new → IsRightAround chip old n → IsRightAround chip new n
+pub around_stays : (chip : List NodeRecord) (old new : NumberSet) (n : ℕ) → StaysRight chip old new → IsRightAround chip old n → IsRightAround chip new n
 around_stays chip old new n stays a = record { here = stays n a.here; beside = λ side m h. stays m (a.beside side m h) }
 
 -- the report is of this event
@@ -70,20 +70,20 @@ IsOf (event.Own n) (made.Pass writer from reader to word) = ⊥
 IsOf (event.Pass w r side) (made.Own m step kind) = ⊥
 
 -- where the next event is the same, what was right is right on the other chip
-moved_right : (c d : List NodeRecord) (ready : Numbers) (n : ℕ) → (n < 144 → next c (node_id n) ≡ next d (node_id n)) → IsRight c ready n → IsRight d ready n
+moved_right : (c d : List NodeRecord) (ready : NumberSet) (n : ℕ) → (n < 144 → next c (node_id n) ≡ next d (node_id n)) → IsRight c ready n → IsRight d ready n
 moved_right c d ready n same was l = was l ∙ ⊎_elim
     (λ less. ap (λ z. nat_lt n 144 && is_ok z) (same less))
     (λ past. none_past c n past ∙ sym (none_past d n past))
     (cases_lt n 144)
 
-near_right : (d : List NodeRecord) (ready : Numbers) (n t : ℕ) → (n ≡ t) ⊎ ((side : Side) × (neighbour_of t side ≡ Some n)) → IsRightAround d ready t → IsRight d ready n
+near_right : (d : List NodeRecord) (ready : NumberSet) (n t : ℕ) → (n ≡ t) ⊎ ((side : Side) × (neighbour_of t side ≡ Some n)) → IsRightAround d ready t → IsRight d ready n
 near_right d ready n t (inl e) a = subst (λ z. IsRight d ready z) (sym e) a.here
 near_right d ready n t (inr h) a = a.beside h.0 n h.1
 
 own_touched : (n : NodeId) (t : ℕ) → touches (event.Own n) t ≡ true → t ≡ n.number
 own_touched n t h = ⊎_elim (λ u. sym (eqb-true n.number t u)) (λ u. absurd (true≢false (sym u))) (or_cases (n.number == t) false h)
 
-marked : (c d : List NodeRecord) (e : Event) (old new : Numbers) → Agree (touches e) c d → HoldsReady c old → StaysRight d old new
+marked : (c d : List NodeRecord) (e : Event) (old new : NumberSet) → Agree (touches e) c d → HoldsReady c old → StaysRight d old new
     → ((t : ℕ) → touches e t ≡ true → IsRightAround d new t) → HoldsReady d new
 marked c d e old new a was stays right n = elim (cases_lt n 144) [
   | inl less ↦ ⊎_elim
@@ -94,7 +94,7 @@ marked c d e old new a was stays right n = elim (cases_lt n 144) [
 ]
 
 -- after an event, with its report considered
-pub refreshed : (c d : List NodeRecord) (e : Event) (told : Made) (old new : Numbers) → IsOf e told → Agree (touches e) c d
+pub refreshed : (c d : List NodeRecord) (e : Event) (told : Made) (old new : NumberSet) → IsOf e told → Agree (touches e) c d
     → ((n : NodeId) → e ≡ event.Own n → refusal (record_at c n.number) ≡ None)
     → HoldsReady c old → StaysRight d old new → IsRefreshed d told new → HoldsReady d new
 refreshed c d (event.Own n) (made.Own m step kind) old new of a ran was stays (inl runs) = λ k.
@@ -117,7 +117,7 @@ refreshed c d (event.Pass w r side) (made.Own m step kind) old new of a ran was 
 pub record StepIs (s : State) (n : NodeId) (m : Made) : Type 0 where
   pub what : Event
   pub is : next (chip_of s) n ≡ Ok what
-  pub told : told_next s what ≡ m
+  pub told : made_next s what ≡ m
 
 told_is : (a b : Bool) (here m : Made) → cond a (Err Full) (cond b (Err Spent) (Ok here)) ≡ Ok m → here ≡ m
 told_is true b here m h = absurd (cc)
@@ -129,14 +129,14 @@ step_is s n m h = go (next (chip_of s) n) refl h
   where
     go : (o : Result Event NotReady) → next (chip_of s) n ≡ o → answer_to s o ≡ Ok m → StepIs s n m
     go (Err why) is k = absurd (cc)
-    go (Ok e) is k = record { what = e; is = is; told = told_is (nat_le s.limit (length s.kept)) (nat_le (2 ^ 64 - 1) s.made) (told_next s e) m k }
+    go (Ok e) is k = record { what = e; is = is; told = told_is (nat_le s.limit (length s.kept)) (nat_le (2 ^ 64 - 1) s.made) (made_next s e) m k }
 
 -- the chip after it
 chip_with : (s : State) (e : Event) → IsSome (replay s.load s.kept) → refusal_of (chip_of s) e ≡ None → chip_of (with_event s (Ok e)) ≡ (after (chip_of s) e).0
 chip_with s e some can =
     let r : Runs s = runs_of s some in
-    let made : apply r.last e ≡ Some ((after r.last e).0, (after r.last e).1) = ap (λ o. unless o (after r.last e)) (ap (λ z. refusal_of z e) (sym (chip_is s r)) ∙ can) in
-    ap (λ (o : Option (List NodeRecord × List (Cause × Told))). unwrap_or (option_map (λ (x : List NodeRecord × List (Cause × Told)). x.0) o) [])
+    let made : apply r.last e ≡ Some ((after r.last e).0, (after r.last e).1) = ap (λ o. when_allowed o (after r.last e)) (ap (λ z. refusal_of z e) (sym (chip_is s r)) ∙ can) in
+    ap (λ (o : Option (List NodeRecord × List (Cause × EventOutcome))). unwrap_or (option_map (λ (x : List NodeRecord × List (Cause × EventOutcome)). x.0) o) [])
     (run_snoc s.load r.last (after r.last e).0 s.kept r.told e (after r.last e).1 r.run_is made)
     ∙ ap (λ z. (after z e).0) (sym (chip_is s r))
 
@@ -146,14 +146,14 @@ stepped_is s n m e h is =
     ∙ ap (with_event s) is
 
 keeps : (c : List NodeRecord) (e : Event) → refusal_of c e ≡ None → Agree (touches e) c (after c e).0
-keeps c e can = subst (λ o. IfSome (unless o (after c e)) (λ done. Agree (touches e) c done.0)) can (apply_keeps c e)
+keeps c e can = subst (λ o. IfSome (when_allowed o (after c e)) (λ done. Agree (touches e) c done.0)) can (apply_keeps c e)
 
-of_told : (s : State) (e : Event) → IsOf e (told_next s e)
+of_told : (s : State) (e : Event) → IsOf e (made_next s e)
 of_told s (event.Own n) = refl
 of_told s (event.Pass w r side) = (refl, refl)
 
 -- the set of the nodes that have an event, after a step
-pub stepped_ready : (s : State) (n : NodeId) (m : Made) (old new : Numbers) → IsSome (replay s.load s.kept) → step_answer s n ≡ Ok m
+pub stepped_ready : (s : State) (n : NodeId) (m : Made) (old new : NumberSet) → IsSome (replay s.load s.kept) → step_answer s n ≡ Ok m
     → HoldsReady (chip_of s) old → StaysRight (chip_of (stepped s n)) old new → IsRefreshed (chip_of (stepped s n)) m new → HoldsReady (chip_of (stepped s n)) new
 stepped_ready s n m old new some h was stays right =
     let i : StepIs s n m = step_is s n m h in
@@ -164,17 +164,17 @@ stepped_ready s n m old new some h was stays right =
     (λ k e. subst (λ z. refusal_of (chip_of s) z ≡ None) e can) was stays right
 
 -- what the set holds is who can go
-pub choice_is : (chip : List NodeRecord) (ready : Numbers) (turn : ℕ) → HoldsReady chip ready → first_in (has ready) turn 144 ≡ first_in (can_go chip) turn 144
-choice_is chip ready turn h = first_same (has ready) (can_go chip) turn 144 (λ m l. h m (omega arith))
+pub choice_is : (chip : List NodeRecord) (ready : NumberSet) (turn : ℕ) → HoldsReady chip ready → first_in (has ready) turn 144 ≡ first_in (has_event chip) turn 144
+choice_is chip ready turn h = first_same (has ready) (has_event chip) turn 144 (λ m l. h m (omega arith))
 
-pub nothing_past : (chip : List NodeRecord) (ready : Numbers) → HoldsReady chip ready → (n : ℕ) → 144 ≤ n → n < 192 → has ready n ≡ false
+pub nothing_past : (chip : List NodeRecord) (ready : NumberSet) → HoldsReady chip ready → (n : ℕ) → 144 ≤ n → n < 192 → has ready n ≡ false
 nothing_past chip ready h n l r = h n r ∙ none_past chip n l
 
 -- nobody is chosen: no node of the chip has an event
-pub quiet_is : (chip : List NodeRecord) (turn : ℕ) → turn < 144 → first_in (can_go chip) turn 144 ≡ None → IsQuiet chip
+pub quiet_is : (chip : List NodeRecord) (turn : ℕ) → turn < 144 → first_in (has_event chip) turn 144 ≡ None → IsQuiescent chip
 quiet_is chip turn t none n l = elim (cases_lt n turn) [
-  | inl less ↦ (let e : (turn + (n + 144 - turn)) % 144 ≡ n = omega arith in ap (can_go chip) (sym e) ∙ none_of (can_go chip) turn 144 (n + 144 - turn) none (omega arith))
-  | inr more ↦ (let e : (turn + (n - turn)) % 144 ≡ n = omega arith in ap (can_go chip) (sym e) ∙ none_of (can_go chip) turn 144 (n - turn) none (omega arith))
+  | inl less ↦ (let e : (turn + (n + 144 - turn)) % 144 ≡ n = omega arith in ap (has_event chip) (sym e) ∙ none_of (has_event chip) turn 144 (n + 144 - turn) none (omega arith))
+  | inr more ↦ (let e : (turn + (n - turn)) % 144 ≡ n = omega arith in ap (has_event chip) (sym e) ∙ none_of (has_event chip) turn 144 (n - turn) none (omega arith))
 ]
 
 -- what a lab answers to a step, against the machine

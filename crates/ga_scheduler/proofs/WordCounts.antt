@@ -3,7 +3,7 @@ use Rattle.std.proofs.Common.{◌≡◌, ℕ, zero, suc, ◌+◌, ◌≤◌, Boo
 use Rattle.std.specs.Prelude.{slice_get, option_to_list, Option, IsSome, slice_index}
 use Rattle.ga_event.specs.declared.made.Made.{Made}
 use Rattle.ga_event.specs.declared.made.Made.TheVariants as made
-use Rattle.ga_scheduler.specs.declared.words.Sent.{Sent}
+use Rattle.ga_scheduler.specs.declared.words.Transfer.{Transfer}
 use Rattle.ga_scheduler.specs.Words.{carried_as, one_over, words_after, is_over, end_of, word_count}
 use Rattle.std.proofs.lemmas.Option.{none-some}
 use Rattle.ga_grid.specs.declared.node_id.NodeId.{NodeId}
@@ -11,9 +11,9 @@ use Rattle.ga_event.specs.declared.event.Event.{Event}
 use Rattle.ga_event.specs.declared.event.Event.TheVariants as event
 use Rattle.ga_event.specs.declared.event.Cause.{Cause}
 use Rattle.ga_event.specs.Touches.{touches}
-use Rattle.ga_event.specs.Apply.{Told, Did, Carried, apply, after, unless, cause_of, refusal_of, replay}
+use Rattle.ga_event.specs.Apply.{EventOutcome, Did, Carried, apply, after, when_allowed, cause_of, refusal_of, replay}
 use Rattle.ga_event.specs.Told.{made_after, mades_after, mades_of, events_told}
-use Rattle.ga_lab.specs.Machine.{State, told_of_kept, history_of, chip_of, told_next, step_answer, with_event, stepped, told_by}
+use Rattle.ga_lab.specs.Machine.{State, outcomes_of_kept, history_of, chip_of, made_next, step_answer, with_event, stepped, told_by}
 use Rattle.std.proofs.lemmas.List.{append-nil}
 use Rattle.ga_node.specs.declared.kind.Kind.{Kind}
 use Rattle.ga_event.proofs.Nexts.{next_can}
@@ -53,7 +53,7 @@ read_past (x ∷ xs) (suc i) l = read_past xs i (omega arith)
 abbrev pub one_if : Bool → ℕ
 one_if b = if b then 1 else 0
 
-over_none : (b : Bool) (sent : Sent) → [] ≡ (if b then sent ∷ [] else []) → one_if b ≡ 0
+over_none : (b : Bool) (sent : Transfer) → [] ≡ (if b then sent ∷ [] else []) → one_if b ≡ 0
 over_none true sent h = absurd (cc)
 over_none false sent h = refl
 
@@ -61,11 +61,11 @@ not_over : (writer reader number : ℕ) (told : Made) → [] ≡ carried_as writ
 not_over writer reader number (made.Own n k kind) h = refl
 not_over writer reader number (made.Pass w k r j carried) h = over_none ((w.number == writer) && (r.number == reader)) _ h
 
-over_some : (b : Bool) (sent other : Sent) → other ∷ [] ≡ (if b then sent ∷ [] else []) → one_if b ≡ 1
+over_some : (b : Bool) (sent other : Transfer) → other ∷ [] ≡ (if b then sent ∷ [] else []) → one_if b ≡ 1
 over_some true sent other h = refl
 over_some false sent other h = absurd (cc)
 
-carries_one : (writer reader number : ℕ) (told : Made) (sent : Sent) → sent ∷ [] ≡ carried_as writer reader number told → one_over writer reader told ≡ 1
+carries_one : (writer reader number : ℕ) (told : Made) (sent : Transfer) → sent ∷ [] ≡ carried_as writer reader number told → one_over writer reader told ≡ 1
 carries_one writer reader number (made.Own n k kind) sent h = absurd (cc)
 carries_one writer reader number (made.Pass w k r j carried) sent h = over_some ((w.number == writer) && (r.number == reader)) _ sent h
 
@@ -74,7 +74,7 @@ passed_over writer reader before told rest h =
     ap (λ z. z ++ words_after writer reader (before + one_over writer reader told) rest) (sym h)
     ∙ ap (λ (z : ℕ). words_after writer reader z rest) (let q : before + one_over writer reader told ≡ before = omega (arith, not_over writer reader (before + 1) told h) in q)
 
-pub told_word : (writer reader before : ℕ) (told : Made) (rest : List Made) (sent : Sent) → sent ∷ [] ≡ carried_as writer reader (before + 1) told → words_after writer reader before (told ∷ rest) ≡ sent ∷ words_after writer reader (before + 1) rest
+pub told_word : (writer reader before : ℕ) (told : Made) (rest : List Made) (sent : Transfer) → sent ∷ [] ≡ carried_as writer reader (before + 1) told → words_after writer reader before (told ∷ rest) ≡ sent ∷ words_after writer reader (before + 1) rest
 told_word writer reader before told rest sent h =
     ap (λ z. z ++ words_after writer reader (before + one_over writer reader told) rest) (sym h)
     ∙ ap (λ (z : ℕ). sent ∷ words_after writer reader z rest) (let q : before + one_over writer reader told ≡ before + 1 = omega (arith, carries_one writer reader (before + 1) told sent h) in q)
@@ -82,7 +82,7 @@ told_word writer reader before told rest sent h =
 -- ---- the steps of both ends list the same words of a link
 
 -- an event that carried no word over the link adds none, whether a history has it or not
-none_if : (b : Bool) (sent : Sent) → b ≡ false → [] ≡ (if b then sent ∷ [] else [])
+none_if : (b : Bool) (sent : Transfer) → b ≡ false → [] ≡ (if b then sent ∷ [] else [])
 none_if true sent h = absurd (cc)
 none_if false sent h = refl
 
@@ -123,7 +123,7 @@ one_pass w r n x xs ys at_w at_r true is at same =
     ∙ ap (λ z. carried_as w r (n + 1) x ++ z) (same (n + one_over w r x))
     ∙ sym (ap (words_after w r n) (had at_w x ys (at refl).0))
 
-one_event : (w r n : ℕ) (before : List Event) (e : Event) (what : Told) (xs ys : List Made) → ((m : ℕ) → words_after w r m xs ≡ words_after w r m ys)
+one_event : (w r n : ℕ) (before : List Event) (e : Event) (what : EventOutcome) (xs ys : List Made) → ((m : ℕ) → words_after w r m xs ≡ words_after w r m ys)
     → words_after w r n ((if touches e r then option_to_list (made_after before e what) else []) ++ xs)
     ≡ words_after w r n ((if touches e w then option_to_list (made_after before e what) else []) ++ ys)
 one_event w r n before (event.Own node) (Did kind) xs ys same =
@@ -136,7 +136,7 @@ one_event w r n before (event.Pass a b side) (Carried word) xs ys same =
     one_pass w r n _ xs ys (touches (event.Pass a b side) w) (touches (event.Pass a b side) r) ((a.number == w) && (b.number == r)) refl
     (λ h. (in_writer (a.number == w) (b.number == r) _ h, in_reader (a.number == w) (b.number == r) (a.number == r) _ h)) same
 
-both_ends : (w r n : ℕ) (before : List Event) (told : List (Cause × Told)) → words_after w r n (mades_after before told r) ≡ words_after w r n (mades_after before told w)
+both_ends : (w r n : ℕ) (before : List Event) (told : List (Cause × EventOutcome)) → words_after w r n (mades_after before told r) ≡ words_after w r n (mades_after before told w)
 both_ends w r n before [] = refl
 both_ends w r n before (x ∷ xs) =
     one_event w r n before x.0.event x.1 (mades_after (before ++ x.0.event ∷ []) xs r) (mades_after (before ++ x.0.event ∷ []) xs w)
@@ -145,7 +145,7 @@ both_ends w r n before (x ∷ xs) =
 -- whichever end is read
 pub by_either : (s : State) (w r : NodeId) (n : ℕ) (by_reader : Bool)
     → words_after w.number r.number n (history_of s (end_of by_reader w r)) ≡ words_after w.number r.number n (history_of s w.number)
-by_either s w r n true = both_ends w.number r.number n [] (told_of_kept s)
+by_either s w r n true = both_ends w.number r.number n [] (outcomes_of_kept s)
 by_either s w r n false = refl
 
 -- while none was read
@@ -157,7 +157,7 @@ at_first s w r n (suc place) a b h = absurd (omega (arith, h))
 -- ---- how many words went over a link, from one event to the next
 
 -- one event more in front
-carried_one : (b : Bool) (sent : Sent) → length (if b then sent ∷ [] else []) ≡ (if b then 1 else 0)
+carried_one : (b : Bool) (sent : Transfer) → length (if b then sent ∷ [] else []) ≡ (if b then 1 else 0)
 carried_one true sent = refl
 carried_one false sent = refl
 
@@ -201,10 +201,10 @@ behind w r (y ∷ xs) x =
     ∙ ap (λ (z : ℕ). z + one_over w r x) (sym (one_counted w r y xs))
 
 -- what a node's history has of the last of a list
-abbrev pub last_of : List Event → Cause × Told → ℕ → List Made
+abbrev pub last_of : List Event → Cause × EventOutcome → ℕ → List Made
 last_of before x n = if touches x.0.event n then option_to_list (made_after before x.0.event x.1) else []
 
-pub history_behind : (before : List Event) (xs : List (Cause × Told)) (x : Cause × Told) (n : ℕ)
+pub history_behind : (before : List Event) (xs : List (Cause × EventOutcome)) (x : Cause × EventOutcome) (n : ℕ)
     → mades_after before (xs ++ x ∷ []) n ≡ mades_after before xs n ++ last_of (before ++ events_told xs) x n
 history_behind before [] x n = append-nil (last_of before x n) ∙ ap (λ (z : List Event). last_of z x n) (sym (append-nil before))
 history_behind before (y ∷ xs) x n =
@@ -217,43 +217,43 @@ pub other_writer : (p q x : Bool) → (p || q) ≡ false → one_if (p && x) ≡
 other_writer true q x h = absurd (cc)
 other_writer false q x h = refl
 
-none_over : (s : State) (e : Event) (w r : ℕ) → touches e w ≡ false → one_over w r (told_next s e) ≡ 0
+none_over : (s : State) (e : Event) (w r : ℕ) → touches e w ≡ false → one_over w r (made_next s e) ≡ 0
 none_over s (event.Own n) w r h = refl
 none_over s (event.Pass a b side) w r h = other_writer (a.number == w) _ (b.number == r) h
 
 told_behind : (s : State) (e : Event) → IsSome (replay s.load s.kept) → refusal_of (chip_of s) e ≡ None
-    → told_of_kept (with_event s (Ok e)) ≡ told_of_kept s ++ (cause_of (chip_of s) e, (after (chip_of s) e).1) ∷ []
+    → outcomes_of_kept (with_event s (Ok e)) ≡ outcomes_of_kept s ++ (cause_of (chip_of s) e, (after (chip_of s) e).1) ∷ []
 told_behind s e some can =
     let r : Runs s = runs_of s some in
-    let done : apply r.last e ≡ Some ((after r.last e).0, (after r.last e).1) = ap (λ o. unless o (after r.last e)) (ap (λ z. refusal_of z e) (sym (chip_is s r)) ∙ can) in
+    let done : apply r.last e ≡ Some ((after r.last e).0, (after r.last e).1) = ap (λ o. when_allowed o (after r.last e)) (ap (λ z. refusal_of z e) (sym (chip_is s r)) ∙ can) in
     ap told_by (run_snoc s.load r.last (after r.last e).0 s.kept r.told e (after r.last e).1 r.run_is done)
     ∙ ap (λ z. z ++ (cause_of r.last e, (after r.last e).1) ∷ []) (sym (told_is s r))
-    ∙ ap (λ z. told_of_kept s ++ (cause_of z e, (after z e).1) ∷ []) (sym (chip_is s r))
+    ∙ ap (λ z. outcomes_of_kept s ++ (cause_of z e, (after z e).1) ∷ []) (sym (chip_is s r))
 
-pub kept_told : (s : State) → IsSome (replay s.load s.kept) → events_told (told_of_kept s) ≡ s.kept
+pub kept_told : (s : State) → IsSome (replay s.load s.kept) → events_told (outcomes_of_kept s) ≡ s.kept
 kept_told s some =
     let r : Runs s = runs_of s some in
     ap events_told (told_is s r) ∙ (made_of s.load r.last s.kept r.told r.run_is).1
 
-last_is : (s : State) (e : Event) (n : ℕ) (c : Cause) → c.event ≡ e → last_of s.kept (c, (after (chip_of s) e).1) n ≡ (if touches e n then told_next s e ∷ [] else [])
+last_is : (s : State) (e : Event) (n : ℕ) (c : Cause) → c.event ≡ e → last_of s.kept (c, (after (chip_of s) e).1) n ≡ (if touches e n then made_next s e ∷ [] else [])
 last_is s e n c is =
     ap (λ (z : Event). if touches z n then option_to_list (made_after s.kept z (after (chip_of s) e).1) else []) is
     ∙ ap (λ (o : Option Made). if touches e n then option_to_list o else []) (told_last s e)
 
 history_with : (s : State) (e : Event) (n : ℕ) → IsSome (replay s.load s.kept) → refusal_of (chip_of s) e ≡ None
-    → history_of (with_event s (Ok e)) n ≡ history_of s n ++ (if touches e n then told_next s e ∷ [] else [])
+    → history_of (with_event s (Ok e)) n ≡ history_of s n ++ (if touches e n then made_next s e ∷ [] else [])
 history_with s e n some can =
     ap (λ z. mades_of z n) (told_behind s e some can)
-    ∙ history_behind [] (told_of_kept s) (cause_of (chip_of s) e, (after (chip_of s) e).1) n
+    ∙ history_behind [] (outcomes_of_kept s) (cause_of (chip_of s) e, (after (chip_of s) e).1) n
     ∙ ap (λ (z : List Event). history_of s n ++ last_of z (cause_of (chip_of s) e, (after (chip_of s) e).1) n) (kept_told s some)
     ∙ ap (λ (z : List Made). history_of s n ++ z) (last_is s e n (cause_of (chip_of s) e) refl)
 
 counted_with : (s : State) (e : Event) (w r : ℕ) (b : Bool) → touches e w ≡ b
-    → length (words_after w r 0 (history_of s w ++ (if b then told_next s e ∷ [] else []))) ≡ word_count s w r + one_over w r (told_next s e)
-counted_with s e w r true is = behind w r (history_of s w) (told_next s e)
+    → length (words_after w r 0 (history_of s w ++ (if b then made_next s e ∷ [] else []))) ≡ word_count s w r + one_over w r (made_next s e)
+counted_with s e w r true is = behind w r (history_of s w) (made_next s e)
 counted_with s e w r false is =
     ap (λ z. length (words_after w r 0 z)) (append-nil (history_of s w))
-    ∙ (let q : word_count s w r ≡ word_count s w r + one_over w r (told_next s e) = omega (arith, none_over s e w r is) in q)
+    ∙ (let q : word_count s w r ≡ word_count s w r + one_over w r (made_next s e) = omega (arith, none_over s e w r is) in q)
 
 -- how many words of a link are kept after a step
 pub counted_step : (s : State) (n : NodeId) (m : Made) → IsSome (replay s.load s.kept) → step_answer s n ≡ Ok m

@@ -129,6 +129,6 @@ is_never (Reaches node address) = false
 is_never (Writes node address word) = false
 
 -- the conditions before the first one that holds never
-unfoldable pub conditions_asked : List Condition → List Condition
-conditions_asked [] = []
-conditions_asked (until ∷ others) = if is_never until then [] else until ∷ conditions_asked others
+unfoldable pub active_conditions : List Condition → List Condition
+active_conditions [] = []
+active_conditions (until ∷ others) = if is_never until then [] else until ∷ active_conditions others

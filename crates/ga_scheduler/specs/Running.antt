@@ -11,11 +11,11 @@ use Rattle.ga_lab.specs.declared.fault.LabFault.TheVariants.{Memory}
 use Rattle.ga_lab.specs.Machine.{State, chip_of, step_answer, stepped}
 use Rattle.ga_scheduler.specs.declared.schedule.Schedule.{Schedule}
 use Rattle.ga_scheduler.specs.declared.condition.Condition.{Condition}
-use Rattle.ga_scheduler.specs.declared.running.End.{End}
-use Rattle.ga_scheduler.specs.declared.running.End.TheVariants as the_end
-use Rattle.ga_scheduler.specs.Schedules.{passed_on}
+use Rattle.ga_scheduler.specs.declared.running.RunEnd.{RunEnd}
+use Rattle.ga_scheduler.specs.declared.running.RunEnd.TheVariants as the_end
+use Rattle.ga_scheduler.specs.Schedules.{turn_after}
 use Rattle.ga_scheduler.specs.Conditions.{first_held}
-use Rattle.ga_races.specs.Orders.{can_go, first_in}
+use Rattle.ga_races.specs.Orders.{has_event, first_in}
 
 -- a machine with the schedule by which its events are made
 pub record Running : Type 0 where
@@ -26,24 +26,24 @@ abbrev pub running : State → Schedule → Running
 running s schedule = record { state = s; schedule = schedule }
 
 -- the node that makes the next event, where there is one
-abbrev pub chosen : Running → Option NodeId
-chosen r = first_in (can_go (chip_of r.state)) r.schedule.turn.number 144
+abbrev pub node_to_run : Running → Option NodeId
+node_to_run r = first_in (has_event (chip_of r.state)) r.schedule.turn.number 144
 
 -- the report of the next event of a machine, which this node makes, if there is one
 abbrev pub told_by_step : State → Option NodeId → Option Made
 told_by_step s None = None
 told_by_step s (Some node) = result_ok (step_answer s node)
 
-abbrev pub told : Running → Option Made
-told r = told_by_step r.state (chosen r)
+abbrev pub next_made : Running → Option Made
+next_made r = told_by_step r.state (node_to_run r)
 
 -- a machine with its schedule after the next event, which this node makes; as it was where there is none
 abbrev pub moved_by : Running → Option NodeId → Running
 moved_by r None = r
-moved_by r (Some node) = record { state = stepped r.state node; schedule = passed_on r.schedule node }
+moved_by r (Some node) = record { state = stepped r.state node; schedule = turn_after r.schedule node }
 
 abbrev pub run_moved : Running → Running
-run_moved r = moved_by r (chosen r)
+run_moved r = moved_by r (node_to_run r)
 
 -- a machine with its schedule after `n` events
 abbrev pub after_events : Running → ℕ → Running
@@ -52,7 +52,7 @@ after_events r (suc events) = run_moved (after_events r events)
 
 -- each of the next `n` events can be made
 abbrev pub AreMade : Running → ℕ → Type 0
-AreMade r events = (k : ℕ) → k < events → IsSome (told (after_events r k))
+AreMade r events = (k : ℕ) → k < events → IsSome (next_made (after_events r k))
 
 -- the place of the first of the conditions that holds right after the next event
 abbrev pub held_told : List Condition → Option Made → State → Option ℕ
@@ -60,31 +60,31 @@ held_told until None s = None
 held_told until (Some made) s = first_held until made s
 
 abbrev pub held_next : List Condition → Running → Option ℕ
-held_next until r = held_told until (told r) (run_moved r).state
+held_next until r = held_told until (next_made r) (run_moved r).state
 
 -- none of some conditions holds just after one of the first `n` events
 abbrev pub NeverHolds : List Condition → Running → ℕ → Type 0
 NeverHolds until r events = (k : ℕ) → k < events → held_next until (after_events r k) ≡ None
 
 -- no node has an event
-abbrev pub IsQuiet : List NodeRecord → Type 0
-IsQuiet chip = (n : ℕ) → n < 144 → can_go chip n ≡ false
+abbrev pub IsQuiescent : List NodeRecord → Type 0
+IsQuiescent chip = (n : ℕ) → n < 144 → has_event chip n ≡ false
 
 -- a step is refused for this reason, or memory is refused to a step that could be made
 abbrev pub IsRefusedFor : LabFault → Result Made LabFault → Type 0
 IsRefusedFor why answer = (answer ≡ Err why) ⊎ ((why ≡ Memory) × IsOk answer)
 
 -- why no event follows in a run
-abbrev pub IsHalted : Running → End → Type 0
-IsHalted r the_end.Quiet = IsQuiet (chip_of r.state)
-IsHalted r (the_end.Refused why) = (node : NodeId) × (chosen r ≡ Some node) × IsRefusedFor why (step_answer r.state node)
+abbrev pub IsHalted : Running → RunEnd → Type 0
+IsHalted r the_end.Quiet = IsQuiescent (chip_of r.state)
+IsHalted r (the_end.Refused why) = (node : NodeId) × (node_to_run r ≡ Some node) × IsRefusedFor why (step_answer r.state node)
 IsHalted r (the_end.Reached made which) = ⊥
 IsHalted r the_end.Made = ⊥
 
 -- how a run ended after `n` events, of at most the requested number
-abbrev pub HasEnded : Running → ℕ → List Condition → ℕ → End → Type 0
+abbrev pub HasEnded : Running → ℕ → List Condition → ℕ → RunEnd → Type 0
 HasEnded r most until events (the_end.Reached made which) =
-    (k : ℕ) × (events ≡ k + 1) × NeverHolds until r k × (told (after_events r k) ≡ Some made) × (held_next until (after_events r k) ≡ Some which)
+    (k : ℕ) × (events ≡ k + 1) × NeverHolds until r k × (next_made (after_events r k) ≡ Some made) × (held_next until (after_events r k) ≡ Some which)
 HasEnded r most until events the_end.Made = (events ≡ most) × NeverHolds until r events
 HasEnded r most until events the_end.Quiet = (events < most) × NeverHolds until r events × IsHalted (after_events r events) the_end.Quiet
 HasEnded r most until events (the_end.Refused why) = (events < most) × NeverHolds until r events × IsHalted (after_events r events) (the_end.Refused why)

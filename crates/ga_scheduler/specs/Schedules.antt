@@ -9,24 +9,24 @@ use Rattle.ga_scheduler.specs.declared.schedule.Order.TheVariants.{Rounds, Greed
 use Rattle.ga_scheduler.specs.declared.schedule.Schedule.{Schedule}
 
 -- the turn of a node that is drawn: the next word of SplitMix64, modulo 144
-abbrev pub drawn : Schedule → Schedule
-drawn schedule = record schedule { turn = node_id (mix_u64 schedule.generator).0; generator = (mix_u64 schedule.generator).1 }
+abbrev pub random_turn : Schedule → Schedule
+random_turn schedule = record schedule { turn = node_id (mix_u64 schedule.generator).0; generator = (mix_u64 schedule.generator).1 }
 
 -- the schedule after an event that this node made
 abbrev pub passed_by : Order → Schedule → NodeId → Schedule
 passed_by Rounds schedule node = record schedule { turn = node_id (node.number + 1) }
 passed_by Greedy schedule node = record schedule { turn = node }
-passed_by Random schedule node = drawn schedule
+passed_by Random schedule node = random_turn schedule
 
-abbrev pub passed_on : Schedule → NodeId → Schedule
-passed_on schedule node = passed_by schedule.order schedule node
+abbrev pub turn_after : Schedule → NodeId → Schedule
+turn_after schedule node = passed_by schedule.order schedule node
 
 -- where a schedule of each order begins
-abbrev pub in_rounds : Schedule
-in_rounds = record { order = Rounds; turn = node_id 0; generator = 0 }
+abbrev pub round_robin : Schedule
+round_robin = record { order = Rounds; turn = node_id 0; generator = 0 }
 
-abbrev pub greedily : Schedule
-greedily = record { order = Greedy; turn = node_id 0; generator = 0 }
+abbrev pub greedy : Schedule
+greedy = record { order = Greedy; turn = node_id 0; generator = 0 }
 
-abbrev pub at_random : ℕ → Schedule
-at_random seed = drawn (record { order = Random; turn = node_id 0; generator = seed })
+abbrev pub random : ℕ → Schedule
+random seed = random_turn (record { order = Random; turn = node_id 0; generator = seed })

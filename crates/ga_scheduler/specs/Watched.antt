@@ -6,22 +6,22 @@ use Rattle.std.specs.Prelude.{◌≡◌, ℕ, zero, suc, ◌+◌, ◌-◌, ◌<�
 use Rattle.ga_grid.specs.declared.node_id.NodeId.{NodeId}
 use Rattle.ga_event.specs.Told.{made_in}
 use Rattle.ga_event.specs.declared.made.Made.{Made}
-use Rattle.ga_lab.specs.Machine.{State, chip_of, told_of_kept, step_answer}
+use Rattle.ga_lab.specs.Machine.{State, chip_of, outcomes_of_kept, step_answer}
 use Rattle.ga_scheduler.specs.declared.watched.WatchedEnd.{WatchedEnd}
 use Rattle.ga_scheduler.specs.declared.watched.WatchedEnd.TheVariants as the_end
-use Rattle.ga_races.specs.Orders.{can_go}
-use Rattle.ga_scheduler.specs.Running.{Running, chosen, told_by_step, moved_by, IsQuiet, IsRefusedFor}
+use Rattle.ga_races.specs.Orders.{has_event}
+use Rattle.ga_scheduler.specs.Running.{Running, node_to_run, told_by_step, moved_by, IsQuiescent, IsRefusedFor}
 
 -- this is the report of the newest event in the history
 abbrev pub IsNewestMade : State → Made → Type 0
-IsNewestMade s made = made_in (told_of_kept s) (length s.kept - 1) ≡ Some made
+IsNewestMade s made = made_in (outcomes_of_kept s) (length s.kept - 1) ≡ Some made
 
 -- ---- a node has precedence
 
 -- the node that makes the next event, where there is one; a node may go first
 abbrev pub chosen_first : Option NodeId → Running → Option NodeId
-chosen_first None r = chosen r
-chosen_first (Some node) r = if can_go (chip_of r.state) node.number then Some node else chosen r
+chosen_first None r = node_to_run r
+chosen_first (Some node) r = if has_event (chip_of r.state) node.number then Some node else node_to_run r
 
 -- the report of the next event, if a node may have precedence, and the run after it
 abbrev pub told_first : Option NodeId → Running → Option Made
@@ -75,7 +75,7 @@ NeverEnds by w r events = (k : ℕ) → k < events → ends_behind by w r k ≡ 
 
 -- why no event follows in a run, where a node may go first
 abbrev pub IsHaltedFirst : Option NodeId → Running → WatchedEnd → Type 0
-IsHaltedFirst first r the_end.Quiet = IsQuiet (chip_of r.state)
+IsHaltedFirst first r the_end.Quiet = IsQuiescent (chip_of r.state)
 IsHaltedFirst first r (the_end.Refused why) = (node : NodeId) × (chosen_first first r ≡ Some node) × IsRefusedFor why (step_answer r.state node)
 IsHaltedFirst first r (the_end.Seen made) = ⊥
 IsHaltedFirst first r the_end.Made = ⊥

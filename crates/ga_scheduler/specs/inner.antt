@@ -4,7 +4,7 @@ use Rattle.ga_grid.specs.declared.node_id.NodeId.{NodeId}
 use Rattle.ga_grid.specs.Grid.{node_id, neighbour_of}
 use Rattle.ga_event.specs.Told.{made_in}
 use Rattle.ga_event.specs.declared.made.Made.{Made}
-use Rattle.ga_lab.specs.Machine.{State, told_of_kept, earlier}
+use Rattle.ga_lab.specs.Machine.{State, outcomes_of_kept, earlier}
 use Rattle.ga_scheduler.specs.declared.condition.Condition.{Condition}
 use Rattle.ga_scheduler.specs.declared.condition.Condition.TheVariants.{Holds, ComesTo, Reaches, Writes, PassesNumber, Passes, Steps, Stops, StopsAt, WaitsAt, Never}
 use Rattle.ga_scheduler.specs.Conditions.{holds, is_pass, is_step, is_own, is_own_at, is_stop, is_wait}
@@ -12,19 +12,19 @@ use Rattle.ga_scheduler.specs.Backward.{is_among}
 use Rattle.std.specs.List.{slice_get}
 use Rattle.ga_scheduler.specs.Words.{is_over, one_over, word_count}
 use Rattle.std.specs.Int.{bit_at}
-use Rattle.ga_scheduler.specs.declared.numbers.Numbers.{Numbers}
+use Rattle.ga_scheduler.specs.declared.numbers.NumberSet.{NumberSet}
 use Rattle.ga_ports.specs.declared.side.Side.{Side}
 use Rattle.ga_node.specs.Record.{NodeRecord}
 use Rattle.ga_node.specs.Table.{refusal}
 use Rattle.ga_grid.specs.Chip.{record_at}
 use Rattle.ga_event.specs.declared.made.Made.TheVariants.{Own, Pass}
-use Rattle.ga_races.specs.Orders.{can_go}
+use Rattle.ga_races.specs.Orders.{has_event}
 use Rattle.ga_node.specs.declared.kind.Kind.TheVariants as kind
-use Rattle.ga_scheduler.specs.declared.running.End.TheVariants as the_end
+use Rattle.ga_scheduler.specs.declared.running.RunEnd.TheVariants as the_end
 use Rattle.ga_node.specs.declared.kind.Kind.{Kind}
 use Rattle.ga_scheduler.specs.declared.watching.Needs.{Needs}
-use Rattle.ga_scheduler.specs.declared.running.End.{End}
-use Rattle.ga_scheduler.specs.Running.{Running, told, run_moved, held_next, IsHalted}
+use Rattle.ga_scheduler.specs.declared.running.RunEnd.{RunEnd}
+use Rattle.ga_scheduler.specs.Running.{Running, next_made, run_moved, held_next, IsHalted}
 
 -- ---- what the search back for a condition cites
 
@@ -42,7 +42,7 @@ held_one until None s = false
 held_one until (Some told) s = holds until told s
 
 abbrev pub is_held : Condition → Option NodeId → State → ℕ → Bool
-is_held until only s place = is_among only (made_in (told_of_kept s) place) && held_one until (made_in (told_of_kept s) place) (earlier s (place + 1))
+is_held until only s place = is_among only (made_in (outcomes_of_kept s) place) && held_one until (made_in (outcomes_of_kept s) place) (earlier s (place + 1))
 
 -- the length of the prefix of events up to the newest that is considered and after which a condition held; 0 if there is none
 abbrev pub held_upto : Condition → Option NodeId → State → ℕ → ℕ
@@ -92,51 +92,51 @@ WereCounted until s told words = (k : ℕ) (one : Condition) → slice_get until
 
 -- whether a condition holds by the event itself, given how many words of its link are in the history; what it requires of a
 -- node is not considered
-abbrev pub is_told : Condition → Made → ℕ → Bool
-is_told (Passes writer reader word) told words = is_pass writer.number reader.number word told
-is_told (PassesNumber writer reader number) told words = is_over writer.number reader.number told && (words == number)
-is_told (Steps node step) told words = is_step node.number step told
-is_told Stops told words = is_own is_stop told
-is_told (StopsAt node) told words = is_own_at node.number is_stop told
-is_told (WaitsAt node) told words = is_own_at node.number is_wait told
-is_told other told words = false
+abbrev pub is_decided_by : Condition → Made → ℕ → Bool
+is_decided_by (Passes writer reader word) told words = is_pass writer.number reader.number word told
+is_decided_by (PassesNumber writer reader number) told words = is_over writer.number reader.number told && (words == number)
+is_decided_by (Steps node step) told words = is_step node.number step told
+is_decided_by Stops told words = is_own is_stop told
+is_decided_by (StopsAt node) told words = is_own_at node.number is_stop told
+is_decided_by (WaitsAt node) told words = is_own_at node.number is_wait told
+is_decided_by other told words = false
 
 -- the report of the newest event in the history
 abbrev pub newest_told : State → Option Made
-newest_told s = made_in (told_of_kept s) (length s.kept - 1)
+newest_told s = made_in (outcomes_of_kept s) (length s.kept - 1)
 
 -- ---- A set of numbers below 192, a bit for each
 
 -- the number is in the set
-unfoldable pub has : Numbers → ℕ → Bool
+unfoldable pub has : NumberSet → ℕ → Bool
 has numbers n = bit_at (slice_index numbers.words (n / 64)) (n % 64) == 1
 
 -- ---- where a set of numbers is right about the nodes that have an event
 
 -- the set is right about the number
-abbrev pub IsRight : List NodeRecord → Numbers → ℕ → Type 0
-IsRight chip ready n = n < 192 → has ready n ≡ can_go chip n
+abbrev pub IsRight : List NodeRecord → NumberSet → ℕ → Type 0
+IsRight chip ready n = n < 192 → has ready n ≡ has_event chip n
 
 -- the set holds the nodes that have an event, and nothing else
-abbrev pub HoldsReady : List NodeRecord → Numbers → Type 0
+abbrev pub HoldsReady : List NodeRecord → NumberSet → Type 0
 HoldsReady chip ready = (n : ℕ) → IsRight chip ready n
 
 -- the node is in the set, and no other node is
-pub record IsAlone (ready : Numbers) (node : NodeId) : Type 0 where
+pub record IsAlone (ready : NumberSet) (node : NodeId) : Type 0 where
   pub here : has ready node.number ≡ true
   pub others : (n : ℕ) → n < 144 → n ≢ node.number → has ready n ≡ false
 
 -- a set stays right about each number about which it was right
-abbrev pub StaysRight : List NodeRecord → Numbers → Numbers → Type 0
+abbrev pub StaysRight : List NodeRecord → NumberSet → NumberSet → Type 0
 StaysRight chip old new = (n : ℕ) → IsRight chip old n → IsRight chip new n
 
 -- the set is right about a node and its neighbours
-pub record IsRightAround (chip : List NodeRecord) (ready : Numbers) (n : ℕ) : Type 0 where
+pub record IsRightAround (chip : List NodeRecord) (ready : NumberSet) (n : ℕ) : Type 0 where
   pub here : IsRight chip ready n
   pub beside : (side : Side) (m : ℕ) → neighbour_of n side ≡ Some m → IsRight chip ready m
 
 -- the set is right where waits and stops changed: around the node of an own event, unless that runs on, and around both nodes of a pass
-abbrev pub IsRefreshed : List NodeRecord → Made → Numbers → Type 0
+abbrev pub IsRefreshed : List NodeRecord → Made → NumberSet → Type 0
 IsRefreshed chip (Own node step kind) ready = (refusal (record_at chip node.number) ≡ None) ⊎ IsRightAround chip ready node.number
 IsRefreshed chip (Pass writer from reader to word) ready = IsRightAround chip ready writer.number × IsRightAround chip ready reader.number
 
@@ -179,14 +179,14 @@ IsNeeded needs until = (k : ℕ) (one : Condition) → slice_get until k ≡ Som
 -- ---- how a run is over
 
 -- a run is over with its next event, which led here, or no event follows
-abbrev pub IsOver : List Condition → Running → Running → End → Type 0
-IsOver until r next (the_end.Reached made which) = (told r ≡ Some made) × (held_next until r ≡ Some which) × (next ≡ run_moved r)
+abbrev pub IsOver : List Condition → Running → Running → RunEnd → Type 0
+IsOver until r next (the_end.Reached made which) = (next_made r ≡ Some made) × (held_next until r ≡ Some which) × (next ≡ run_moved r)
 IsOver until r next the_end.Made = ⊥
 IsOver until r next the_end.Quiet = IsHalted r the_end.Quiet × (next ≡ r)
 IsOver until r next (the_end.Refused why) = IsHalted r (the_end.Refused why) × (next ≡ r)
 
 -- how many events there were at the end of a run, if `before` were made before it
-abbrev pub events_at : ℕ → End → ℕ
+abbrev pub events_at : ℕ → RunEnd → ℕ
 events_at n (the_end.Reached made which) = n + 1
 events_at n the_end.Made = n
 events_at n the_end.Quiet = n

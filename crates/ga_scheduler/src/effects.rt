@@ -2,7 +2,7 @@
 
 ghost use Rattle.std.specs.Prelude.{◌≡◌, ◌⊎◌, ◌↔◌, ◌+◌, ◌≤◌, ℕ, false, ◌++◌, slice_index, Ok, Err, IsOk, IfOk, OnOk, IfErr};
 ghost use Rattle.ga_event.specs.Told.{steps_of};
-ghost use Rattle.ga_lab.specs.Machine.{rewind_answer, stands};
+ghost use Rattle.ga_lab.specs.Machine.{rewind_answer, has_step};
 ghost use Rattle.ga_scheduler.specs.Effects.{kept_steps, effect_on, effects_below, effects_of};
 
 use ga_grid::NodeId;
@@ -83,7 +83,7 @@ pub fn find_effects(
     ensures nodes { IfOk result (λ effects. effects.nodes.items ≡ effects_of lab.old node.number step) }
     ensures err { IfErr result (λ why. (rewind_answer lab.old node.number step ≡ Err why)
         ⊎ ((why ≡ LabFault.Memory) × IsOk (rewind_answer lab.old node.number step))) }
-    ensures refused { (result ≡ Err LabFault.NoStep) ↔ (stands lab.old node.number step ≡ false) }
+    ensures refused { (result ≡ Err LabFault.NoStep) ↔ (has_step lab.old node.number step ≡ false) }
     ensures same { lab.new ≡ lab.old }
 {
     match lab.would_rewind(node, step) {

@@ -3,30 +3,30 @@
 ghost use Rattle.std.specs.Prelude.{◌≡◌, ◌<◌, ◌≤◌, ◌+◌, ◌-◌, ◌↔◌, ℕ, false, List, length, Option, Some, None, IsSome};
 ghost use Rattle.ga_grid.specs.declared.node_id.NodeId.{NodeId};
 ghost use Rattle.ga_event.specs.Told.{made_in};
-ghost use Rattle.ga_causal.specs.Dependence.{place_of};
-ghost use Rattle.ga_lab.specs.Machine.{State, first, causes_of, told_of_kept, earlier};
-ghost use Rattle.ga_scheduler.specs.Backward.{is_asked_held, newest_held, IsNewestHeld, gone_from, number_of_step, undone_often};
+ghost use Rattle.ga_causal.specs.Dependence.{position_of_step};
+ghost use Rattle.ga_lab.specs.Machine.{State, initial_state, causes_of, outcomes_of_kept, earlier};
+ghost use Rattle.ga_scheduler.specs.Backward.{is_asked_held, find_newest_holding, IsNewestHeld, gone_from, number_of_step, undone_often};
 ghost use Rattle.ga_scheduler.specs.Running.{Running, after_events, NeverHolds, HasEnded};
 ghost use Rattle.ga_scheduler.specs.declared.condition.Condition.{Condition};
-ghost use Rattle.ga_scheduler.specs.declared.running.End.{End};
+ghost use Rattle.ga_scheduler.specs.declared.running.RunEnd.{RunEnd};
 ghost use Rattle.ga_scheduler.specs.declared.watched.WatchedEnd.{WatchedEnd};
 ghost use Rattle.ga_scheduler.specs.Watched.{after_first, watching, watch_after, NeverEnds, HasEndedWatched};
 
-use crate::watch::Watch;
+use crate::watch::StopCondition;
 
 /// Two runs, the second by the schedule that the first hands back, are one run by the schedule of the first: where no condition held in
 /// the first, the second ends as the one does.
 #[tactic(auto, using(crate::proofs::Events::after_after, crate::proofs::Events::ended_later))]
-pub fn slices_are_one_run()
+pub fn slices_compose()
     ensures events { (r : Running) (first second : ℕ) → after_events (after_events r first) second ≡ after_events r (first + second) }
-    ensures end { (r : Running) (until : List Condition) (first most second : ℕ) (end : End) → NeverHolds until r first →
+    ensures end { (r : Running) (until : List Condition) (first most second : ℕ) (end : RunEnd) → NeverHolds until r first →
         HasEnded (after_events r first) most until second end → HasEnded r (first + most) until (first + second) end }
 {}
 
 /// Two watched runs, the second by the schedule that the first returns and with the watch as it then is, are one: if the watch
 /// did not end the first, the second ends as the one does. If no node has precedence, such a run makes the events of a run in
 /// the order of its schedule.
-pub fn watched_slices_are_one_run<W: Watch>()
+pub fn watched_slices_are_one_run<W: StopCondition>()
     ensures events { (node : Option NodeId) (r : Running) (first second : ℕ) →
         after_first node (after_first node r first) second ≡ after_first node r (first + second) }
     ensures watch { (node : Option NodeId) (w : W) (r : Running) (first second : ℕ) →
@@ -41,25 +41,25 @@ pub fn watched_slices_are_one_run<W: Watch>()
 
 /// The result of a search backwards is the newest event after which one of the conditions held, of those that are considered;
 /// without a result there is none.
-pub fn newest_is_found()
-    ensures some { (until : List Condition) (only : Option NodeId) (s : State) (place : ℕ) → newest_held until only s ≡ Some place →
+pub fn back_until_finds_newest()
+    ensures some { (until : List Condition) (only : Option NodeId) (s : State) (place : ℕ) → find_newest_holding until only s ≡ Some place →
         IsNewestHeld until only s (length s.kept) place }
-    ensures none { (until : List Condition) (only : Option NodeId) (s : State) → newest_held until only s ≡ None →
+    ensures none { (until : List Condition) (only : Option NodeId) (s : State) → find_newest_holding until only s ≡ None →
         (place : ℕ) → place < length s.kept → is_asked_held until only s place ≡ false }
 {}
 
 /// The step of a node that going back takes is the event that is found, so that its rollback isn't refused. Some events go just where there
 /// is one to be found.
 #[tactic(auto, using(crate::proofs::Backing::found_placed, crate::proofs::Backing::found_some))]
-pub fn found_goes()
-    ensures step { (until : List Condition) (node : NodeId) (s : State) (place : ℕ) → newest_held until (Some node) s ≡ Some place →
-        place_of (causes_of s) node.number (number_of_step node.number (made_in (told_of_kept s) place)) ≡ Some place }
+pub fn back_until_undoes_found()
+    ensures step { (until : List Condition) (node : NodeId) (s : State) (place : ℕ) → find_newest_holding until (Some node) s ≡ Some place →
+        position_of_step (causes_of s) node.number (number_of_step node.number (made_in (outcomes_of_kept s) place)) ≡ Some place }
     ensures some { (until : List Condition) (only : Option NodeId) (s : State) →
-        IsSome (gone_from only s (newest_held until only s)) ↔ IsSome (newest_held until only s) }
+        IsSome (gone_from only s (find_newest_holding until only s)) ↔ IsSome (find_newest_holding until only s) }
 {}
 
 /// Going back to a place is as many undos as there are kept events from it on.
 #[tactic(auto, using(crate::proofs::Backing::undone_from))]
-pub fn undos_lead_back()
+pub fn undos_reach_position()
     ensures { (s : State) (place : ℕ) → place ≤ length s.kept → undone_often (length s.kept - place) s ≡ earlier s place }
 {}

@@ -5,7 +5,7 @@ ghost use Rattle.std.specs.Int.{bit_at};
 
 /// A set of numbers below 192.
 #[derive(Clone, Copy, PartialEq, Eq, Debug)]
-pub(crate) struct Numbers {
+pub(crate) struct NumberSet {
     words: [u64; 3],
     ghost size: { length words ≡ 3 },
 }
@@ -39,7 +39,7 @@ fn with_bit(word: u64, place: u32, is_one: bool) -> u64
     if is_one { word | bit } else { word & !bit }
 }
 
-impl Numbers {
+impl NumberSet {
     ghost use Rattle.std.specs.Prelude.{◌≡◌, ◌≢◌, ◌<◌, ◌≤◌, ℕ, true, false, IfSome, IfNone};
     ghost use Rattle.ga_scheduler.specs.inner.{has};
 
@@ -48,7 +48,7 @@ impl Numbers {
     pub fn none() -> Self
         ensures { (n : ℕ) → n < 192 → has result n ≡ false }
     {
-        Numbers { words: [0; 3] }
+        NumberSet { words: [0; 3] }
     }
 
     /// Puts a number in, or takes it out.

@@ -6,7 +6,7 @@ ghost use Rattle.ga_grid.specs.Grid.{neighbour_of};
 ghost use Rattle.ga_scheduler.specs.inner.{has, IsRight, HoldsReady, StaysRight, IsRightAround, IsRefreshed, IsAlone};
 ghost use Rattle.ga_races.specs.Orders.{first_in};
 
-use crate::numbers::Numbers;
+use crate::numbers::NumberSet;
 use ga_event::next_event;
 use ga_grid::{Chip, NODES, NodeId, neighbour};
 use ga_lab::Made;
@@ -14,7 +14,7 @@ use ga_ports::Side;
 
 // Looks whether a node has an event.
 #[tactic(auto, using(ga_races::proofs::Ready::can_go_is, crate::proofs::Stepping::looked_kept))]
-fn look(ready: &mut Numbers, chip: &Chip, node: NodeId)
+fn look(ready: &mut NumberSet, chip: &Chip, node: NodeId)
     ensures here { IsRight (records_of chip.now) ready.new node.number }
     ensures kept { StaysRight (records_of chip.now) ready.old ready.new }
 {
@@ -23,7 +23,7 @@ fn look(ready: &mut Numbers, chip: &Chip, node: NodeId)
 }
 
 // Looks at the neighbour on a side, where there is one.
-fn look_beside(ready: &mut Numbers, chip: &Chip, node: NodeId, side: Side)
+fn look_beside(ready: &mut NumberSet, chip: &Chip, node: NodeId, side: Side)
     ensures beside { (m : ℕ) → neighbour_of node.number side ≡ Some m → IsRight (records_of chip.now) ready.new m }
     ensures kept { StaysRight (records_of chip.now) ready.old ready.new }
 {
@@ -34,7 +34,7 @@ fn look_beside(ready: &mut Numbers, chip: &Chip, node: NodeId, side: Side)
 
 // Looks at a node and its neighbours.
 #[inline(never)]
-fn look_around(ready: &mut Numbers, chip: &Chip, node: NodeId)
+fn look_around(ready: &mut NumberSet, chip: &Chip, node: NodeId)
     ensures around { IsRightAround (records_of chip.now) ready.new node.number }
     ensures kept { StaysRight (records_of chip.now) ready.old ready.new }
 {
@@ -46,10 +46,10 @@ fn look_around(ready: &mut Numbers, chip: &Chip, node: NodeId)
 }
 
 // The nodes that have an event.
-pub(crate) fn ready_nodes(chip: &Chip) -> Numbers
+pub(crate) fn ready_nodes(chip: &Chip) -> NumberSet
     ensures { HoldsReady (records_of chip.now) result }
 {
-    let mut ready = Numbers::none();
+    let mut ready = NumberSet::none();
     for number in 0..NODES as u8 {
         look(&mut ready, chip, NodeId::new(number));
     }
@@ -59,7 +59,7 @@ pub(crate) fn ready_nodes(chip: &Chip) -> Numbers
 // Looks at what an event that was made may have changed. Then it isn't known any more that one node is alone.
 #[inline(always)]
 #[tactic(auto, using(crate::proofs::Stepping::around_stays))]
-pub(crate) fn refresh(ready: &mut Numbers, alone: &mut Option<NodeId>, chip: &Chip, made: &Made)
+pub(crate) fn refresh(ready: &mut NumberSet, alone: &mut Option<NodeId>, chip: &Chip, made: &Made)
     ensures around { IsRefreshed (records_of chip.now) made.now ready.new }
     ensures kept { StaysRight (records_of chip.now) ready.old ready.new }
     ensures alone { IfSome alone.old (IsAlone ready.old) → IfSome alone.new (IsAlone ready.new) }
@@ -82,7 +82,7 @@ pub(crate) fn refresh(ready: &mut Numbers, alone: &mut Option<NodeId>, chip: &Ch
 
 // The lowest node in the set from this one on.
 #[tactic(auto, using(ga_races::proofs::Ready::within))]
-fn lowest_from(ready: &Numbers, first: NodeId) -> Option<NodeId>
+fn lowest_from(ready: &NumberSet, first: NodeId) -> Option<NodeId>
     requires { (n : ℕ) → 144 ≤ n → n < 192 → has ready.now n ≡ false }
     ensures least { IfSome result (λ node. first.number ≤ node.number) }
     ensures is_in { IfSome result (λ node. has ready.now node.number ≡ true) }
@@ -96,7 +96,7 @@ fn lowest_from(ready: &Numbers, first: NodeId) -> Option<NodeId>
 }
 
 // The first node in the set from this one on, round the chip.
-pub(crate) fn first_from(ready: &Numbers, turn: NodeId) -> Option<NodeId>
+pub(crate) fn first_from(ready: &NumberSet, turn: NodeId) -> Option<NodeId>
     requires { (n : ℕ) → 144 ≤ n → n < 192 → has ready.now n ≡ false }
     ensures { result ≡ first_in (has ready.now) turn.number 144 }
 {
@@ -108,7 +108,7 @@ pub(crate) fn first_from(ready: &Numbers, turn: NodeId) -> Option<NodeId>
 
 // The first node in the set, round the chip, where none from the turn on is in it. One that is found right before the turn is alone.
 #[inline(never)]
-fn first_before(ready: &Numbers, alone: &mut Option<NodeId>, turn: NodeId) -> Option<NodeId>
+fn first_before(ready: &NumberSet, alone: &mut Option<NodeId>, turn: NodeId) -> Option<NodeId>
     requires past { (n : ℕ) → 144 ≤ n → n < 192 → has ready.now n ≡ false }
     requires alone { IfSome alone.old (IsAlone ready.now) }
     requires ahead { (n : ℕ) → turn.number ≤ n → n < 144 → has ready.now n ≡ false }
@@ -128,7 +128,7 @@ fn first_before(ready: &Numbers, alone: &mut Option<NodeId>, turn: NodeId) -> Op
 }
 
 // The first node in the set from the turn on, round the chip, where the node with the turn is not in it.
-fn first_behind(ready: &Numbers, alone: &mut Option<NodeId>, turn: NodeId) -> Option<NodeId>
+fn first_behind(ready: &NumberSet, alone: &mut Option<NodeId>, turn: NodeId) -> Option<NodeId>
     requires past { (n : ℕ) → 144 ≤ n → n < 192 → has ready.now n ≡ false }
     requires alone { IfSome alone.old (IsAlone ready.now) }
     ensures first { result ≡ first_in (has ready.now) turn.number 144 }
@@ -141,7 +141,11 @@ fn first_behind(ready: &Numbers, alone: &mut Option<NodeId>, turn: NodeId) -> Op
 }
 
 // The first node in the set from the turn on, round the chip, where it may be known that one node is alone in the set.
-pub(crate) fn next_from(ready: &Numbers, alone: &mut Option<NodeId>, turn: NodeId) -> Option<NodeId>
+pub(crate) fn next_from(
+    ready: &NumberSet,
+    alone: &mut Option<NodeId>,
+    turn: NodeId,
+) -> Option<NodeId>
     requires past { (n : ℕ) → 144 ≤ n → n < 192 → has ready.now n ≡ false }
     requires alone { IfSome alone.old (IsAlone ready.now) }
     ensures first { result ≡ first_in (has ready.now) turn.number 144 }

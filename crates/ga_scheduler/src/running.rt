@@ -5,11 +5,11 @@ ghost use Rattle.ga_event.specs.Apply.{replay};
 ghost use Rattle.ga_lab.specs.Machine.{chip_of, step_answer, stepped};
 ghost use Rattle.ga_scheduler.specs.Words.{one_over, word_count};
 ghost use Rattle.ga_scheduler.specs.inner.{HoldsReady, IsAlone, AreCounted, newest_told, IsNeeded, IsOver, events_at};
-ghost use Rattle.ga_scheduler.specs.Schedules.{passed_on};
-ghost use Rattle.ga_scheduler.specs.Running.{running, told, run_moved, held_next, after_events, AreMade, IsRefusedFor, HasEnded};
+ghost use Rattle.ga_scheduler.specs.Schedules.{turn_after};
+ghost use Rattle.ga_scheduler.specs.Running.{running, next_made, run_moved, held_next, after_events, AreMade, IsRefusedFor, HasEnded};
 
 use crate::condition::Condition;
-use crate::numbers::Numbers;
+use crate::numbers::NumberSet;
 use crate::ready::{next_from, ready_nodes, refresh};
 use crate::schedule::Schedule;
 use crate::watching::{LinkCounts, Needs, count_all, first_held, needs_of};
@@ -18,7 +18,7 @@ use ga_lab::{Lab, LabFault, Made};
 
 /// Why no more events were made.
 #[derive(Clone, Copy, PartialEq, Eq, Debug)]
-pub enum End {
+pub enum RunEnd {
     /// A condition holds right after this event, and none held after one before. Of those that hold it is the first, at this place
     /// of their list.
     Reached { made: Made, which: u8 },
@@ -32,11 +32,11 @@ pub enum End {
 
 /// The number of events, why the run ended, and the next schedule.
 #[derive(Clone, Copy, PartialEq, Eq, Debug)]
-pub struct Ran {
+pub struct RunResult {
     /// How many events were made.
     pub events: u64,
     /// Why no more events were made.
-    pub end: End,
+    pub end: RunEnd,
     /// The schedule after the last event, with which a further run continues.
     pub schedule: Schedule,
 }
@@ -59,7 +59,7 @@ fn step_once(lab: &mut Lab, node: NodeId, is_here: bool) -> Result<Made, LabFaul
 #[inline(always)]
 pub(crate) fn make(
     lab: &mut Lab,
-    ready: &mut Numbers,
+    ready: &mut NumberSet,
     alone: &mut Option<NodeId>,
     schedule: &mut Schedule,
     node: NodeId,
@@ -70,7 +70,7 @@ pub(crate) fn make(
     requires replays { IsSome (replay lab.old.load lab.old.kept) }
     ensures ok { IfOk result (λ made. step_answer lab.old node ≡ Ok made) }
     ensures state { OnOk result (lab.new ≡ stepped lab.old node) }
-    ensures schedule { OnOk result (schedule.new ≡ passed_on schedule.old node) }
+    ensures schedule { OnOk result (schedule.new ≡ turn_after schedule.old node) }
     ensures ready { OnOk result (HoldsReady (chip_of lab.new) ready.new) }
     ensures alone { OnOk result (IfSome alone.new (IsAlone ready.new)) }
     ensures words { IfOk result (λ made. (writer reader : ℕ) →
@@ -83,7 +83,7 @@ pub(crate) fn make(
 {
     match step_once(lab, node, is_here) {
         Ok(made) => {
-            *schedule = schedule.pass_on(node);
+            *schedule = schedule.turn_after(node);
             refresh(ready, alone, lab.chip(), &made);
             Ok(made)
         }
@@ -100,13 +100,13 @@ struct Over;
 #[inline(always)]
 fn advance(
     lab: &mut Lab,
-    ready: &mut Numbers,
+    ready: &mut NumberSet,
     alone: &mut Option<NodeId>,
     schedule: &mut Schedule,
     until: &[Condition],
     needs: &Needs,
     words: &mut LinkCounts,
-    end: &mut End,
+    end: &mut RunEnd,
 ) -> Result<(), Over>
     requires ready { HoldsReady (chip_of lab.old) ready.old }
     requires alone { IfSome alone.old (IsAlone ready.old) }
@@ -115,7 +115,7 @@ fn advance(
     requires most { length until.now ≤ 8 }
     requires size { length words.old ≡ 8 }
     requires counted { AreCounted until.now lab.old words.old }
-    ensures made { OnOk result (IsSome (told (running lab.old schedule.old))) }
+    ensures made { OnOk result (IsSome (next_made (running lab.old schedule.old))) }
     ensures unmet { OnOk result (held_next until.now (running lab.old schedule.old) ≡ None) }
     ensures moved { OnOk result (running lab.new schedule.new ≡ run_moved (running lab.old schedule.old)) }
     ensures ready { OnOk result (HoldsReady (chip_of lab.new) ready.new) }
@@ -131,13 +131,13 @@ fn advance(
                 match make(lab, ready, alone, schedule, node, true) {
                     Ok(made) => {
                         if let Some(which) = first_held(until, needs, words, &made, lab) {
-                            *end = End::Reached { made, which };
+                            *end = RunEnd::Reached { made, which };
                             return Err(Over);
                         }
                         Ok(())
                     }
                     Err(why) => {
-                        *end = End::Refused(why);
+                        *end = RunEnd::Refused(why);
                         Err(Over)
                     }
                 }
@@ -145,42 +145,47 @@ fn advance(
                 match make(lab, ready, alone, schedule, node, false) {
                     Ok(made) => {
                         if let Some(which) = first_held(until, needs, words, &made, lab) {
-                            *end = End::Reached { made, which };
+                            *end = RunEnd::Reached { made, which };
                             return Err(Over);
                         }
                         Ok(())
                     }
                     Err(why) => {
-                        *end = End::Refused(why);
+                        *end = RunEnd::Refused(why);
                         Err(Over)
                     }
                 }
             }
         }
         None => {
-            *end = End::Quiet;
+            *end = RunEnd::Quiet;
             Err(Over)
         }
     }
 }
 
 // How many events there were at the end of a run: one more than were made before, where it ended right after an event.
-fn events_at(before: u64, end: End) -> u64
+fn events_at(before: u64, end: RunEnd) -> u64
     requires { before + 1 < 2 ^ 64 }
     ensures { result ≡ events_at before end }
 {
     match end {
-        End::Reached { .. } => before + 1,
-        End::Made => before,
-        End::Quiet => before,
-        End::Refused(_) => before,
+        RunEnd::Reached { .. } => before + 1,
+        RunEnd::Made => before,
+        RunEnd::Quiet => before,
+        RunEnd::Refused(_) => before,
     }
 }
 
 /// Makes events in the order of a schedule: at most `most`, up to the first after which one of the conditions holds, and
 /// returns the next schedule. The time is linear in the number of events, and independent of how many nodes wait; a condition
 /// that counts words reads the steps of one end once before.
-pub fn run_schedule(lab: &mut Lab, mut schedule: Schedule, most: u64, until: &[Condition]) -> Ran
+pub fn run_schedule(
+    lab: &mut Lab,
+    mut schedule: Schedule,
+    most: u64,
+    until: &[Condition],
+) -> RunResult
     requires { length until.now ≤ 8 }
     ensures state { running lab.new result.schedule ≡ after_events (running lab.old schedule) result.events }
     ensures made { AreMade (running lab.old schedule) result.events }
@@ -192,7 +197,7 @@ pub fn run_schedule(lab: &mut Lab, mut schedule: Schedule, most: u64, until: &[C
     let needs = needs_of(until);
     let mut words = count_all(until, lab);
     let mut events = 0;
-    let mut end = End::Made;
+    let mut end = RunEnd::Made;
     while events < most {
         match advance(
             lab,
@@ -207,7 +212,7 @@ pub fn run_schedule(lab: &mut Lab, mut schedule: Schedule, most: u64, until: &[C
             Ok(()) => events += 1,
             Err(Over) => {
                 let events = events_at(events, end);
-                return Ran {
+                return RunResult {
                     events,
                     end,
                     schedule,
@@ -215,8 +220,8 @@ pub fn run_schedule(lab: &mut Lab, mut schedule: Schedule, most: u64, until: &[C
             }
         }
     }
-    let end = End::Made;
-    Ran {
+    let end = RunEnd::Made;
+    RunResult {
         events,
         end,
         schedule,

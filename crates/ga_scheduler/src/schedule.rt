@@ -63,11 +63,11 @@ fn following(node: NodeId) -> NodeId
 
 impl Schedule {
     ghost use Rattle.std.specs.Prelude.{◌≡◌};
-    ghost use Rattle.ga_scheduler.specs.Schedules.{drawn, in_rounds, greedily, at_random, passed_on};
+    ghost use Rattle.ga_scheduler.specs.Schedules.{random_turn, round_robin, greedy, random, turn_after};
 
     /// Rounds, the first of which begins at node 000.
-    pub fn in_rounds() -> Self
-        ensures { result ≡ in_rounds }
+    pub fn round_robin() -> Self
+        ensures { result ≡ round_robin }
     {
         Schedule {
             order: Order::Rounds,
@@ -77,8 +77,8 @@ impl Schedule {
     }
 
     /// Node 000 until it has no event, then the next.
-    pub fn greedily() -> Self
-        ensures { result ≡ greedily }
+    pub fn greedy() -> Self
+        ensures { result ≡ greedy }
     {
         Schedule {
             order: Order::Greedy,
@@ -88,8 +88,8 @@ impl Schedule {
     }
 
     /// Each turn that of a node drawn by a generator with this seed, which determines the schedule.
-    pub fn at_random(seed: u64) -> Self
-        ensures { result ≡ at_random seed }
+    pub fn random(seed: u64) -> Self
+        ensures { result ≡ random seed }
     {
         let schedule = Schedule {
             order: Order::Random,
@@ -101,7 +101,7 @@ impl Schedule {
 
     // The schedule with a node drawn.
     fn draw(self) -> Self
-        ensures { result ≡ drawn self }
+        ensures { result ≡ random_turn self }
     {
         let (word, generator) = drawn_word(self.generator);
         Schedule {
@@ -112,8 +112,8 @@ impl Schedule {
     }
 
     // The schedule after an event that this node made.
-    pub(crate) fn pass_on(self, node: NodeId) -> Self
-        ensures { result ≡ passed_on self node }
+    pub(crate) fn turn_after(self, node: NodeId) -> Self
+        ensures { result ≡ turn_after self node }
     {
         match self.order {
             Order::Rounds => Schedule {

@@ -8,7 +8,7 @@ ghost use Rattle.ga_scheduler.specs.Watched.{IsNewestMade};
 use ga_lab::{Lab, Made};
 
 /// What ends a run: it gets each event just after it, and may count and remember.
-pub trait Watch {
+pub trait StopCondition {
     // Whether the watch ends the run after this event, on the machine that it left.
     ghost ends: { Self → Made → State → Bool };
 

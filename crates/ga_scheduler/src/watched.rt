@@ -10,11 +10,11 @@ ghost use Rattle.ga_scheduler.specs.Running.{running};
 ghost use Rattle.ga_scheduler.specs.Watched.{IsNewestMade, chosen_first, told_first, first_moved, after_first, AreMadeFirst, watching, watch_after, IsHaltedFirst, IsNewestSeen, HasEndedWatched};
 
 use crate::edges::writes;
-use crate::numbers::Numbers;
+use crate::numbers::NumberSet;
 use crate::ready::{next_from, ready_nodes};
 use crate::running::make;
 use crate::schedule::Schedule;
-use crate::watch::Watch;
+use crate::watch::StopCondition;
 use ga_grid::NodeId;
 use ga_lab::{Lab, LabFault, Made};
 
@@ -45,7 +45,7 @@ pub struct WatchedRun {
 // The node that makes the next event: the one that has precedence, if it has an event, otherwise the one of the schedule.
 #[inline(always)]
 fn next_first(
-    ready: &Numbers,
+    ready: &NumberSet,
     alone: &mut Option<NodeId>,
     first: Option<NodeId>,
     schedule: &Schedule,
@@ -72,7 +72,7 @@ fn next_first(
 #[inline(always)]
 fn go(
     lab: &mut Lab,
-    ready: &mut Numbers,
+    ready: &mut NumberSet,
     alone: &mut Option<NodeId>,
     first: Option<NodeId>,
     schedule: &mut Schedule,
@@ -102,7 +102,7 @@ fn go(
 /// Makes events in the order of a schedule, at most `most`, up to the first after which a watch ends the run, and returns the
 /// next schedule. If the watch didn't end it, a further run by this schedule, with the watch as it then is, continues this one.
 /// A node may have precedence: it makes each event that it has, and others make theirs only while it has none.
-pub fn run_watched<W: Watch>(
+pub fn run_watched<W: StopCondition>(
     lab: &mut Lab,
     mut schedule: Schedule,
     first: Option<NodeId>,

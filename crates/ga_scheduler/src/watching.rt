@@ -2,7 +2,7 @@
 //! by a few comparisons, whatever the conditions are.
 
 ghost use Rattle.std.specs.Prelude.{◌≡◌, ◌≤◌, length, Some};
-ghost use Rattle.ga_scheduler.specs.Conditions.{first_held, conditions_asked};
+ghost use Rattle.ga_scheduler.specs.Conditions.{first_held, active_conditions};
 ghost use Rattle.ga_scheduler.specs.inner.{AreCounted, WereCounted, newest_told, IsNeeded};
 
 use crate::condition::Condition;
@@ -135,15 +135,15 @@ pub(crate) fn needs_of(until: &[Condition]) -> Needs
 }
 
 /// The maximum number of conditions of a run.
-pub const MOST_CONDITIONS: usize = 8;
+pub const MAX_CONDITIONS: usize = 8;
 
 /// How many words are kept of the link that each of some conditions counts.
-pub(crate) type LinkCounts = [u32; MOST_CONDITIONS];
+pub(crate) type LinkCounts = [u32; MAX_CONDITIONS];
 
 /// The conditions before the first one that holds never.
 #[tactic(auto, using(std::proofs::lemmas::Option::slice_get_read, crate::proofs::Needing::asked_before, crate::proofs::Needing::none_more, crate::proofs::Needing::all_asked))]
-pub fn conditions_asked(until: &[Condition]) -> &[Condition]
-    ensures asked { result.now ≡ conditions_asked until.now }
+pub fn active_conditions(until: &[Condition]) -> &[Condition]
+    ensures asked { result.now ≡ active_conditions until.now }
     ensures most { length result.now ≤ length until.now }
 {
     for (place, condition) in until.iter().enumerate() {
@@ -160,7 +160,7 @@ pub(crate) fn count_all(until: &[Condition], lab: &Lab) -> LinkCounts
     ensures size { length result ≡ 8 }
     ensures counted { AreCounted until.now lab.now result }
 {
-    let mut words = [0; MOST_CONDITIONS];
+    let mut words = [0; MAX_CONDITIONS];
     for (place, condition) in until.iter().enumerate() {
         words[place] = condition.count(lab);
     }

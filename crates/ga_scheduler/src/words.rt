@@ -9,7 +9,7 @@ pub(crate) mod telling;
 
 /// A word that went over a link.
 #[derive(Clone, Copy, PartialEq, Eq, Debug)]
-pub struct Sent {
+pub struct Transfer {
     /// Which of the words over this link, from 1 on.
     pub number: u32,
     /// The step of the writer.
@@ -23,7 +23,7 @@ pub struct Sent {
 /// The words transferred from one node to another, listed one after another. All calls take the same lab, from which nothing is
 /// removed meanwhile.
 #[derive(Clone, Copy, PartialEq, Eq, Debug)]
-pub struct Words {
+pub struct TransferIter {
     writer: NodeId,
     reader: NodeId,
     // Whether the reader's steps are read, or the writer's; how many were, and how many words were among them.

@@ -7,7 +7,7 @@ use Rattle.ga_event.specs.declared.event.Event.{Event}
 use Rattle.ga_event.specs.Next.{next}
 use Rattle.ga_event.specs.declared.made.Made.{Made}
 use Rattle.ga_lab.specs.declared.fault.LabFault.{LabFault}
-use Rattle.ga_lab.specs.Machine.{State, chip_of, step_answer, with_event, unless_refused, answer_to as lab_answer_to, rewind_answer, first}
+use Rattle.ga_lab.specs.Machine.{State, chip_of, step_answer, with_event, unless_refused, answer_to as lab_answer_to, rewind_answer, initial_state}
 use Rattle.ga_shared.specs.declared.call.Call.{Call}
 use Rattle.ga_shared.specs.declared.call.Call.TheVariants.{Step, Rewind}
 use Rattle.ga_shared.specs.declared.call.Answer.{Answer}
@@ -80,8 +80,8 @@ pub IsHistory-push : (d : Desk) (lab : State) (log : List Entry) (calls : ℕ) (
 IsHistory-push d lab log calls e history answers given is grew counted =
     let same = state_after-load d.lab e.call in
     let limit : lab.limit ≡ d.lab.limit = ap (λ s. s.limit) is ∙ state_after-limit d.lab e.call in
-    let legal = IsLegal-push (first d.load d.lab.limit) d.lab d.log e history.legal answers given in
-    let P : ℕ → List Entry → State → Type 0 = λ n l t. IsLegal (first d.load n) l t in
+    let legal = IsLegal-push (initial_state d.load d.lab.limit) d.lab d.log e history.legal answers given in
+    let P : ℕ → List Entry → State → Type 0 = λ n l t. IsLegal (initial_state d.load n) l t in
     record {
       load = history.load ∙ sym same ∙ ap (λ s. s.load) (sym is);
       legal = subst (λ n. P n log lab) (sym limit) (subst (λ l. P d.lab.limit l lab) (sym grew) (subst (P d.lab.limit (d.log ++ e ∷ [])) (sym is) legal));
@@ -98,8 +98,8 @@ pub WorkerAgrees-along : (l m : List Entry) (xs ys : List Worker) (w : ℕ) → 
 WorkerAgrees-along l m xs ys w e f h = subst (λ (p : List Entry × List Worker). WorkerAgrees p.0 p.1 w) (λ i. (e i, f i)) h
 
 -- a history is legal from the load and the limit of its lab
-pub IsHistory-legal : (d : Desk) → IsHistory d → IsLegal (first d.lab.load d.lab.limit) d.log d.lab
-IsHistory-legal d h = subst (λ load. IsLegal (first load d.lab.limit) d.log d.lab) h.load h.legal
+pub IsHistory-legal : (d : Desk) → IsHistory d → IsLegal (initial_state d.lab.load d.lab.limit) d.log d.lab
+IsHistory-legal d h = subst (λ load. IsLegal (initial_state load d.lab.limit) d.log d.lab) h.load h.legal
 
 -- ---- Receipts of one seat more
 
@@ -147,7 +147,7 @@ raced load limit n lists seats closed many size done sound opened agrees =
     let log = closed.log.items in
     record {
       opened = opened;
-      legal = subst (λ (p : List NodeRecord × ℕ). IsLegal (first p.0 p.1) log closed.lab) (λ i. (opened.0 i, opened.1 i)) sound.legal;
+      legal = subst (λ (p : List NodeRecord × ℕ). IsLegal (initial_state p.0 p.1) log closed.lab) (λ i. (opened.0 i, opened.1 i)) sound.legal;
       calls = λ w list at. (at_place w list at (fresh_worker w)).0;
       made = sound.made;
       count = sound.calls ∙ sum_by-pairs (λ (s : Worker). s.calls) length seats lists (size ∙ sym many) (λ k s list s_at list_at. known k s list s_at list_at);

@@ -1,6 +1,6 @@
 -- What closing a shared chip answers.
 use Rattle.std.specs.Prelude.{◌≡◌, ◌<◌, ℕ, List, length, sum_by, Some, None, Result, Ok, Err}
-use Rattle.ga_lab.specs.Machine.{State, first}
+use Rattle.ga_lab.specs.Machine.{State, initial_state}
 use Rattle.ga_shared.specs.declared.closing.Closed.{Closed}
 use Rattle.ga_shared.specs.declared.closing.CloseFault.{CloseFault}
 use Rattle.ga_shared.specs.declared.closing.CloseFault.TheVariants.{Missing, Disagree}
@@ -9,7 +9,7 @@ use Rattle.ga_shared.specs.Log.{Worker, IsLegal, made_by, Opening, AreSeated, Wo
 -- the log leads the machine from its first state to the lab; its length is the number of calls of all workers together, and the
 -- lab counts the events that the log's calls made
 pub record IsSoundLog (seats : List Worker) (closed : Closed) : Type 0 where
-  pub legal : IsLegal (first closed.lab.load closed.lab.limit) closed.log.items closed.lab
+  pub legal : IsLegal (initial_state closed.lab.load closed.lab.limit) closed.log.items closed.lab
   pub calls : length closed.log.items ≡ sum_by (λ s. s.calls) seats
   pub made : closed.lab.made ≡ made_by closed.log.items
 

@@ -4,7 +4,7 @@ use Rattle.std.specs.Prelude.{ℕ, Result, Ok, Err, ◌≡◌, ◌≢◌, ◌+�
 use Rattle.ga_lab.specs.declared.fault.LabFault.{LabFault}
 use Rattle.ga_lab.specs.declared.fault.LabFault.TheVariants.{Waiting, Stopped, Full, Memory, Empty, NoStep, Spent}
 use Rattle.ga_event.specs.declared.made.Made.{Made}
-use Rattle.ga_lab.specs.Machine.{State, step_answer, stepped, rewind_answer, rewound, first}
+use Rattle.ga_lab.specs.Machine.{State, step_answer, stepped, rewind_answer, rewound, initial_state}
 use Rattle.ga_shared.specs.declared.call.Call.{Call}
 use Rattle.ga_shared.specs.declared.call.Call.TheVariants.{Step, Rewind}
 use Rattle.ga_shared.specs.declared.call.Answer.{Answer}
@@ -72,7 +72,7 @@ pub record Desk : Type 0 where
 -- the lab is where the log leads from its first state; the book counts the log, and the lab its events
 pub record IsHistory (d : Desk) : Type 0 where
   pub load : d.load ≡ d.lab.load
-  pub legal : IsLegal (first d.load d.lab.limit) d.log d.lab
+  pub legal : IsLegal (initial_state d.load d.lab.limit) d.log d.lab
   pub calls : d.calls ≡ length d.log
   pub made : d.lab.made ≡ made_by d.log
 
@@ -129,7 +129,7 @@ calls_of worker (e ∷ es) = if e.worker == worker then e.call ∷ calls_of work
 -- lab counts the events that they made
 pub record Raced (load : List NodeRecord) (limit : ℕ) (lists : List (List Call)) (closed : Closed) : Type 0 where
   pub opened : (closed.lab.load ≡ load) × (closed.lab.limit ≡ limit)
-  pub legal : IsLegal (first load limit) closed.log.items closed.lab
+  pub legal : IsLegal (initial_state load limit) closed.log.items closed.lab
   pub calls : (w : ℕ) (list : List Call) → slice_get lists w ≡ Some list → calls_of w closed.log.items ≡ list
   pub count : length closed.log.items ≡ sum_by length lists
   pub made : closed.lab.made ≡ made_by closed.log.items

@@ -8,10 +8,10 @@ use Rattle.ga_parser.specs.declared.item.Item.TheVariants.{Cell}
 use Rattle.ga_source.specs.declared.group.Group.{Group}
 use Rattle.ga_parser.specs.declared.item.Request.{Request}
 use Rattle.ga_parser.specs.declared.item.Request.TheVariants.{Put, Go}
-use Rattle.ga_parser.specs.declared.item.Asked.{Asked}
+use Rattle.ga_parser.specs.declared.item.LocatedRequest.{LocatedRequest}
 use Rattle.ga_source.specs.declared.packing.Packer.{Packer}
-use Rattle.ga_source.specs.declared.group.Spot.{Spot}
-use Rattle.ga_source.specs.Reading.{begin_at, behind, fits}
+use Rattle.ga_source.specs.declared.group.PackingSpot.{PackingSpot}
+use Rattle.ga_source.specs.Reading.{begin_at, spot_after, fits}
 use Rattle.ga_source.specs.Made.{address_behind, cell_at, cells_from, cell_of, AreDistinctCells, IsMemoryAddress}
 use Rattle.ga_source.specs.inner.{IsClosed, requests_of, IsPlainRequest, ArePlain, address_after, IsCellGroup, AreCellGroups, IsPackedPlain, AreWords}
 
@@ -43,13 +43,13 @@ after_more at (first ∷ requests) request = after_more (address_behind at first
 -- ---- the packer
 
 -- a cell is added
-pub added_cell : (before full closed : Packer) (next : Spot) (item : Item) (n : ℕ) (requests : List Request) → item ≡ Cell (Number n) → IsPackedPlain before requests
+pub added_cell : (before full closed : Packer) (next : PackingSpot) (item : Item) (n : ℕ) (requests : List Request) → item ≡ Cell (Number n) → IsPackedPlain before requests
     → full.filling.items ≡ before.filling.items ++ item ∷ [] → full.broken ≡ before.broken → full.spot ≡ before.spot → full.groups.items ≡ before.groups.items → IsClosed full closed
     → ((n : ℕ) (cells : List (ℕ × ℕ)) → full.filling.items ≡ Cell (Number n) ∷ [] → full.broken ≡ None → AreCellGroups cells full.groups.items → AreCellGroups (cells ++ (full.spot.at, n) ∷ []) closed.groups.items)
-    → next ≡ behind before.spot item → IsPackedPlain (record closed { spot = next }) (requests ++ Put item ∷ [])
+    → next ≡ spot_after before.spot item → IsPackedPlain (record closed { spot = next }) (requests ++ Put item ∷ [])
 added_cell before full closed next item n requests is packed filled broken spot groups done cell goes =
     let at = address_after 0 requests in
-    let here : full.spot.at ≡ at = ap (λ (s : Spot). s.at) (spot ∙ packed.spot) in
+    let here : full.spot.at ≡ at = ap (λ (s : PackingSpot). s.at) (spot ∙ packed.spot) in
     let cells : AreCellGroups (cells_from 0 requests ++ (full.spot.at, n) ∷ []) closed.groups.items =
     cell n (cells_from 0 requests)
     (filled ∙ (ap (λ (items : List Item). items ++ item ∷ []) packed.filling ∙ ap (λ (i : Item). i ∷ []) is))
@@ -58,14 +58,14 @@ added_cell before full closed next item n requests is packed filled broken spot 
     record {
       filling = done.empty;
       whole = done.whole;
-      spot = goes ∙ (ap (λ (s : Spot). behind s item) packed.spot ∙ (ap (behind (begin_at at)) is ∙ ap begin_at (sym (after_more 0 requests (Put item)))));
+      spot = goes ∙ (ap (λ (s : PackingSpot). spot_after s item) packed.spot ∙ (ap (spot_after (begin_at at)) is ∙ ap begin_at (sym (after_more 0 requests (Put item)))));
       groups = subst (λ (list : List (ℕ × ℕ)). AreCellGroups list closed.groups.items)
           (ap (λ (a : ℕ). cells_from 0 requests ++ (a, n) ∷ []) here
           ∙ (ap (λ (i : Item). cells_from 0 requests ++ cell_at at (Put i)) (sym is) ∙ sym (cells_more 0 requests (Put item)))) cells;
     }
 
 -- another address
-pub gone_packed : (before closed : Packer) (spot : Spot) (address : ℕ) (requests : List Request) → spot ≡ begin_at address → IsPackedPlain before requests → closed ≡ before → IsPackedPlain (record closed { spot = spot }) (requests ++ Go address ∷ [])
+pub gone_packed : (before closed : Packer) (spot : PackingSpot) (address : ℕ) (requests : List Request) → spot ≡ begin_at address → IsPackedPlain before requests → closed ≡ before → IsPackedPlain (record closed { spot = spot }) (requests ++ Go address ∷ [])
 gone_packed before closed spot address requests is packed stays = record {
   filling = ap (λ (p : Packer). p.filling.items) stays ∙ packed.filling;
   whole = ap (λ (p : Packer). p.broken) stays ∙ packed.whole;
@@ -77,7 +77,7 @@ gone_packed before closed spot address requests is packed stays = record {
 -- a cell has room
 pub cell_fits : (packer : Packer) (requests : List Request) (item : Item) (n : ℕ) → item ≡ Cell (Number n) → IsPackedPlain packer requests → fits packer.labels.items packer.spot item ≡ true
 cell_fits packer requests item n is packed =
-    ap (λ (s : Spot). fits packer.labels.items s item) packed.spot ∙ ap (fits packer.labels.items (begin_at (address_after 0 requests))) is
+    ap (λ (s : PackingSpot). fits packer.labels.items s item) packed.spot ∙ ap (fits packer.labels.items (begin_at (address_after 0 requests))) is
 
 -- an item that plain requests ask for
 pub record IsCellItem (item : Item) : Type 0 where
@@ -94,7 +94,7 @@ unfolding AreCellGroups cells_from address_after
 none_packed packer filling whole spot groups = record { filling = filling; whole = whole; spot = spot; groups = subst (AreCellGroups []) (sym groups) tt }
 
 -- one of plain requests
-pub one_plain : (asked : List Asked) (i : ℕ) (d : Asked) → i < length asked → ArePlain (requests_of asked) → IsPlainRequest (slice_index_or asked i d).request
+pub one_plain : (asked : List LocatedRequest) (i : ℕ) (d : LocatedRequest) → i < length asked → ArePlain (requests_of asked) → IsPlainRequest (slice_index_or asked i d).request
 unfolding ArePlain
 one_plain [] i d within plain = absurd (omega arith)
 one_plain (one ∷ asked) zero d within plain = plain.0

@@ -9,12 +9,12 @@ use Rattle.std.proofs.lemmas.Grind.{flat_map-append}
 use Rattle.ga_slots.specs.declared.op.Op.TheVariants.{Unext as UnextOp}
 use Rattle.ga_parser.specs.declared.item.Item.{Item}
 use Rattle.ga_parser.specs.declared.item.Item.TheVariants.{Opcode}
-use Rattle.ga_parser.specs.declared.item.Asked.{Asked}
+use Rattle.ga_parser.specs.declared.item.LocatedRequest.{LocatedRequest}
 use Rattle.ga_parser.specs.declared.item.Request.{Request}
 use Rattle.ga_parser.specs.declared.item.Request.TheVariants.{Put, Unext, Mark, Fill, Go, Carry}
 use Rattle.ga_source.specs.declared.group.Group.{Group}
 use Rattle.ga_source.specs.declared.packing.Packer.{Packer}
-use Rattle.ga_source.specs.declared.group.Spot.{Spot}
+use Rattle.ga_source.specs.declared.group.PackingSpot.{PackingSpot}
 use Rattle.ga_source.specs.Reading.{begin_at, after_request}
 use Rattle.ga_source.specs.Cells.{Placed, placed_at, placed_by, placed_from, Laid, up_to_next, laid_of, cells_among, groups_of, laid_by}
 use Rattle.ga_source.specs.inner.{after_all, Extends, IsInCell, IsWalked, IsClosed, IsFilling, places_in, group_places, HasLines, packer_places, IsGrouped, IsPutting, IsGathered}
@@ -23,7 +23,7 @@ use Rattle.ga_source.proofs.Marking.{label_extends}
 -- ---- places
 
 -- one request more
-pub placed-push : (labels : List (Option ℕ)) (spot : Spot) (asked : List Asked) (one : Asked) → placed_from labels spot (asked ++ one ∷ []) ≡ placed_from labels spot asked ++ placed_by labels (after_all labels spot asked) one.request one.line
+pub placed-push : (labels : List (Option ℕ)) (spot : PackingSpot) (asked : List LocatedRequest) (one : LocatedRequest) → placed_from labels spot (asked ++ one ∷ []) ≡ placed_from labels spot asked ++ placed_by labels (after_all labels spot asked) one.request one.line
 unfolding placed_from after_all
 placed-push labels spot [] one = append-nil (placed_by labels spot one.request one.line)
 placed-push labels spot (first ∷ rest) one =
@@ -80,11 +80,11 @@ gathered_group before after group pushed address items lines none begun = record
 
 -- ---- an item to be put
 
-pub putting_here : (p : Packer) (before : List Asked) (one : Asked) (item : Item) → ((labels : List (Option ℕ)) → Extends p.labels.items labels → placed_by labels p.spot one.request one.line ≡ placed_at p.spot item one.line ∷ []) → IsWalked p before → IsGrouped p before → IsPutting p (before ++ one ∷ []) item one.line
+pub putting_here : (p : Packer) (before : List LocatedRequest) (one : LocatedRequest) (item : Item) → ((labels : List (Option ℕ)) → Extends p.labels.items labels → placed_by labels p.spot one.request one.line ≡ placed_at p.spot item one.line ∷ []) → IsWalked p before → IsGrouped p before → IsPutting p (before ++ one ∷ []) item one.line
 putting_here p before one item puts w g = record {
   places = λ labels more.
       placed-push labels (begin_at 0) before one
-      ∙ (ap (λ (spot : Spot). placed_from labels (begin_at 0) before ++ placed_by labels spot one.request one.line) (w.walk labels more)
+      ∙ (ap (λ (spot : PackingSpot). placed_from labels (begin_at 0) before ++ placed_by labels spot one.request one.line) (w.walk labels more)
       ∙ (ap (λ (places : List Placed). placed_from labels (begin_at 0) before ++ places) (puts labels more)
       ∙ ap (λ (places : List Placed). places ++ placed_at p.spot item one.line ∷ []) (g.places labels more)));
   groups = g.groups;
@@ -105,21 +105,21 @@ closed_lines p q size closed gathered = ap length (gathered.lines size) ∙ sym 
 same_labels : (p q : Packer) (labels : List (Option ℕ)) → q.labels.items ≡ p.labels.items → Extends q.labels.items labels → Extends p.labels.items labels
 same_labels p q labels e more = subst (λ (known : List (Option ℕ)). Extends known labels) e more
 
-pub putting_next : (p q : Packer) (s : Spot) (before : List Asked) (one : Asked) (item : Item) → ((labels : List (Option ℕ)) → Extends p.labels.items labels → placed_by labels p.spot one.request one.line ≡ placed_at s item one.line ∷ []) → IsWalked p before → IsGrouped p before → IsClosed p q → IsGathered p q → IsPutting (record q { spot = s }) (before ++ one ∷ []) item one.line
+pub putting_next : (p q : Packer) (s : PackingSpot) (before : List LocatedRequest) (one : LocatedRequest) (item : Item) → ((labels : List (Option ℕ)) → Extends p.labels.items labels → placed_by labels p.spot one.request one.line ≡ placed_at s item one.line ∷ []) → IsWalked p before → IsGrouped p before → IsClosed p q → IsGathered p q → IsPutting (record q { spot = s }) (before ++ one ∷ []) item one.line
 putting_next p q s before one item puts w g closed gathered = record {
   places = λ labels e.
       let more = same_labels p q labels closed.labels_stay e in
       placed-push labels (begin_at 0) before one
-      ∙ (ap (λ (spot : Spot). placed_from labels (begin_at 0) before ++ placed_by labels spot one.request one.line) (w.walk labels more)
+      ∙ (ap (λ (spot : PackingSpot). placed_from labels (begin_at 0) before ++ placed_by labels spot one.request one.line) (w.walk labels more)
       ∙ (ap (λ (places : List Placed). placed_from labels (begin_at 0) before ++ places) (puts labels more)
       ∙ ap (λ (places : List Placed). places ++ placed_at s item one.line ∷ []) (g.places labels more ∙ closed_places p q s.at closed gathered)));
   groups = gathered.groups g.lines g.whole g.groups;
   lines = closed_lines p q g.lines closed gathered;
 }
 
-pub putting_unext : (p q : Packer) (before : List Asked) (line label : ℕ) → q.filling.items ≡ p.filling.items → q.lines.items ≡ p.lines.items → q.spot ≡ p.spot → q.groups.items ≡ p.groups.items → q.labels.items ≡ p.labels.items → IsWalked p before → IsGrouped p before → IsPutting q (before ++ record { line = line; request = Unext label } ∷ []) (Opcode UnextOp) line
+pub putting_unext : (p q : Packer) (before : List LocatedRequest) (line label : ℕ) → q.filling.items ≡ p.filling.items → q.lines.items ≡ p.lines.items → q.spot ≡ p.spot → q.groups.items ≡ p.groups.items → q.labels.items ≡ p.labels.items → IsWalked p before → IsGrouped p before → IsPutting q (before ++ record { line = line; request = Unext label } ∷ []) (Opcode UnextOp) line
 putting_unext p q before line label filling lines spot_is groups labels_are w g =
-    let one : Asked = record { line = line; request = Unext label } in
+    let one : LocatedRequest = record { line = line; request = Unext label } in
     let here = putting_here p before one (Opcode UnextOp) (λ labels more. refl) w g in
     record {
       places = λ labels e.
@@ -127,14 +127,14 @@ putting_unext p q before line label filling lines spot_is groups labels_are w g 
           ∙ (ap (λ (g : List Group). (flat_map group_places g ++ places_in p.spot.at 0 p.filling.items p.lines.items) ++ placed_at p.spot (Opcode UnextOp) line ∷ []) (sym groups)
           ∙ (ap (λ (items : List Item). (flat_map group_places q.groups.items ++ places_in p.spot.at 0 items p.lines.items) ++ placed_at p.spot (Opcode UnextOp) line ∷ []) (sym filling)
           ∙ (ap (λ (list : List ℕ). (flat_map group_places q.groups.items ++ places_in p.spot.at 0 q.filling.items list) ++ placed_at p.spot (Opcode UnextOp) line ∷ []) (sym lines)
-          ∙ ap (λ (s : Spot). (flat_map group_places q.groups.items ++ places_in s.at 0 q.filling.items q.lines.items) ++ placed_at s (Opcode UnextOp) line ∷ []) (sym spot_is))));
+          ∙ ap (λ (s : PackingSpot). (flat_map group_places q.groups.items ++ places_in s.at 0 q.filling.items q.lines.items) ++ placed_at s (Opcode UnextOp) line ∷ []) (sym spot_is))));
       groups = subst (All HasLines) (sym groups) g.groups;
       lines = ap length lines ∙ (g.lines ∙ ap length (sym filling));
     }
 
 -- ---- an item that is put
 
-module _ (p : Packer) (asked : List Asked) (item : Item) (line : ℕ) (list : List Item) (numbers : List ℕ) (pushed : list ≡ p.filling.items ++ item ∷ []) (numbered : numbers ≡ p.lines.items ++ line ∷ []) (c : IsInCell p) (w : IsPutting p asked item line) where
+module _ (p : Packer) (asked : List LocatedRequest) (item : Item) (line : ℕ) (list : List Item) (numbers : List ℕ) (pushed : list ≡ p.filling.items ++ item ∷ []) (numbered : numbers ≡ p.lines.items ++ line ∷ []) (c : IsInCell p) (w : IsPutting p asked item line) where
   put_places : packer_places p ++ placed_at p.spot item line ∷ [] ≡ flat_map group_places p.groups.items ++ places_in p.spot.at 0 list numbers
   put_places =
       append_assoc (flat_map group_places p.groups.items) (places_in p.spot.at 0 p.filling.items p.lines.items) (placed_at p.spot item line ∷ [])
@@ -165,9 +165,9 @@ module _ (p : Packer) (asked : List Asked) (item : Item) (line : ℕ) (list : Li
   }
 
   -- the cell ends
-  pub put_closed : (s : Spot) (full q : Packer) → full.filling.items ≡ list → full.lines.items ≡ numbers → full.spot ≡ p.spot → full.groups.items ≡ p.groups.items → full.labels.items ≡ p.labels.items → IsClosed full q → IsGathered full q → IsGrouped (record q { spot = s }) asked
+  pub put_closed : (s : PackingSpot) (full q : Packer) → full.filling.items ≡ list → full.lines.items ≡ numbers → full.spot ≡ p.spot → full.groups.items ≡ p.groups.items → full.labels.items ≡ p.labels.items → IsClosed full q → IsGathered full q → IsGrouped (record q { spot = s }) asked
   put_closed s full q filling lines spot_is groups labels_are closed gathered =
-      let open_cell = put_open full filling lines (ap (λ (t : Spot). t.at) spot_is) groups labels_are in
+      let open_cell = put_open full filling lines (ap (λ (t : PackingSpot). t.at) spot_is) groups labels_are in
       record {
         places = λ labels e. open_cell.places labels (same_labels full q labels closed.labels_stay e) ∙ closed_places full q s.at closed gathered;
         groups = gathered.groups open_cell.lines open_cell.whole open_cell.groups;
@@ -177,7 +177,7 @@ module _ (p : Packer) (asked : List Asked) (item : Item) (line : ℕ) (list : Li
 
 -- ---- a request that puts nothing
 
-pub passed : (p q : Packer) (before : List Asked) (one : Asked) → ((labels : List (Option ℕ)) (spot : Spot) → placed_by labels spot one.request one.line ≡ []) → IsGrouped p before → IsClosed p q → IsGathered p q → (r : Packer) → r.groups.items ≡ q.groups.items → r.filling.items ≡ q.filling.items → r.lines.items ≡ q.lines.items → r.broken ≡ q.broken → Extends p.labels.items r.labels.items → IsGrouped r (before ++ one ∷ [])
+pub passed : (p q : Packer) (before : List LocatedRequest) (one : LocatedRequest) → ((labels : List (Option ℕ)) (spot : PackingSpot) → placed_by labels spot one.request one.line ≡ []) → IsGrouped p before → IsClosed p q → IsGathered p q → (r : Packer) → r.groups.items ≡ q.groups.items → r.filling.items ≡ q.filling.items → r.lines.items ≡ q.lines.items → r.broken ≡ q.broken → Extends p.labels.items r.labels.items → IsGrouped r (before ++ one ∷ [])
 passed p q before one puts g closed gathered r groups filling lines broken known =
     let empty : r.filling.items ≡ [] = filling ∙ closed.empty in
     record {
@@ -196,13 +196,13 @@ passed p q before one puts g closed gathered r groups filling lines broken known
     }
 
 -- a label is marked
-pub passed_mark : (p q : Packer) (before : List Asked) (one : Asked) (label address : ℕ) → one.request ≡ Mark label → IsGrouped p before → IsClosed p q → IsGathered p q → slice_index_or q.labels.items label None ≡ None → (r : Packer) → r.groups.items ≡ q.groups.items → r.filling.items ≡ q.filling.items → r.lines.items ≡ q.lines.items → r.broken ≡ q.broken → r.labels.items ≡ set q.labels.items label (Some address) → IsGrouped r (before ++ one ∷ [])
+pub passed_mark : (p q : Packer) (before : List LocatedRequest) (one : LocatedRequest) (label address : ℕ) → one.request ≡ Mark label → IsGrouped p before → IsClosed p q → IsGathered p q → slice_index_or q.labels.items label None ≡ None → (r : Packer) → r.groups.items ≡ q.groups.items → r.filling.items ≡ q.filling.items → r.lines.items ≡ q.lines.items → r.broken ≡ q.broken → r.labels.items ≡ set q.labels.items label (Some address) → IsGrouped r (before ++ one ∷ [])
 passed_mark p q before one label address is g closed gathered unknown r groups filling lines broken labels_are =
     passed p q before one (λ labels spot. ap (λ (request : Request). placed_by labels spot request one.line) is) g closed gathered r groups filling lines broken
     (subst (λ (known : List (Option ℕ)). Extends p.labels.items known) (sym labels_are)
     (subst (λ (known : List (Option ℕ)). Extends known (set q.labels.items label (Some address))) closed.labels_stay (label_extends q.labels.items label address unknown)))
 
-nothing_filling : (labels : List (Option ℕ)) (spot : Spot) (request : Request) (line : ℕ) → IsFilling request → placed_by labels spot request line ≡ []
+nothing_filling : (labels : List (Option ℕ)) (spot : PackingSpot) (request : Request) (line : ℕ) → IsFilling request → placed_by labels spot request line ≡ []
 nothing_filling labels spot Fill line h = refl
 nothing_filling labels spot (Go address) line h = refl
 nothing_filling labels spot (Carry is_set) line h = refl
@@ -211,7 +211,7 @@ nothing_filling labels spot (Unext label) line h = absurd h
 nothing_filling labels spot (Mark label) line h = absurd h
 
 -- the cell ends, and nothing more
-pub passed_on : (p q : Packer) (s : Spot) (before : List Asked) (one : Asked) → IsFilling one.request → IsGrouped p before → IsClosed p q → IsGathered p q → IsGrouped (record q { spot = s }) (before ++ one ∷ [])
+pub passed_on : (p q : Packer) (s : PackingSpot) (before : List LocatedRequest) (one : LocatedRequest) → IsFilling one.request → IsGrouped p before → IsClosed p q → IsGathered p q → IsGrouped (record q { spot = s }) (before ++ one ∷ [])
 passed_on p q s before one is_filling g closed gathered =
     passed p q before one (λ labels spot. nothing_filling labels spot one.request one.line is_filling) g closed gathered (record q { spot = s }) refl refl refl refl
     (λ k address known. subst (λ (list : List (Option ℕ)). slice_index_or list k None ≡ Some address) (sym closed.labels_stay) known)
@@ -302,7 +302,7 @@ all_cells (group ∷ groups) all =
     one_cell group.address group.items.items group.lines.items (flat_map group_places groups) first.begun first.each (groups_begin groups rest)
     ∙ ap (λ (cells : List Laid). laid_by group ∷ cells) (all_cells groups rest)
 
-pub grouped : (p q : Packer) (asked : List Asked) → IsGrouped p asked → IsClosed p q → IsGathered p q → map laid_by q.groups.items ≡ groups_of q.labels.items asked
+pub grouped : (p q : Packer) (asked : List LocatedRequest) → IsGrouped p asked → IsClosed p q → IsGathered p q → map laid_by q.groups.items ≡ groups_of q.labels.items asked
 grouped p q asked g closed gathered =
     let labels = q.labels.items in
     let more : Extends p.labels.items labels = λ k address known. subst (λ (list : List (Option ℕ)). slice_index_or list k None ≡ Some address) (sym closed.labels_stay) known in

@@ -15,8 +15,8 @@ use Rattle.ga_parser.specs.declared.item.Item.{Item}
 use Rattle.ga_parser.specs.declared.item.Item.TheVariants.{Opcode, Literal, Back, Ahead, Cell}
 use Rattle.ga_source.specs.declared.group.Group.{Group}
 use Rattle.ga_parser.specs.declared.item.Operand.TheVariants.{Label}
-use Rattle.ga_source.specs.declared.group.Spot.{Spot}
-use Rattle.ga_source.specs.Reading.{begin_at, behind, resolved, are_both, word_in, has_op, leads, item_stands, is_filled, ends_cell}
+use Rattle.ga_source.specs.declared.group.PackingSpot.{PackingSpot}
+use Rattle.ga_source.specs.Reading.{begin_at, spot_after, resolved, are_both, word_in, has_op, leads, item_stands, is_filled, ends_cell}
 use Rattle.ga_source.specs.Cells.{is_at, takes, KeepsElsewhere}
 use Rattle.ga_source.specs.inner.{nothing, behind_all, Stand, taken, spot_in, IsFit, IsRead, takes_group, are_taken, KeepsRest, HasItem, HasRest, HoldsRest, Holds, Keeps, MayEnd, IsWordOf, IsWriting, IsLoadedGroup}
 use Rattle.ga_source.proofs.Laying.{behind-same, behind-slot, Stand-push, taken-pop, empty_reads, step_spot, last_ends}
@@ -30,7 +30,7 @@ dots word slot = (nat_lt 1 slot || has_op word 1 Nop) && (nat_lt 2 slot || has_o
 has_op_by : (word slot : ℕ) (op : Op) → slot < 4 → opcode word slot ≡ op → has_op (Some word) slot op ≡ true
 has_op_by word slot op l e = and_from (nat_lt slot 4) (code_of (opcode word slot) == code_of op) (lt-ltb slot 4 l) (eq-eqb (code_of (opcode word slot)) (code_of op) (ap code_of e))
 
-stands_in : (node : NodeState) (labels : List (Option ℕ)) (word : ℕ) (spot : Spot) (item : Item) → spot.slot < 4 → MayEnd spot.slot item → HasItem labels word spot.slot item → HasRest node labels spot item → (found : Option ℕ) → found ≡ Some word → word_in node spot.at ≡ found → item_stands node labels spot item ≡ true
+stands_in : (node : NodeState) (labels : List (Option ℕ)) (word : ℕ) (spot : PackingSpot) (item : Item) → spot.slot < 4 → MayEnd spot.slot item → HasItem labels word spot.slot item → HasRest node labels spot item → (found : Option ℕ) → found ≡ Some word → word_in node spot.at ≡ found → item_stands node labels spot item ≡ true
 stands_in node labels word spot (Opcode op) l may has rest found e at = subst (λ (w : Option ℕ). has_op w spot.slot op ≡ true) (sym (at ∙ e)) (has_op_by word spot.slot op l has)
 stands_in node labels word spot (Literal value) l may has rest found e at = and_from (has_op (word_in node spot.at) spot.slot FetchP) (are_both (resolved labels value) (word_in node spot.p))
     (subst (λ (w : Option ℕ). has_op w spot.slot FetchP ≡ true) (sym (at ∙ e)) (has_op_by word spot.slot FetchP l has)) rest
@@ -47,14 +47,14 @@ stands_in node labels word spot (Cell value) l may has rest found e at = and_fro
 
 -- ---- what stays
 
-takes_cell : (spot : Spot) (item : Item) → takes spot item (spot.at % 512) ≡ true
+takes_cell : (spot : PackingSpot) (item : Item) → takes spot item (spot.at % 512) ≡ true
 takes_cell spot (Opcode op) = eq-eqb (spot.at % 512) (spot.at % 512) refl
 takes_cell spot (Literal value) = or_left (is_at spot.at (spot.at % 512)) (is_at spot.p (spot.at % 512)) (eq-eqb (spot.at % 512) (spot.at % 512) refl)
 takes_cell spot (Back op label) = eq-eqb (spot.at % 512) (spot.at % 512) refl
 takes_cell spot (Ahead op label) = eq-eqb (spot.at % 512) (spot.at % 512) refl
 takes_cell spot (Cell value) = eq-eqb (spot.at % 512) (spot.at % 512) refl
 
-takes_rest : (given : List (Option ℕ)) (spot : Spot) (item : Item) → ((cell : ℕ) → takes spot item cell ≡ true → Holds given cell) → HoldsRest given spot item
+takes_rest : (given : List (Option ℕ)) (spot : PackingSpot) (item : Item) → ((cell : ℕ) → takes spot item cell ≡ true → Holds given cell) → HoldsRest given spot item
 takes_rest given spot (Opcode op) held = tt
 takes_rest given spot (Literal value) held = held (spot.p % 512) (or_right (is_at spot.at (spot.p % 512)) (is_at spot.p (spot.p % 512)) (eq-eqb (spot.p % 512) (spot.p % 512) refl))
 takes_rest given spot (Back op label) held = tt
@@ -62,7 +62,7 @@ takes_rest given spot (Ahead op label) held = tt
 takes_rest given spot (Cell value) held = tt
 
 -- what an item takes is its cell and that of its literal
-holds_taken : (given : List (Option ℕ)) (spot : Spot) (item : Item) → Holds given (spot.at % 512) → HoldsRest given spot item → (cell : ℕ) → takes spot item cell ≡ true → Holds given cell
+holds_taken : (given : List (Option ℕ)) (spot : PackingSpot) (item : Item) → Holds given (spot.at % 512) → HoldsRest given spot item → (cell : ℕ) → takes spot item cell ≡ true → Holds given cell
 holds_taken given spot (Opcode op) at rest cell h = subst (Holds given) (eqb-true (spot.at % 512) cell h) at
 holds_taken given spot (Literal value) at rest cell h = elim (or_cases (is_at spot.at cell) (is_at spot.p cell) h) [
   | inl e ↦ subst (Holds given) (eqb-true (spot.at % 512) cell e) at
@@ -73,18 +73,18 @@ holds_taken given spot (Ahead op label) at rest cell h = subst (Holds given) (eq
 holds_taken given spot (Cell value) at rest cell h = subst (Holds given) (eqb-true (spot.at % 512) cell h) at
 
 -- behind some items the cell is one that they take, or nothing of it is read
-end_held : (given : List (Option ℕ)) (spot : Spot) (items : List Item) → (spot.slot ≡ 0) ⊎ Holds given (spot.at % 512) → ((cell : ℕ) → taken spot items cell ≡ true → Holds given cell) → ((behind_all spot items).slot ≡ 0) ⊎ Holds given ((behind_all spot items).at % 512)
+end_held : (given : List (Option ℕ)) (spot : PackingSpot) (items : List Item) → (spot.slot ≡ 0) ⊎ Holds given (spot.at % 512) → ((cell : ℕ) → taken spot items cell ≡ true → Holds given cell) → ((behind_all spot items).slot ≡ 0) ⊎ Holds given ((behind_all spot items).at % 512)
 unfolding taken behind_all
 end_held given spot [] at held = at
-end_held given spot (item ∷ rest) at held = end_held given (behind spot item) rest
-    (elim (cases_eq (behind spot item).slot 0) [
+end_held given spot (item ∷ rest) at held = end_held given (spot_after spot item) rest
+    (elim (cases_eq (spot_after spot item).slot 0) [
       | inl e ↦ inl e
-      | inr other ↦ inr (subst (λ (a : ℕ). Holds given (a % 512)) (sym (behind-same spot item other)) (held (spot.at % 512) (or_left (takes spot item (spot.at % 512)) (taken (behind spot item) rest (spot.at % 512)) (takes_cell spot item))))
+      | inr other ↦ inr (subst (λ (a : ℕ). Holds given (a % 512)) (sym (behind-same spot item other)) (held (spot.at % 512) (or_left (takes spot item (spot.at % 512)) (taken (spot_after spot item) rest (spot.at % 512)) (takes_cell spot item))))
     ])
-    (λ cell e. held cell (or_right (takes spot item cell) (taken (behind spot item) rest cell) e))
+    (λ cell e. held cell (or_right (takes spot item cell) (taken (spot_after spot item) rest cell) e))
 
 module _ (before after : NodeState) (given later : List (Option ℕ)) (keeps : Keeps before given after later) where
-  stands_stays : (labels : List (Option ℕ)) (spot : Spot) (item : Item) → Holds given (spot.at % 512) → HoldsRest given spot item → item_stands after labels spot item ≡ item_stands before labels spot item
+  stands_stays : (labels : List (Option ℕ)) (spot : PackingSpot) (item : Item) → Holds given (spot.at % 512) → HoldsRest given spot item → item_stands after labels spot item ≡ item_stands before labels spot item
   stands_stays labels spot (Opcode op) at rest = ap (λ (w : Option ℕ). has_op w spot.slot op) ((keeps spot.at at).0)
   stands_stays labels spot (Literal value) at rest =
       ap (λ (w : Option ℕ). has_op w spot.slot FetchP && are_both (resolved labels value) (word_in after spot.p)) ((keeps spot.at at).0)
@@ -93,13 +93,13 @@ module _ (before after : NodeState) (given later : List (Option ℕ)) (keeps : K
   stands_stays labels spot (Ahead op label) at rest = ap (λ (w : Option ℕ). has_op w spot.slot op && leads w spot.slot spot.p (resolved labels (Label label))) ((keeps spot.at at).0)
   stands_stays labels spot (Cell value) at rest = ap (λ (w : Option ℕ). spot.slot == 0 && are_both (resolved labels value) w) ((keeps spot.at at).0)
 
-  pub Stand_stays : (labels : List (Option ℕ)) (spot : Spot) (items : List Item) → ((cell : ℕ) → taken spot items cell ≡ true → Holds given cell) → Stand before labels spot items → Stand after labels spot items
+  pub Stand_stays : (labels : List (Option ℕ)) (spot : PackingSpot) (items : List Item) → ((cell : ℕ) → taken spot items cell ≡ true → Holds given cell) → Stand before labels spot items → Stand after labels spot items
   unfolding Stand taken
   Stand_stays labels spot [] held h = tt
   Stand_stays labels spot (item ∷ rest) held h =
-      let here = λ (cell : ℕ) (e : takes spot item cell ≡ true). held cell (or_left (takes spot item cell) (taken (behind spot item) rest cell) e) in (
+      let here = λ (cell : ℕ) (e : takes spot item cell ≡ true). held cell (or_left (takes spot item cell) (taken (spot_after spot item) rest cell) e) in (
         stands_stays labels spot item (here (spot.at % 512) (takes_cell spot item)) (takes_rest given spot item here) ∙ h.0,
-        Stand_stays labels (behind spot item) rest (λ cell e. held cell (or_right (takes spot item cell) (taken (behind spot item) rest cell) e)) h.1,
+        Stand_stays labels (spot_after spot item) rest (λ cell e. held cell (or_right (takes spot item cell) (taken (spot_after spot item) rest cell) e)) h.1,
       )
 
   -- what was given, by its number
@@ -108,7 +108,7 @@ module _ (before after : NodeState) (given later : List (Option ℕ)) (keeps : K
       let small : cell % 512 ≡ cell = elim held.in_memory [ inl l ↦ omega arith | inr h ↦ (let low : 128 ≤ cell = h.0 in let high : cell < 192 = h.1 in omega arith) ] in
       subst (Holds later) small ((keeps cell (subst (Holds given) (sym small) held)).1)
 
-  filled_stays : (spot : Spot) → (spot.slot ≡ 0) ⊎ Holds given (spot.at % 512) → is_filled before spot ≡ true → is_filled after spot ≡ true
+  filled_stays : (spot : PackingSpot) → (spot.slot ≡ 0) ⊎ Holds given (spot.at % 512) → is_filled before spot ≡ true → is_filled after spot ≡ true
   filled_stays spot where_is h = elim where_is [
     | inl e ↦ or_left (spot.slot == 0) (dots (word_in after spot.at) spot.slot) (eq-eqb spot.slot 0 e)
     | inr held ↦ ap (λ (w : Option ℕ). spot.slot == 0 || dots w spot.slot) ((keeps spot.at held).0) ∙ h
@@ -157,11 +157,11 @@ elsewhere_less named less first second sub one = record {
 
 -- ---- a whole group
 
-pub taken_at : (spot : Spot) (items : List Item) (i cell : ℕ) → i < length items → takes (behind_all spot (take i items)) (slice_index_or items i nothing) cell ≡ true → taken spot items cell ≡ true
+pub taken_at : (spot : PackingSpot) (items : List Item) (i cell : ℕ) → i < length items → takes (behind_all spot (take i items)) (slice_index_or items i nothing) cell ≡ true → taken spot items cell ≡ true
 unfolding taken behind_all
 taken_at spot [] i cell l h = absurd (omega arith)
-taken_at spot (first ∷ rest) zero cell l h = or_left (takes spot first cell) (taken (behind spot first) rest cell) h
-taken_at spot (first ∷ rest) (suc i) cell l h = or_right (takes spot first cell) (taken (behind spot first) rest cell) (taken_at (behind spot first) rest i cell (omega arith) h)
+taken_at spot (first ∷ rest) zero cell l h = or_left (takes spot first cell) (taken (spot_after spot first) rest cell) h
+taken_at spot (first ∷ rest) (suc i) cell l h = or_right (takes spot first cell) (taken (spot_after spot first) rest cell) (taken_at (spot_after spot first) rest i cell (omega arith) h)
 
 pub group_at : (groups : List Group) (i cell : ℕ) (none : Group) → i < length groups → takes_group cell (slice_index_or groups i none) ≡ true → are_taken groups cell ≡ true
 group_at groups i cell none l h = list_any_at (takes_group cell) groups i none l h
@@ -198,19 +198,19 @@ dots_by node address word size at some few nops =
     (elim (cases_lt 2 size) [ inl l ↦ or_left (nat_lt 2 size) (has_op w 2 Nop) (lt-ltb 2 size l) | inr l ↦ or_right (nat_lt 2 size) (has_op w 2 Nop) (dot_by node address word 2 at (omega arith) (nops 2 l (omega arith))) ]))
     (dot_by node address word 3 at (omega arith) (nops 3 (omega arith) (omega arith)))
 
-filled_at : (node : NodeState) (labels : List (Option ℕ)) (address word n : ℕ) (items : List Item) (spot : Spot) → length items ≡ n + 1 → length items ≤ 4 → IsFit labels address items → IsWordOf labels items word → word_in node address ≡ Some word → spot ≡ behind (spot_in address items n) (slice_index_or items n nothing) → is_filled node spot ≡ true
+filled_at : (node : NodeState) (labels : List (Option ℕ)) (address word n : ℕ) (items : List Item) (spot : PackingSpot) → length items ≡ n + 1 → length items ≤ 4 → IsFit labels address items → IsWordOf labels items word → word_in node address ≡ Some word → spot ≡ spot_after (spot_in address items n) (slice_index_or items n nothing) → is_filled node spot ≡ true
 filled_at node labels address word n items spot size few fit is_word at is_spot = elim (cases_eq spot.slot 0) [
   | inl e ↦ or_left (spot.slot == 0) (dots (word_in node spot.at) spot.slot) (eq-eqb spot.slot 0 e)
   | inr other ↦
       let last = spot_in address items n in
       let item = slice_index_or items n nothing in
       let l : n < length items = omega arith in
-      let open_cell : (behind last item).slot ≢ 0 = (λ e. other (ap (λ (s : Spot). s.slot) is_spot ∙ e)) in
+      let open_cell : (spot_after last item).slot ≢ 0 = (λ e. other (ap (λ (s : PackingSpot). s.slot) is_spot ∙ e)) in
       let parts = behind-slot last item open_cell in
-      let slot : spot.slot ≡ n + 1 = ap (λ (s : Spot). s.slot) is_spot ∙ (parts.0 ∙ ap (λ (k : ℕ). k + 1) (fit.slots n l)) in
+      let slot : spot.slot ≡ n + 1 = ap (λ (s : PackingSpot). s.slot) is_spot ∙ (parts.0 ∙ ap (λ (k : ℕ). k + 1) (fit.slots n l)) in
       let n_is : n ≢ 3 = (λ e. parts.1 (fit.slots n l ∙ e)) in
       let small : n + 1 < 4 = elim (cases_lt (n + 1) 4) [ inl h ↦ h | inr h ↦ absurd (n_is (omega arith)) ] in
-      let cell : spot.at ≡ address = ap (λ (s : Spot). s.at) is_spot ∙ (behind-same last item open_cell ∙ fit.cells n l) in
+      let cell : spot.at ≡ address = ap (λ (s : PackingSpot). s.at) is_spot ∙ (behind-same last item open_cell ∙ fit.cells n l) in
       let end : length items - 1 ≡ n = omega arith in
       or_right (spot.slot == 0) (dots (word_in node spot.at) spot.slot)
       (subst (λ (k : ℕ). dots (word_in node spot.at) k ≡ true) (sym slot)
@@ -250,7 +250,7 @@ empty_loaded node labels given group whole empty = record {
 pub rest_both : (first second third : NodeState) → KeepsRest first second → KeepsRest second third → KeepsRest first third
 rest_both first second third one two = two ∙ ap (λ (node : NodeState). record node { ram = third.ram; rom = third.rom }) one
 
-takes_own : (spot : Spot) (item : Item) (cell : ℕ) → is_at spot.at cell ≡ true → takes spot item cell ≡ true
+takes_own : (spot : PackingSpot) (item : Item) (cell : ℕ) → is_at spot.at cell ≡ true → takes spot item cell ≡ true
 takes_own spot (Opcode op) cell h = h
 takes_own spot (Literal value) cell h = or_left (is_at spot.at cell) (is_at spot.p cell) h
 takes_own spot (Back op label) cell h = h
@@ -260,9 +260,9 @@ takes_own spot (Cell value) cell h = h
 own_cell : (address : ℕ) (items : List Item) (cell : ℕ) → 0 < length items → is_at address cell ≡ true → taken (begin_at address) items cell ≡ true
 unfolding taken
 own_cell address [] cell some h = absurd (omega arith)
-own_cell address (first ∷ rest) cell some h = or_left (takes (begin_at address) first cell) (taken (behind (begin_at address) first) rest cell) (takes_own (begin_at address) first cell h)
+own_cell address (first ∷ rest) cell some h = or_left (takes (begin_at address) first cell) (taken (spot_after (begin_at address) first) rest cell) (takes_own (begin_at address) first cell h)
 
-pub written_first : (before node : NodeState) (given later labels : List (Option ℕ)) (group : Group) (word : ℕ) (spot : Spot) → 0 < length group.items.items → IsWordOf labels group.items.items word → KeepsRest before node → KeepsElsewhere (is_at group.address) before node → word_in node group.address ≡ Some word → Holds later (group.address % 512) → Keeps before given node later → spot ≡ begin_at group.address → IsWriting before given node later labels group spot 0
+pub written_first : (before node : NodeState) (given later labels : List (Option ℕ)) (group : Group) (word : ℕ) (spot : PackingSpot) → 0 < length group.items.items → IsWordOf labels group.items.items word → KeepsRest before node → KeepsElsewhere (is_at group.address) before node → word_in node group.address ≡ Some word → Holds later (group.address % 512) → Keeps before given node later → spot ≡ begin_at group.address → IsWriting before given node later labels group spot 0
 unfolding behind_all Stand taken
 written_first before node given later labels group word spot some is_word rest elsewhere stands_there held kept spot_is = record {
   where_is = spot_is;
@@ -275,7 +275,7 @@ written_first before node given later labels group word spot some is_word rest e
   cells = λ cell h. absurd (true≢false (sym h));
 }
 
-pub written_more : (before node next : NodeState) (given later given_next labels : List (Option ℕ)) (group : Group) (spot spot_next : Spot) (i : ℕ) → IsWriting before given node later labels group spot i → i < length group.items.items → length group.items.items ≤ 4 → IsFit labels group.address group.items.items → KeepsRest node next → KeepsElsewhere (takes spot (slice_index_or group.items.items i nothing)) node next → HasRest next labels spot (slice_index_or group.items.items i nothing) → HoldsRest given_next spot (slice_index_or group.items.items i nothing) → Keeps node later next given_next → spot_next ≡ behind spot (slice_index_or group.items.items i nothing) → IsWriting before given next given_next labels group spot_next (i + 1)
+pub written_more : (before node next : NodeState) (given later given_next labels : List (Option ℕ)) (group : Group) (spot spot_next : PackingSpot) (i : ℕ) → IsWriting before given node later labels group spot i → i < length group.items.items → length group.items.items ≤ 4 → IsFit labels group.address group.items.items → KeepsRest node next → KeepsElsewhere (takes spot (slice_index_or group.items.items i nothing)) node next → HasRest next labels spot (slice_index_or group.items.items i nothing) → HoldsRest given_next spot (slice_index_or group.items.items i nothing) → Keeps node later next given_next → spot_next ≡ spot_after spot (slice_index_or group.items.items i nothing) → IsWriting before given next given_next labels group spot_next (i + 1)
 written_more before node next given later given_next labels group spot spot_next i w l few fit rest elsewhere has held kept is_next =
     let items = group.items.items in
     let item = slice_index_or items i nothing in
@@ -283,28 +283,28 @@ written_more before node next given later given_next labels group spot spot_next
     let cell_word : word_in next group.address ≡ Some w.has_word.word = (kept group.address w.held).0 ∙ w.has_word.in_cell in
     let cell_held : Holds given_next (group.address % 512) = (kept group.address w.held).1 in
     record {
-      where_is = is_next ∙ (ap (λ (s : Spot). behind s item) here ∙ sym (step_spot group.address items i l));
+      where_is = is_next ∙ (ap (λ (s : PackingSpot). spot_after s item) here ∙ sym (step_spot group.address items i l));
       rest = rest_both before node next w.rest rest;
-      elsewhere = elsewhere_both (λ (cell : ℕ). takes_group cell group) (takes spot item) before node next (λ cell h. taken_at (begin_at group.address) items i cell l (subst (λ (s : Spot). takes s item cell ≡ true) here h)) w.elsewhere elsewhere;
+      elsewhere = elsewhere_both (λ (cell : ℕ). takes_group cell group) (takes spot item) before node next (λ cell h. taken_at (begin_at group.address) items i cell l (subst (λ (s : PackingSpot). takes s item cell ≡ true) here h)) w.elsewhere elsewhere;
       kept = keeps_both before node next given later given_next w.kept kept;
       has_word = record { word = w.has_word.word; is_word = w.has_word.is_word; in_cell = cell_word };
       held = cell_held;
-      so_far = stand_more next labels group.address w.has_word.word items i l few fit w.has_word.is_word cell_word (subst (λ (s : Spot). HasRest next labels s item) here has)
+      so_far = stand_more next labels group.address w.has_word.word items i l few fit w.has_word.is_word cell_word (subst (λ (s : PackingSpot). HasRest next labels s item) here has)
           (Stand_stays node next later given_next kept labels (begin_at group.address) (take i items) w.cells w.so_far);
-      cells = held_more labels given_next group.address items i l fit cell_held (subst (λ (s : Spot). HoldsRest given_next s item) here held)
+      cells = held_more labels given_next group.address items i l fit cell_held (subst (λ (s : PackingSpot). HoldsRest given_next s item) here held)
           (λ cell h. holds_stays node next later given_next kept cell (w.cells cell h));
     }
 
 -- the same with the item under another name
-pub written_step : (before node next : NodeState) (given later given_next labels : List (Option ℕ)) (group : Group) (spot spot_next : Spot) (i : ℕ) (item : Item) → item ≡ slice_index_or group.items.items i nothing → IsWriting before given node later labels group spot i → i < length group.items.items → length group.items.items ≤ 4 → IsFit labels group.address group.items.items → KeepsRest node next → KeepsElsewhere (takes spot item) node next → HasRest next labels spot item → HoldsRest given_next spot item → Keeps node later next given_next → spot_next ≡ behind spot item → IsWriting before given next given_next labels group spot_next (i + 1)
+pub written_step : (before node next : NodeState) (given later given_next labels : List (Option ℕ)) (group : Group) (spot spot_next : PackingSpot) (i : ℕ) (item : Item) → item ≡ slice_index_or group.items.items i nothing → IsWriting before given node later labels group spot i → i < length group.items.items → length group.items.items ≤ 4 → IsFit labels group.address group.items.items → KeepsRest node next → KeepsElsewhere (takes spot item) node next → HasRest next labels spot item → HoldsRest given_next spot item → Keeps node later next given_next → spot_next ≡ spot_after spot item → IsWriting before given next given_next labels group spot_next (i + 1)
 written_step before node next given later given_next labels group spot spot_next i item is_item w l few fit rest elsewhere has held kept is_next =
     written_more before node next given later given_next labels group spot spot_next i w l few fit rest
     (subst (λ (one : Item). KeepsElsewhere (takes spot one) node next) is_item elsewhere)
     (subst (λ (one : Item). HasRest next labels spot one) is_item has)
     (subst (λ (one : Item). HoldsRest given_next spot one) is_item held)
-    kept (is_next ∙ ap (λ (one : Item). behind spot one) is_item)
+    kept (is_next ∙ ap (λ (one : Item). spot_after spot one) is_item)
 
-pub written_last : (before node : NodeState) (given later labels : List (Option ℕ)) (group : Group) (spot : Spot) (i : ℕ) → IsWriting before given node later labels group spot i → length group.items.items ≤ i → 0 < length group.items.items → length group.items.items ≤ 4 → IsFit labels group.address group.items.items → group.broken ≡ None → IsLoadedGroup node labels later group
+pub written_last : (before node : NodeState) (given later labels : List (Option ℕ)) (group : Group) (spot : PackingSpot) (i : ℕ) → IsWriting before given node later labels group spot i → length group.items.items ≤ i → 0 < length group.items.items → length group.items.items ≤ 4 → IsFit labels group.address group.items.items → group.broken ≡ None → IsLoadedGroup node labels later group
 written_last before node given later labels group spot i w all some few fit whole =
     let items = group.items.items in
     let same = take_all i items all in
@@ -312,9 +312,9 @@ written_last before node given later labels group spot i w all some few fit whol
     (subst (Stand node labels (begin_at group.address)) same w.so_far)
     (λ cell h. w.cells cell (subst (λ (list : List Item). taken (begin_at group.address) list cell ≡ true) (sym same) h))
 
-pub slot_there : (before node : NodeState) (given later labels : List (Option ℕ)) (group : Group) (spot : Spot) (i : ℕ) → IsWriting before given node later labels group spot i → i < length group.items.items → length group.items.items ≤ 4 → IsFit labels group.address group.items.items → spot.slot < 4
+pub slot_there : (before node : NodeState) (given later labels : List (Option ℕ)) (group : Group) (spot : PackingSpot) (i : ℕ) → IsWriting before given node later labels group spot i → i < length group.items.items → length group.items.items ≤ 4 → IsFit labels group.address group.items.items → spot.slot < 4
 slot_there before node given later labels group spot i w l few fit =
-    let slot : spot.slot ≡ i = ap (λ (s : Spot). s.slot) w.where_is ∙ fit.slots i l in omega arith
+    let slot : spot.slot ≡ i = ap (λ (s : PackingSpot). s.slot) w.where_is ∙ fit.slots i l in omega arith
 
 -- the groups so far and one more
 pub loaded_more : (before after : NodeState) (given later labels : List (Option ℕ)) (groups : List Group) (i : ℕ) (none : Group) → i < length groups → Keeps before given after later → All (IsLoadedGroup before labels given) (take i groups) → IsLoadedGroup after labels later (slice_index_or groups i none) → All (IsLoadedGroup after labels later) (take (i + 1) groups)

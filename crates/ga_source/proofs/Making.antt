@@ -24,7 +24,7 @@ use Rattle.ga_parser.specs.declared.item.Operand.TheVariants.{Number}
 use Rattle.ga_parser.specs.declared.item.Item.TheVariants.{Cell}
 use Rattle.ga_parser.specs.declared.item.Request.{Request}
 use Rattle.ga_parser.specs.declared.item.Request.TheVariants.{Put, Go}
-use Rattle.ga_parser.specs.declared.item.Asked.{Asked}
+use Rattle.ga_parser.specs.declared.item.LocatedRequest.{LocatedRequest}
 use Rattle.ga_source.specs.Made.{with_cell, with_asked, address_behind, with_requests}
 
 -- what stands above some bits decides the bits of the word without its mask above them
@@ -242,10 +242,10 @@ pub record Stays (is_named : ℕ → Bool) (before after : NodeState) : Type 0 w
 
 module _ (labels : List (Option ℕ)) (after : NodeState) where
   -- requests that were read make the node from any before it
-  abbrev pub Makes : List Asked → Type 0
+  abbrev pub Makes : List LocatedRequest → Type 0
   Makes asked = (before : NodeState) (at : ℕ) → follows after labels (begin_at at) asked ≡ true → Stays (is_asked labels (begin_at at) asked) before after → AreCells (with_requests before at (requests_of asked)) after
 
-  cell_made : (n at : ℕ) (rest : List Asked) → (are_both (Some n) (word_of_target after (classified at)) && follows after labels (begin_at (advanced at)) rest) ≡ true → (before : NodeState) → Stays (λ k. is_at at k || is_asked labels (begin_at (advanced at)) rest k) before after → Makes rest → AreCells (with_requests (with_cell before (classified at) n) (advanced at) (requests_of rest)) after
+  cell_made : (n at : ℕ) (rest : List LocatedRequest) → (are_both (Some n) (word_of_target after (classified at)) && follows after labels (begin_at (advanced at)) rest) ≡ true → (before : NodeState) → Stays (λ k. is_at at k || is_asked labels (begin_at (advanced at)) rest k) before after → Makes rest → AreCells (with_requests (with_cell before (classified at) n) (advanced at) (requests_of rest)) after
   cell_made n at rest read before stays makes =
       let parts = and_parts (are_both (Some n) (word_of_target after (classified at))) (follows after labels (begin_at (advanced at)) rest) read in
       makes (with_cell before (classified at) n) (advanced at) parts.1 (record {
@@ -255,12 +255,12 @@ module _ (labels : List (Option ℕ)) (after : NodeState) where
         rom = λ k small none. rom_written before after at n k small (classified at) refl parts.0 stays.rom_size (λ other. stays.rom k small (or_none (is_at at (128 + k)) (is_asked labels (begin_at (advanced at)) rest (128 + k)) other none));
       })
 
-  request_made : (request : Request) (rest : List Asked) (at : ℕ) → IsPlainRequest request → (is_met after labels (begin_at at) request && follows after labels (after_request labels (begin_at at) request) rest) ≡ true → (before : NodeState) → Stays (λ k. asks_for labels (begin_at at) request k || is_asked labels (after_request labels (begin_at at) request) rest k) before after → Makes rest → AreCells (with_requests (with_asked before at request) (address_behind at request) (requests_of rest)) after
+  request_made : (request : Request) (rest : List LocatedRequest) (at : ℕ) → IsPlainRequest request → (is_met after labels (begin_at at) request && follows after labels (after_request labels (begin_at at) request) rest) ≡ true → (before : NodeState) → Stays (λ k. asks_for labels (begin_at at) request k || is_asked labels (after_request labels (begin_at at) request) rest k) before after → Makes rest → AreCells (with_requests (with_asked before at request) (address_behind at request) (requests_of rest)) after
   request_made (Put (Cell (Number n))) rest at plain read before stays makes = cell_made n at rest read before stays makes
   request_made (Go address) rest at plain read before stays makes = makes before address read stays
   request_made _ rest at plain read before stays makes = absurd plain
 
-  pub requests_made : (asked : List Asked) → ArePlain (requests_of asked) → Makes asked
+  pub requests_made : (asked : List LocatedRequest) → ArePlain (requests_of asked) → Makes asked
   unfolding ArePlain follows is_asked with_requests
   requests_made [] plain before at read stays = record { ram = λ k small. stays.ram k small refl; rom = λ k small. stays.rom k small refl }
   requests_made (one ∷ rest) plain before at read stays = request_made one.request rest at plain.0 read before stays (requests_made rest plain.1)

@@ -16,12 +16,12 @@ use Rattle.ga_ports.specs.declared.address.Target.TheVariants.{Ram, Rom, Io, Por
 use Rattle.ga_ports.specs.Address.{classified}
 use Rattle.ga_parser.specs.declared.item.Operand.{Operand}
 use Rattle.ga_parser.specs.declared.item.Operand.TheVariants.{Number, Label}
-use Rattle.ga_parser.specs.declared.item.Given.{Given}
+use Rattle.ga_parser.specs.declared.item.RegisterValue.{RegisterValue}
 use Rattle.ga_parser.specs.declared.item.Item.TheVariants.{Cell}
 use Rattle.ga_parser.specs.declared.item.Request.{Request}
 use Rattle.ga_parser.specs.declared.item.Request.TheVariants.{Put, Go}
 use Rattle.ga_parser.specs.declared.item.Registers.{Registers}
-use Rattle.ga_parser.specs.declared.item.Asked.{Asked}
+use Rattle.ga_parser.specs.declared.item.LocatedRequest.{LocatedRequest}
 use Rattle.ga_parser.specs.declared.labels.Label.{Label as Name}
 use Rattle.ga_ports.specs.Steps.{◌>>=◌}
 use Rattle.ga_parser.specs.Vocabulary.{number_by_word}
@@ -37,7 +37,7 @@ use Rattle.ga_parser.specs.declared.fault.Fault.{Fault}
 use Rattle.ga_parser.specs.declared.fault.SourceCause.TheVariants.{Memory}
 use Rattle.ga_source.specs.declared.program.Assembled.{Assembled}
 use Rattle.ga_parser.specs.declared.scan.Token.{Token}
-use Rattle.ga_parser.specs.Saying.{Said, said_in, all_said}
+use Rattle.ga_parser.specs.Saying.{TokenContent, said_in, token_contents}
 
 -- ---- A chip with programs is steady: none of its nodes waits
 
@@ -142,7 +142,7 @@ written_keeps node at (request ∷ requests) =
 
 -- ---- registers
 
-has_same : (asked : List Asked) → has_cells asked ≡ list_any is_item (requests_of asked)
+has_same : (asked : List LocatedRequest) → has_cells asked ≡ list_any is_item (requests_of asked)
 has_same [] = refl
 has_same (one ∷ rest) = ap (λ (b : Bool). is_item one.request || b) (has_same rest)
 
@@ -150,7 +150,7 @@ value_same : (labels : List (Option ℕ)) (value : Operand) (bound before : ℕ)
 value_same labels (Number n) bound before is = refl
 value_same labels (Label k) bound before is = absurd is
 
-register_same : (labels : List (Option ℕ)) (given : Option Given) (bound before : ℕ) → IsNumber bound (value_in given) → value_or (given_of labels given) before ≡ number_or (value_in given) before
+register_same : (labels : List (Option ℕ)) (given : Option RegisterValue) (bound before : ℕ) → IsNumber bound (value_in given) → value_or (given_of labels given) before ≡ number_or (value_in given) before
 register_same labels None bound before is = refl
 register_same labels (Some given) bound before is = value_same labels given.value bound before is
 
@@ -160,7 +160,7 @@ above_all (Number n) bound before other is = refl
 above_all (Label k) bound before other is = absurd is
 
 -- P where no label has a name
-p_same : (labels : List (Option ℕ)) (given : Option Given) (has : Bool) (before : ℕ) → IsNumber 0x400 (value_in given) → value_or (given_of labels (or_start given [] has)) before ≡ number_or (value_in given) (if has then 0 else before)
+p_same : (labels : List (Option ℕ)) (given : Option RegisterValue) (has : Bool) (before : ℕ) → IsNumber 0x400 (value_in given) → value_or (given_of labels (or_start given [] has)) before ≡ number_or (value_in given) (if has then 0 else before)
 p_same labels None true before is = refl
 p_same labels None false before is = refl
 p_same labels (Some given) true before is = value_same labels given.value 0x400 before is ∙ above_all given.value 0x400 before 0 is
@@ -254,16 +254,16 @@ source_made source chip programs read assembled = record {
 
 -- ---- what plain words ask for is in range
 
-pub plain_requests : (words : List (List ℕ)) (plain : Plain) (asked : List Asked) (registers : Registers) → plain_of words ≡ Some plain → asked_by asked registers ≡ plain → ArePlain (requests_of asked)
+pub plain_requests : (words : List (List ℕ)) (plain : Plain) (asked : List LocatedRequest) (registers : Registers) → plain_of words ≡ Some plain → asked_by asked registers ≡ plain → ArePlain (requests_of asked)
 plain_requests words plain asked registers is same = subst ArePlain (sym (ap (λ (p : Plain). p.requests) same)) (all_plain words plain is).requests
 
-start_number : (given : Option Given) (has : Bool) → IsNumber 0x400 (value_in given) → IsNumber 0x400 (value_in (or_start given [] has))
+start_number : (given : Option RegisterValue) (has : Bool) → IsNumber 0x400 (value_in given) → IsNumber 0x400 (value_in (or_start given [] has))
 start_number None true is = omega arith
 start_number None false is = tt
 start_number (Some given) true is = is
 start_number (Some given) false is = is
 
-pub plain_registers : (words : List (List ℕ)) (plain : Plain) (asked : List Asked) (registers : Registers) (names : List Name) (has : Bool) → plain_of words ≡ Some plain → asked_by asked registers ≡ plain → names ≡ [] → AreNumbers (value_in (at_load registers names has).p) (value_in (at_load registers names has).a) (value_in (at_load registers names has).b)
+pub plain_registers : (words : List (List ℕ)) (plain : Plain) (asked : List LocatedRequest) (registers : Registers) (names : List Name) (has : Bool) → plain_of words ≡ Some plain → asked_by asked registers ≡ plain → names ≡ [] → AreNumbers (value_in (at_load registers names has).p) (value_in (at_load registers names has).a) (value_in (at_load registers names has).b)
 plain_registers words plain asked registers names has is same none =
     let found = subst IsPlain (sym same) (all_plain words plain is) in
     record {
@@ -318,16 +318,16 @@ whole_node chip words n plain has name is sizes =
 
 -- ---- what is assembled of a source is what is assembled of its words
 
-pub asked_of_words : (source : List ℕ) (words : List Token) (result : Result Assembled Fault) → said_in source ≡ all_said words
-    → IfOk result (λ all. AreAskedBy (said_bodies (all_said words)) all.programs.items) → IfOk result (λ all. AreAsked source all.programs.items)
-asked_of_words source words result e asked = subst (λ (said : List Said). IfOk result (λ all. AreAskedBy (said_bodies said) all.programs.items)) (sym e) asked
+pub asked_of_words : (source : List ℕ) (words : List Token) (result : Result Assembled Fault) → said_in source ≡ token_contents words
+    → IfOk result (λ all. AreAskedBy (said_bodies (token_contents words)) all.programs.items) → IfOk result (λ all. AreAsked source all.programs.items)
+asked_of_words source words result e asked = subst (λ (said : List TokenContent). IfOk result (λ all. AreAskedBy (said_bodies said) all.programs.items)) (sym e) asked
 
-pub read_of_words : (source : List ℕ) (words : List Token) (result : Result Assembled Fault) → said_in source ≡ all_said words
-    → IfOk result (λ all. AreOf (bodies_in (texts_in (all_said words))) all.programs.items) → IfOk result (λ all. AreRead source all.programs.items)
-read_of_words source words result e read = subst (λ (said : List Said). IfOk result (λ all. AreOf (bodies_in (texts_in said)) all.programs.items)) (sym e) read
+pub read_of_words : (source : List ℕ) (words : List Token) (result : Result Assembled Fault) → said_in source ≡ token_contents words
+    → IfOk result (λ all. AreOf (bodies_in (texts_in (token_contents words))) all.programs.items) → IfOk result (λ all. AreRead source all.programs.items)
+read_of_words source words result e read = subst (λ (said : List TokenContent). IfOk result (λ all. AreOf (bodies_in (texts_in said)) all.programs.items)) (sym e) read
 
-pub refused_of_words : (source : List ℕ) (words : List Token) (result : Result Assembled Fault) → said_in source ≡ all_said words
-    → IfErr result (λ fault. (other : List ℕ) → said_in other ≡ all_said words → IsSoundSource other → fault.cause ≡ Memory) → IfErr result (λ fault. IsSoundSource source → fault.cause ≡ Memory)
+pub refused_of_words : (source : List ℕ) (words : List Token) (result : Result Assembled Fault) → said_in source ≡ token_contents words
+    → IfErr result (λ fault. (other : List ℕ) → said_in other ≡ token_contents words → IsSoundSource other → fault.cause ≡ Memory) → IfErr result (λ fault. IsSoundSource source → fault.cause ≡ Memory)
 refused_of_words source words (Ok all) e refused = refused
 refused_of_words source words (Err fault) e refused = refused source e
 

@@ -7,7 +7,7 @@ use Rattle.std.proofs.lemmas.List.Elements.{All-nil, All-cons, All-head, All-tai
 use Rattle.ga_parser.specs.declared.scan.TokenKind.{TokenKind}
 use Rattle.ga_parser.specs.declared.scan.TokenKind.TheVariants.{Word, LongLine, OpenComment}
 use Rattle.ga_parser.specs.declared.scan.Token.{Token}
-use Rattle.ga_parser.specs.Saying.{is_word, is_word_kind, said_in, all_said}
+use Rattle.ga_parser.specs.Saying.{is_word, is_word_kind, said_in, token_contents}
 use Rattle.ga_grid.specs.Grid.{node_number}
 use Rattle.ga_parser.specs.Plain.{Plain, is_node, body_in, bodies_in, yxx_in, words_in, plain_of}
 use Rattle.ga_source.specs.Made.{cells_from, AreDistinctCells, IsSoundBody, IsSoundSource}
@@ -102,10 +102,10 @@ kind_is Word e = refl
 kind_is LongLine e = absurd (subst (λ b. elim b as (λ _. Type 0) [ true ↦ ⊥ | false ↦ Unit {0} ]) e tt)
 kind_is OpenComment e = absurd (subst (λ b. elim b as (λ _. Type 0) [ true ↦ ⊥ | false ↦ Unit {0} ]) e tt)
 
-kinds_are : (tokens : List Token) → list_all is_word (all_said tokens) ≡ true → All (λ token. token.kind ≡ Word) tokens
+kinds_are : (tokens : List Token) → list_all is_word (token_contents tokens) ≡ true → All (λ token. token.kind ≡ Word) tokens
 kinds_are [] whole = All-nil (λ token. token.kind ≡ Word)
 kinds_are (token ∷ tokens) whole =
-    let parts = and_parts (is_word_kind token.kind) (list_all is_word (all_said tokens)) whole in
+    let parts = and_parts (is_word_kind token.kind) (list_all is_word (token_contents tokens)) whole in
     All-cons (λ t. t.kind ≡ Word) token tokens (kind_is token.kind parts.0) (kinds_are tokens parts.1)
 
 -- no node has begun
@@ -118,7 +118,7 @@ begun_none k = elim (cases_lt k 144) [
 pub none_there : (begun : List Bool) → begun ≡ replicate 144 false → (n : ℕ) → slice_index_or begun n false ≡ false
 none_there begun is n = ap (λ (list : List Bool). slice_index_or list n false) is ∙ begun_none n
 
-pub source_sound : (words : List Token) (begun : List Bool) → ((n : ℕ) → slice_index_or begun n false ≡ false) → (source : List ℕ) → said_in source ≡ all_said words → IsSoundSource source → IsSoundFrom begun words
+pub source_sound : (words : List Token) (begun : List Bool) → ((n : ℕ) → slice_index_or begun n false ≡ false) → (source : List ℕ) → said_in source ≡ token_contents words → IsSoundSource source → IsSoundFrom begun words
 source_sound words begun none source told sound =
     let texts : texts_of words ≡ words_in source = words_told source words (sym told) in
     record {

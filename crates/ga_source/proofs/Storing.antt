@@ -3,7 +3,7 @@ use Rattle.std.proofs.Common.{◌≡◌, ◌∙◌, ℕ, ◌+◌, ◌<◌, List,
 use Rattle.std.specs.Prelude.{slice_index}
 use Rattle.std.proofs.lemmas.List.{drop_more}
 use Rattle.ga_parser.specs.declared.item.Item.{Item}
-use Rattle.ga_parser.specs.declared.item.Asked.{Asked}
+use Rattle.ga_parser.specs.declared.item.LocatedRequest.{LocatedRequest}
 use Rattle.ga_source.specs.Reading.{p_behind, is_data_cell}
 use Rattle.ga_source.specs.declared.group.Group.{Group}
 use Rattle.ga_source.specs.declared.program.Program.{Program}
@@ -29,13 +29,13 @@ pub groups_all : (code : List ℕ) (groups : List Group) → groups ≡ [] → w
 unfolding with_groups
 groups_all code groups none = ap (with_groups code) none
 
-pub stores_more : (program : Program) (code : List ℕ) (known : Known) (asked : List Asked) (i : ℕ) (d : Asked) → i < length asked
+pub stores_more : (program : Program) (code : List ℕ) (known : Known) (asked : List LocatedRequest) (i : ℕ) (d : LocatedRequest) → i < length asked
     → stores_from program code known (drop i asked)
     ≡ with_store (store_of code known (get_or asked i d).line (get_or asked i d).request) (stores_from program code (known_behind program known (get_or asked i d).request) (drop (i + 1) asked))
 unfolding stores_from
 stores_more program code known asked i d within = ap (stores_from program code known) (drop_more asked i d within)
 
-pub stores_all : (program : Program) (code : List ℕ) (known : Known) (asked : List Asked) → asked ≡ [] → stores_from program code known asked ≡ []
+pub stores_all : (program : Program) (code : List ℕ) (known : Known) (asked : List LocatedRequest) → asked ≡ [] → stores_from program code known asked ≡ []
 unfolding stores_from
 stores_all program code known asked none = ap (stores_from program code known) none
 
@@ -43,7 +43,7 @@ put_in_front : (stores rest : List Store) (store : Option Store) → (stores ++ 
 put_in_front stores rest None = append_assoc stores [] rest
 put_in_front stores rest (Some store) = append_assoc stores (store ∷ []) rest
 
-pub store_step : (program : Program) (code : List ℕ) (known behind : Known) (asked : List Asked) (i : ℕ) (d : Asked) (stores after whole : List Store) (store : Option Store) → i < length asked
+pub store_step : (program : Program) (code : List ℕ) (known behind : Known) (asked : List LocatedRequest) (i : ℕ) (d : LocatedRequest) (stores after whole : List Store) (store : Option Store) → i < length asked
     → store ≡ store_of code known (get_or asked i d).line (get_or asked i d).request → after ≡ stores ++ with_store store [] → behind ≡ known_behind program known (get_or asked i d).request
     → stores ++ stores_from program code known (drop i asked) ≡ whole → after ++ stores_from program code behind (drop (i + 1) asked) ≡ whole
 store_step program code known behind asked i d stores after whole store within is added next all =

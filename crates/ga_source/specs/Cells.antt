@@ -8,9 +8,9 @@ use Rattle.ga_parser.specs.declared.item.Item.{Item}
 use Rattle.ga_parser.specs.declared.item.Item.TheVariants.{Literal, Opcode}
 use Rattle.ga_parser.specs.declared.item.Request.{Request}
 use Rattle.ga_parser.specs.declared.item.Request.TheVariants.{Put, Unext}
-use Rattle.ga_parser.specs.declared.item.Asked.{Asked}
+use Rattle.ga_parser.specs.declared.item.LocatedRequest.{LocatedRequest}
 use Rattle.ga_source.specs.declared.program.Program.{Program}
-use Rattle.ga_source.specs.declared.group.Spot.{Spot}
+use Rattle.ga_source.specs.declared.group.PackingSpot.{PackingSpot}
 use Rattle.ga_source.specs.Reading.{begin_at, spot_of, after_request}
 use Rattle.ga_slots.specs.declared.op.Op.TheVariants.{Unext as UnextOp}
 use Rattle.ga_source.specs.declared.group.Group.{Group}
@@ -20,18 +20,18 @@ abbrev pub is_at : ℕ → ℕ → Bool
 is_at address cell = address % 512 == cell
 
 -- the item stands in the cell, or its literal does
-abbrev pub takes : Spot → Item → ℕ → Bool
+abbrev pub takes : PackingSpot → Item → ℕ → Bool
 takes spot (Literal _) cell = is_at spot.at cell || is_at spot.p cell
 takes spot _ cell = is_at spot.at cell
 
 -- what the request asks for stands in the cell
-abbrev pub asks_for : List (Option ℕ) → Spot → Request → ℕ → Bool
+abbrev pub asks_for : List (Option ℕ) → PackingSpot → Request → ℕ → Bool
 asks_for labels spot (Put item) cell = takes (spot_of labels spot item) item cell
 asks_for labels spot (Unext _) cell = is_at spot.at cell
 asks_for labels spot _ cell = false
 
 -- from a spot on, one of the requests asks for the cell
-unfoldable pub is_asked : List (Option ℕ) → Spot → List Asked → ℕ → Bool
+unfoldable pub is_asked : List (Option ℕ) → PackingSpot → List LocatedRequest → ℕ → Bool
 is_asked labels spot [] cell = false
 is_asked labels spot (asked ∷ rest) cell = asks_for labels spot asked.request cell || is_asked labels (after_request labels spot asked.request) rest cell
 
@@ -62,17 +62,17 @@ pub record Placed : Type 0 where
   pub item : Item
   pub line : ℕ
 
-abbrev pub placed_at : Spot → Item → ℕ → Placed
+abbrev pub placed_at : PackingSpot → Item → ℕ → Placed
 placed_at spot item line = record { address = spot.at; slot = spot.slot; item = item; line = line }
 
 -- the item that a request asks for, where the walk stands at this spot
-abbrev pub placed_by : List (Option ℕ) → Spot → Request → ℕ → List Placed
+abbrev pub placed_by : List (Option ℕ) → PackingSpot → Request → ℕ → List Placed
 placed_by labels spot (Put item) line = placed_at (spot_of labels spot item) item line ∷ []
 placed_by labels spot (Unext _) line = placed_at spot (Opcode UnextOp) line ∷ []
 placed_by labels spot _ line = []
 
 -- the items that requests ask for, in order, from a spot on
-unfoldable pub placed_from : List (Option ℕ) → Spot → List Asked → List Placed
+unfoldable pub placed_from : List (Option ℕ) → PackingSpot → List LocatedRequest → List Placed
 placed_from labels spot [] = []
 placed_from labels spot (asked ∷ rest) = placed_by labels spot asked.request asked.line ++ placed_from labels (after_request labels spot asked.request) rest
 
@@ -103,7 +103,7 @@ cells_among [] = []
 cells_among (one ∷ rest) = if one.slot == 0 then laid_of one (up_to_next rest) ∷ cells_among rest else cells_among rest
 
 -- the cells of requests, where labels have these addresses
-abbrev pub groups_of : List (Option ℕ) → List Asked → List Laid
+abbrev pub groups_of : List (Option ℕ) → List LocatedRequest → List Laid
 groups_of labels asked = cells_among (placed_from labels (begin_at 0) asked)
 
 -- ---- programs

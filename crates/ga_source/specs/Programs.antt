@@ -2,7 +2,7 @@
 -- project's own).
 use Rattle.std.specs.Prelude.{ℕ, ◌≡◌, if◌then◌else◌, List, [], ◌∷◌, drop, slice_index_or, Some, ◌≢◌, Bool, true, false, Option, None, codes, position, bytes_eq}
 use Rattle.ga_source.specs.declared.program.Program.{Program}
-use Rattle.ga_parser.specs.Saying.{Said, said_in}
+use Rattle.ga_parser.specs.Saying.{TokenContent, said_in}
 use Rattle.ga_parser.specs.Plain.{Plain, is_node, yxx_in, plain_of, asked_by, words_in, bodies_in}
 use Rattle.ga_parser.specs.declared.item.NodeRequests.{NodeRequests}
 use Rattle.ga_parser.specs.Requests.{AreRequestsOf}
@@ -11,13 +11,13 @@ use Rattle.std.specs.Option.{option_map_or}
 use Rattle.ga_node.specs.Record.{NodeState}
 use Rattle.ga_grid.specs.Chip.{node_at}
 use Rattle.ga_grid.specs.Grid.{default_chip}
-use Rattle.ga_parser.specs.declared.item.Given.{Given}
+use Rattle.ga_parser.specs.declared.item.RegisterValue.{RegisterValue}
 use Rattle.ga_parser.specs.declared.item.Registers.{Registers}
 use Rattle.ga_parser.specs.declared.item.Operand.{Operand}
 use Rattle.ga_parser.specs.declared.item.Operand.TheVariants.{Number, Label as LabelOf}
 use Rattle.ga_parser.specs.declared.item.Request.{Request}
 use Rattle.ga_parser.specs.declared.item.Request.TheVariants.{Put, Unext}
-use Rattle.ga_parser.specs.declared.item.Asked.{Asked}
+use Rattle.ga_parser.specs.declared.item.LocatedRequest.{LocatedRequest}
 use Rattle.ga_parser.specs.declared.labels.Label.{Label}
 use Rattle.ga_source.specs.Reading.{resolved, begin_at, follows}
 use Rattle.ga_source.specs.Cells.{program_names, KeepsElsewhere}
@@ -25,12 +25,12 @@ use Rattle.ga_source.specs.Cells.{program_names, KeepsElsewhere}
 -- ---- the words of each node, with their lines
 
 -- the words up to the first `node`
-unfoldable pub said_body : List Said → List Said
+unfoldable pub said_body : List TokenContent → List TokenContent
 said_body [] = []
 said_body (said ∷ words) = if is_node said.text then [] else said ∷ said_body words
 
 -- for each `node` the words behind it, up to the next
-unfoldable pub said_bodies : List Said → List (List Said)
+unfoldable pub said_bodies : List TokenContent → List (List TokenContent)
 said_bodies [] = []
 said_bodies (said ∷ words) = if is_node said.text then said_body words ∷ said_bodies words else said_bodies words
 
@@ -41,17 +41,17 @@ abbrev pub requests_in : Program → NodeRequests
 requests_in program = record { asked = program.asked; names = program.names; registers = program.registers }
 
 -- The program begins on this line, and asks for just what the words behind its node's name ask for.
-pub record AsksFor (line : ℕ) (words : List Said) (program : Program) : Type 0 where
+pub record AsksFor (line : ℕ) (words : List TokenContent) (program : Program) : Type 0 where
   pub begins : program.line ≡ line
   pub requests : AreRequestsOf line words (requests_in program)
 
 -- the program of the words behind a `node`: the first is its node's name
-abbrev pub IsAsked : List Said → Program → Type 0
+abbrev pub IsAsked : List TokenContent → Program → Type 0
 IsAsked [] program = ⊥
 IsAsked (name ∷ words) program = (yxx_in name.text ≡ Some program.node.number) × AsksFor name.line words program
 
 -- the programs are those of these words, one for one and in order
-unfoldable pub AreAskedBy : List (List Said) → List Program → Type 0
+unfoldable pub AreAskedBy : List (List TokenContent) → List Program → Type 0
 AreAskedBy [] [] = Unit {0}
 AreAskedBy (words ∷ rest) (program ∷ programs) = IsAsked words program × AreAskedBy rest programs
 AreAskedBy [] (program ∷ programs) = ⊥
@@ -84,7 +84,7 @@ AreRead source programs = AreOf (bodies_in (words_in source)) programs
 -- ---- chips with programs (docs/REFERENCE.md, "Source"; the notation is this project's own)
 
 -- the value that a register is given
-abbrev pub given_of : List (Option ℕ) → Option Given → Option ℕ
+abbrev pub given_of : List (Option ℕ) → Option RegisterValue → Option ℕ
 given_of labels (Some given) = resolved labels given.value
 given_of labels None = None
 
@@ -108,7 +108,7 @@ is_item (Unext _) = true
 is_item _ = false
 
 -- one of the requests asks for an item, and so for a cell
-abbrev pub has_cells : List Asked → Bool
+abbrev pub has_cells : List LocatedRequest → Bool
 has_cells asked = list_any (λ one. is_item one.request) asked
 
 -- the label has this name
@@ -119,7 +119,7 @@ is_named name label = bytes_eq label.name.now name
 abbrev pub start_of : List Label → Operand
 start_of labels = option_map_or LabelOf (position (is_named (codes "main")) labels) (Number 0)
 
-abbrev pub or_start : Option Given → List Label → Bool → Option Given
+abbrev pub or_start : Option RegisterValue → List Label → Bool → Option RegisterValue
 or_start None labels true = Some (record { line = 0; value = start_of labels })
 or_start given _ _ = given
 

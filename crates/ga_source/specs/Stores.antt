@@ -8,7 +8,7 @@ use Rattle.ga_parser.specs.declared.item.Item.{Item}
 use Rattle.ga_parser.specs.declared.item.Item.TheVariants.{Opcode, Literal, Back, Ahead}
 use Rattle.ga_parser.specs.declared.item.Request.{Request}
 use Rattle.ga_parser.specs.declared.item.Request.TheVariants.{Put, Unext, Mark}
-use Rattle.ga_parser.specs.declared.item.Asked.{Asked}
+use Rattle.ga_parser.specs.declared.item.LocatedRequest.{LocatedRequest}
 use Rattle.ga_parser.specs.declared.labels.Label.{Label}
 use Rattle.ga_parser.specs.Saying.{has_bytes}
 use Rattle.ga_source.specs.Reading.{resolved, p_behind, is_data_cell}
@@ -110,7 +110,7 @@ with_store None stores = stores
 with_store (Some store) stores = store ∷ stores
 
 -- those of the requests, in their order, where this is known before the first
-unfoldable pub stores_from : Program → List ℕ → Known → List Asked → List Store
+unfoldable pub stores_from : Program → List ℕ → Known → List LocatedRequest → List Store
 stores_from program code known [] = []
 stores_from program code known (asked ∷ rest) =
     with_store (store_of code known asked.line asked.request) (stores_from program code (known_behind program known asked.request) rest)

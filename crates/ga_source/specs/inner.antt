@@ -6,14 +6,14 @@ use Rattle.ga_parser.specs.declared.item.Item.{Item}
 use Rattle.ga_parser.specs.declared.item.Item.TheVariants.{Opcode, Literal, Back, Ahead, Cell}
 use Rattle.std.specs.List.{All, list_any, flat_map}
 use Rattle.ga_node.specs.Record.{NodeState}
-use Rattle.ga_parser.specs.declared.item.Asked.{Asked}
+use Rattle.ga_parser.specs.declared.item.LocatedRequest.{LocatedRequest}
 use Rattle.ga_source.specs.declared.group.Group.{Group}
 use Rattle.ga_parser.specs.declared.item.Request.{Request}
 use Rattle.ga_parser.specs.declared.item.Request.TheVariants.{Fill, Go, Carry, Put}
-use Rattle.ga_source.specs.declared.packing.Packed.{Packed}
+use Rattle.ga_source.specs.declared.packing.PackedNode.{PackedNode}
 use Rattle.ga_source.specs.declared.packing.Packer.{Packer}
-use Rattle.ga_source.specs.declared.group.Spot.{Spot}
-use Rattle.ga_source.specs.Reading.{begin_at, behind, item_stands, is_filled, fits, is_met, after_request, follows, resolved, are_both, word_in, reaches, ends_cell}
+use Rattle.ga_source.specs.declared.group.PackingSpot.{PackingSpot}
+use Rattle.ga_source.specs.Reading.{begin_at, spot_after, item_stands, is_filled, fits, is_met, after_request, follows, resolved, are_both, word_in, reaches, ends_cell}
 use Rattle.ga_source.specs.Cells.{takes, is_asked, KeepsElsewhere, Placed, placed_at, placed_from}
 use Rattle.ga_node.specs.declared.place.Place.{Place}
 use Rattle.ga_node.specs.declared.place.Place.TheVariants.{Ram, Rom}
@@ -23,7 +23,7 @@ use Rattle.ga_parser.specs.declared.item.Operand.{Operand}
 use Rattle.ga_source.specs.Made.{address_behind, cells_from, cell_of, node_number_of_words, IsSoundBody}
 use Rattle.ga_source.specs.declared.program.Program.{Program}
 use Rattle.ga_source.specs.Programs.{IsAssembled, IsOf, IsAsked}
-use Rattle.ga_parser.specs.Saying.{Said}
+use Rattle.ga_parser.specs.Saying.{TokenContent}
 use Rattle.ga_parser.specs.declared.scan.TokenKind.TheVariants.{Word}
 use Rattle.ga_parser.specs.declared.scan.Token.{Token}
 use Rattle.ga_parser.specs.Plain.{body_in, bodies_in}
@@ -46,19 +46,19 @@ nothing = Opcode Return
 -- ---- the items of a cell
 
 -- the spot behind items
-unfoldable pub behind_all : Spot → List Item → Spot
+unfoldable pub behind_all : PackingSpot → List Item → PackingSpot
 behind_all spot [] = spot
-behind_all spot (item ∷ rest) = behind_all (behind spot item) rest
+behind_all spot (item ∷ rest) = behind_all (spot_after spot item) rest
 
 -- the items stand one behind the other
-unfoldable pub Stand : NodeState → List (Option ℕ) → Spot → List Item → Type 0
+unfoldable pub Stand : NodeState → List (Option ℕ) → PackingSpot → List Item → Type 0
 Stand node labels spot [] = Unit {0}
-Stand node labels spot (item ∷ rest) = (item_stands node labels spot item ≡ true) × Stand node labels (behind spot item) rest
+Stand node labels spot (item ∷ rest) = (item_stands node labels spot item ≡ true) × Stand node labels (spot_after spot item) rest
 
 -- one of the items or its literal stands in the cell
-unfoldable pub taken : Spot → List Item → ℕ → Bool
+unfoldable pub taken : PackingSpot → List Item → ℕ → Bool
 taken spot [] cell = false
-taken spot (item ∷ rest) cell = takes spot item cell || taken (behind spot item) rest cell
+taken spot (item ∷ rest) cell = takes spot item cell || taken (spot_after spot item) rest cell
 
 -- the cell reads as these items, with `.` behind
 pub record IsReadAt (node : NodeState) (labels : List (Option ℕ)) (address : ℕ) (items : List Item) : Type 0 where
@@ -66,7 +66,7 @@ pub record IsReadAt (node : NodeState) (labels : List (Option ℕ)) (address : �
   pub filled : is_filled node (behind_all (begin_at address) items) ≡ true
 
 -- the spot of an item of the cell
-abbrev pub spot_in : ℕ → List Item → ℕ → Spot
+abbrev pub spot_in : ℕ → List Item → ℕ → PackingSpot
 spot_in address items k = behind_all (begin_at address) (take k items)
 
 -- each item has room in its slot of the cell
@@ -94,12 +94,12 @@ are_taken groups cell = list_any (takes_group cell) groups
 -- ---- requests
 
 -- the spot behind requests
-unfoldable pub after_all : List (Option ℕ) → Spot → List Asked → Spot
+unfoldable pub after_all : List (Option ℕ) → PackingSpot → List LocatedRequest → PackingSpot
 after_all labels spot [] = spot
 after_all labels spot (asked ∷ rest) = after_all labels (after_request labels spot asked.request) rest
 
 -- each request is met where the walk comes to it
-unfoldable pub AreMet : NodeState → List (Option ℕ) → Spot → List Asked → Type 0
+unfoldable pub AreMet : NodeState → List (Option ℕ) → PackingSpot → List LocatedRequest → Type 0
 AreMet node labels spot [] = Unit {0}
 AreMet node labels spot (asked ∷ rest) = (is_met node labels spot asked.request ≡ true) × AreMet node labels (after_request labels spot asked.request) rest
 
@@ -121,7 +121,7 @@ pub record IsInCell (packer : Packer) : Type 0 where
 
 -- The requests so far are laid out: the walk through them ends at the packer's spot, and where the groups and the open cell
 -- read as their items, each request is met. Whatever the labels that aren't known yet will be.
-pub record IsWalked (packer : Packer) (asked : List Asked) : Type 0 where
+pub record IsWalked (packer : Packer) (asked : List LocatedRequest) : Type 0 where
   pub here : behind_all (begin_at packer.spot.at) packer.filling.items ≡ packer.spot
   pub walk : (labels : List (Option ℕ)) → Extends packer.labels.items labels → after_all labels (begin_at 0) asked ≡ packer.spot
   pub met : (node : NodeState) (labels : List (Option ℕ)) → Extends packer.labels.items labels → All (IsRead node labels) packer.groups.items → packer.broken ≡ None → Stand node labels (begin_at packer.spot.at) packer.filling.items → AreMet node labels (begin_at 0) asked
@@ -130,10 +130,10 @@ pub record IsWalked (packer : Packer) (asked : List Asked) : Type 0 where
   pub open_fits : (labels : List (Option ℕ)) → Extends packer.labels.items labels → IsFit labels packer.spot.at packer.filling.items
 
 -- The requests so far are laid out, where the last asks for an item that is still to be put, at the packer's spot.
-pub record IsPending (packer : Packer) (asked : List Asked) (item : Item) : Type 0 where
+pub record IsPending (packer : Packer) (asked : List LocatedRequest) (item : Item) : Type 0 where
   pub here : behind_all (begin_at packer.spot.at) packer.filling.items ≡ packer.spot
   pub fit : (labels : List (Option ℕ)) → Extends packer.labels.items labels → fits labels packer.spot item ≡ true
-  pub walk : (labels : List (Option ℕ)) → Extends packer.labels.items labels → after_all labels (begin_at 0) asked ≡ behind packer.spot item
+  pub walk : (labels : List (Option ℕ)) → Extends packer.labels.items labels → after_all labels (begin_at 0) asked ≡ spot_after packer.spot item
   pub met : (node : NodeState) (labels : List (Option ℕ)) → Extends packer.labels.items labels → All (IsRead node labels) packer.groups.items → packer.broken ≡ None → Stand node labels (begin_at packer.spot.at) packer.filling.items → item_stands node labels packer.spot item ≡ true → AreMet node labels (begin_at 0) asked
   pub named : (labels : List (Option ℕ)) (cell : ℕ) → Extends packer.labels.items labels → (are_taken packer.groups.items cell ≡ true) ⊎ ((taken (begin_at packer.spot.at) packer.filling.items cell ≡ true) ⊎ (takes packer.spot item cell ≡ true)) → is_asked labels (begin_at 0) asked cell ≡ true
   pub groups_fit : (labels : List (Option ℕ)) → Extends packer.labels.items labels → All (IsFitGroup labels) packer.groups.items
@@ -158,7 +158,7 @@ IsFilling _ = ⊥
 
 -- The groups are the requests laid out: where each is read, the cells read as the requests; their cells are those asked for, and
 -- each item has room in its slot.
-pub record IsLaidOut (packed : Packed) (asked : List Asked) : Type 0 where
+pub record IsLaidOut (packed : PackedNode) (asked : List LocatedRequest) : Type 0 where
   pub read : (node : NodeState) → All (IsRead node packed.labels.items) packed.groups.items → follows node packed.labels.items (begin_at 0) asked ≡ true
   pub named : (cell : ℕ) → are_taken packed.groups.items cell ≡ true → is_asked packed.labels.items (begin_at 0) asked cell ≡ true
   pub fit : All (IsFitGroup packed.labels.items) packed.groups.items
@@ -185,20 +185,20 @@ packer_places packer = flat_map group_places packer.groups.items ++ places_in pa
 
 -- The groups and the open cell have just the items that the requests so far ask for, where the walk puts them.
 -- Whatever the labels that aren't known yet will be.
-pub record IsGrouped (packer : Packer) (asked : List Asked) : Type 0 where
+pub record IsGrouped (packer : Packer) (asked : List LocatedRequest) : Type 0 where
   pub places : (labels : List (Option ℕ)) → Extends packer.labels.items labels → placed_from labels (begin_at 0) asked ≡ packer_places packer
   pub groups : All HasLines packer.groups.items
   pub lines : length packer.lines.items ≡ length packer.filling.items
   pub whole : packer.filling.items ≡ [] → packer.broken ≡ None
 
 -- A packer has taken one request more behind those that it had taken.
-pub record TakesOn (old new : Packer) (asked : Asked) : Type 0 where
+pub record TakesOn (old new : Packer) (asked : LocatedRequest) : Type 0 where
   pub cell : IsInCell new
-  pub walked : (before : List Asked) → IsWalked old before → IsWalked new (before ++ asked ∷ [])
-  pub grouped : (before : List Asked) → IsWalked old before → IsGrouped old before → IsGrouped new (before ++ asked ∷ [])
+  pub walked : (before : List LocatedRequest) → IsWalked old before → IsWalked new (before ++ asked ∷ [])
+  pub grouped : (before : List LocatedRequest) → IsWalked old before → IsGrouped old before → IsGrouped new (before ++ asked ∷ [])
 
 -- The groups, the open cell and an item that is still to be put at the packer's spot are what the requests so far ask for.
-pub record IsPutting (packer : Packer) (asked : List Asked) (item : Item) (line : ℕ) : Type 0 where
+pub record IsPutting (packer : Packer) (asked : List LocatedRequest) (item : Item) (line : ℕ) : Type 0 where
   pub places : (labels : List (Option ℕ)) → Extends packer.labels.items labels → placed_from labels (begin_at 0) asked ≡ packer_places packer ++ placed_at packer.spot item line ∷ []
   pub groups : All HasLines packer.groups.items
   pub lines : length packer.lines.items ≡ length packer.filling.items
@@ -259,14 +259,14 @@ abbrev pub Keeps : NodeState → List (Option ℕ) → NodeState → List (Optio
 Keeps before given after given_then = (address : ℕ) → Holds given (address % 512) → (word_in after address ≡ word_in before address) × Holds given_then (address % 512)
 
 -- besides its opcode, what an item needs: its literal, or that its jump reaches
-abbrev pub HasRest : NodeState → List (Option ℕ) → Spot → Item → Type 0
+abbrev pub HasRest : NodeState → List (Option ℕ) → PackingSpot → Item → Type 0
 HasRest node labels spot (Literal value) = are_both (resolved labels value) (word_in node spot.p) ≡ true
 HasRest node labels spot (Back _ label) = (spot.slot < 3) × (reaches spot.p spot.slot (resolved labels (Label label)) ≡ true)
 HasRest node labels spot (Ahead _ label) = (spot.slot < 3) × (reaches spot.p spot.slot (resolved labels (Label label)) ≡ true)
 HasRest node labels spot _ = Unit {0}
 
 -- the cell of an item's literal is given
-abbrev pub HoldsRest : List (Option ℕ) → Spot → Item → Type 0
+abbrev pub HoldsRest : List (Option ℕ) → PackingSpot → Item → Type 0
 HoldsRest given spot (Literal _) = Holds given (spot.p % 512)
 HoldsRest given spot _ = Unit {0}
 
@@ -277,7 +277,7 @@ pub record HasWord (node : NodeState) (labels : List (Option ℕ)) (address : �
   pub in_cell : word_in node address ≡ Some word
 
 -- the group's word and its first items are written
-pub record IsWriting (before : NodeState) (given : List (Option ℕ)) (node : NodeState) (later labels : List (Option ℕ)) (group : Group) (spot : Spot) (i : ℕ) : Type 0 where
+pub record IsWriting (before : NodeState) (given : List (Option ℕ)) (node : NodeState) (later labels : List (Option ℕ)) (group : Group) (spot : PackingSpot) (i : ℕ) : Type 0 where
   pub where_is : spot ≡ spot_in group.address group.items.items i
   pub rest : KeepsRest before node
   pub elsewhere : KeepsElsewhere (λ (cell : ℕ). takes_group cell group) before node
@@ -301,7 +301,7 @@ IsMemory _ = ⊥
 -- ---- plain requests as groups: each cell a group of its own
 
 -- requests without their lines
-abbrev pub requests_of : List Asked → List Request
+abbrev pub requests_of : List LocatedRequest → List Request
 requests_of asked = map (λ one. one.request) asked
 
 -- a cell of data with a number, or an address to go on at
@@ -373,7 +373,7 @@ AreOfFirst [] (program ∷ programs) left = ⊥
 AreOfFirst (words ∷ bodies) (program ∷ programs) left = IsOf words program × AreOfFirst bodies programs left
 
 -- the programs are those of the first of these words with their lines, and the other words are left
-unfoldable pub AreAskedFirst : List (List Said) → List Program → List (List Said) → Type 0
+unfoldable pub AreAskedFirst : List (List TokenContent) → List Program → List (List TokenContent) → Type 0
 AreAskedFirst bodies [] left = bodies ≡ left
 AreAskedFirst [] (program ∷ programs) left = ⊥
 AreAskedFirst (words ∷ bodies) (program ∷ programs) left = IsAsked words program × AreAskedFirst bodies programs left

@@ -8,7 +8,7 @@ use ga_parser::Item;
 
 /// A slot of a cell, with P behind the cell and its literals so far, unless an opcode moved it.
 #[derive(Clone, Copy, PartialEq, Eq)]
-pub(crate) struct Spot {
+pub(crate) struct PackingSpot {
     pub at: u32,
     pub slot: u8,
     pub p: u32,

@@ -7,17 +7,17 @@
 mod group;
 pub mod laws;
 mod loading;
-mod mending;
 mod packing;
 mod program;
 mod reading;
+mod recovery;
 mod stores;
 
 pub use ga_parser::{
-    Asked, Fault, Given, Hint, Item, Label, NumberRange, Operand, Registers, Request, SourceCause,
-    Token, TokenKind, hint_for, source_words, unmarked,
+    Fault, Hint, Item, Label, LocatedRequest, NumberRange, Operand, RegisterValue, Registers,
+    Request, SourceCause, Token, TokenKind, hint_for, source_words, strip_bom,
 };
 pub use group::Group;
-pub use mending::{MOST_FAULTS, Mended, assemble_behind_faults, assemble_numbered};
 pub use program::{Assembled, Program, assemble, assemble_words};
+pub use recovery::{MAX_FAULTS, PartialAssembly, assemble_by_word_number, assemble_with_recovery};
 pub use stores::{Store, stores_over_code};

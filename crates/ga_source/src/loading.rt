@@ -10,11 +10,11 @@ ghost use Rattle.ga_parser.specs.declared.item.Operand.{Operand as ValueOf};
 ghost use Rattle.ga_source.specs.Made.{IsMemoryAddress, AreDistinctCells};
 ghost use Rattle.ga_source.specs.Cells.{KeepsElsewhere, is_asked, is_at, takes};
 
-use super::group::{Group, Spot};
-use super::packing::Packed;
-use super::reading::{begin_at, behind, reaches, resolve};
+use super::group::{Group, PackingSpot};
+use super::packing::PackedNode;
+use super::reading::{begin_at, reaches, resolve, spot_after};
 use ga_node::{Node, Place};
-use ga_parser::{Asked, Fault, Item, Operand, SourceCause, fault_at};
+use ga_parser::{Fault, Item, LocatedRequest, Operand, SourceCause, fault_at};
 use ga_slots::{Op, encode};
 use ga_word::Word18;
 
@@ -195,7 +195,7 @@ fn write(
 fn see_jump(
     labels: &[Option<u32>],
     line: u32,
-    spot: Spot,
+    spot: PackingSpot,
     label: usize,
 ) -> Result<(), Fault<'static>>
     ensures { OnOk result ((spot.slot < 3) × (reaches_to spot.p spot.slot (resolved labels.now (Operand.Label label)) ≡ true)) }
@@ -218,7 +218,7 @@ fn write_item(
     given: &mut [Option<u32>],
     labels: &[Option<u32>],
     line: u32,
-    spot: Spot,
+    spot: PackingSpot,
     item: Item,
 ) -> Result<(), Fault<'static>>
     ensures rest { OnOk result (KeepsRest node.old node.new) }
@@ -271,7 +271,7 @@ fn write_group(
     let mut spot = begin_at(group.address);
     for (i, item) in items.iter().enumerate() {
         write_item(node, given, labels, group.line_of(i), spot, *item)?;
-        spot = behind(spot, *item);
+        spot = spot_after(spot, *item);
     }
     Ok(())
 }
@@ -285,7 +285,11 @@ fn none_given() -> [Option<u32>; CELLS]
 }
 
 /// Loads packed groups into a node, whose cells then read as what was asked. Its registers stay.
-pub(crate) fn load(node: &mut Node, packed: &Packed, asked: &[Asked]) -> Result<(), Fault<'static>>
+pub(crate) fn load(
+    node: &mut Node,
+    packed: &PackedNode,
+    asked: &[LocatedRequest],
+) -> Result<(), Fault<'static>>
     requires { IsLaidOut packed.now asked.now }
     ensures follows { OnOk result (follows_of node.new packed.now.labels.items (begin_of 0) asked.now ≡ true) }
     ensures rest { OnOk result (KeepsRest node.old node.new) }

@@ -1,7 +1,7 @@
 //! Requests packed into groups.
 
 ghost use Rattle.std.specs.Prelude.{◌≡◌, ℕ, [], ◌∷◌, ◌++◌, List, IsTrue, true, IfOk, IfErr, OnOk, map, slice_index_or};
-ghost use Rattle.ga_parser.specs.declared.item.Asked.{Asked};
+ghost use Rattle.ga_parser.specs.declared.item.LocatedRequest.{LocatedRequest};
 ghost use Rattle.ga_source.specs.Reading.{after_request, fits as fits_of, begin_at as begin_of};
 ghost use Rattle.ga_parser.specs.declared.fault.SourceCause.TheVariants.{Memory};
 ghost use Rattle.ga_parser.specs.declared.item.Operand.TheVariants.{Number};
@@ -10,17 +10,17 @@ ghost use Rattle.ga_source.specs.Made.{cells_from};
 ghost use Rattle.ga_source.specs.Cells.{laid_by, groups_of};
 ghost use Rattle.ga_source.specs.inner.{IsGathered, IsGrouped, IsPutting, IsClosed, IsFilling, IsInCell, IsKnown, IsLaidOut, IsPending, IsWalked, TakesOn, requests_of, IsPlainRequest, ArePlain, AreCellGroups, IsPackedPlain};
 
-use super::group::{Group, Spot};
-use super::reading::{begin_at, behind, fits, next_cell};
+use super::group::{Group, PackingSpot};
+use super::reading::{begin_at, fits, next_cell, spot_after};
 use arrayvec::ArrayVec;
-use ga_parser::{Asked, Fault, Item, Request, SourceCause, carried, fault_at};
+use ga_parser::{Fault, Item, LocatedRequest, Request, SourceCause, fault_at, with_carry_bit};
 use ga_slots::Op;
 use std::alloc::{AllocError, Global};
 use std::mem;
 
 /// Groups in their order, and the addresses of labels by their numbers.
 #[derive(Drop)]
-pub(crate) struct Packed {
+pub(crate) struct PackedNode {
     pub groups: Vec<Group>,
     pub labels: Vec<Option<u32>>,
 }
@@ -36,7 +36,7 @@ struct Packer {
     /// The line of an `unext` in that cell that can't stand there.
     broken: Option<u32>,
     /// Where the walk through the requests is: in the cell that is being filled, behind its items.
-    spot: Spot,
+    spot: PackingSpot,
 }
 
 /// The line of an `unext` that can't stand in its cell, where it, the last one, goes to the cell's label.
@@ -96,9 +96,9 @@ impl Packer {
         requires { IsInCell self.old }
         ensures cell { OnOk result (IsInCell self.new) }
         ensures stays { fits_of self.old.labels.items self.old.spot item ≡ true → self.new ≡ self.old }
-        ensures pending { OnOk result ((before : List Asked) (line : ℕ) → IsKnown self.old.labels.items item → IsWalked self.old before →
+        ensures pending { OnOk result ((before : List LocatedRequest) (line : ℕ) → IsKnown self.old.labels.items item → IsWalked self.old before →
             IsPending self.new (before ++ record { line = line; request = Request.Put item } ∷ []) item) }
-        ensures putting { OnOk result ((before : List Asked) (line : ℕ) → IsKnown self.old.labels.items item → IsWalked self.old before → IsGrouped self.old before →
+        ensures putting { OnOk result ((before : List LocatedRequest) (line : ℕ) → IsKnown self.old.labels.items item → IsWalked self.old before → IsGrouped self.old before →
             IsPutting self.new (before ++ record { line = line; request = Request.Put item } ∷ []) item line) }
     {
         if fits(self.labels.as_slice(), self.spot, item) {
@@ -114,14 +114,14 @@ impl Packer {
     fn add(&mut self, line: u32, item: Item) -> Result<(), AllocError>
         requires { IsInCell self.old }
         ensures cell { OnOk result (IsInCell self.new) }
-        ensures walked { OnOk result ((asked : List Asked) → IsPending self.old asked item → IsWalked self.new asked) }
-        ensures grouped { OnOk result ((asked : List Asked) → IsPutting self.old asked item line → IsGrouped self.new asked) }
+        ensures walked { OnOk result ((asked : List LocatedRequest) → IsPending self.old asked item → IsWalked self.new asked) }
+        ensures grouped { OnOk result ((asked : List LocatedRequest) → IsPutting self.old asked item line → IsGrouped self.new asked) }
         ensures packed { OnOk result ((n : ℕ) (requests : List RequestOf) → item ≡ Item.Cell (Number n) → IsPackedPlain self.old requests →
             IsPackedPlain self.new (requests ++ Request.Put item ∷ [])) }
     {
         self.filling.push(item);
         let _fits = self.lines.try_push(line);
-        let next = behind(self.spot, item);
+        let next = spot_after(self.spot, item);
         if next.slot == 0 {
             self.close()?;
             self.spot = next;
@@ -144,7 +144,7 @@ impl Packer {
     }
 
     /// Takes an item.
-    fn put(&mut self, asked: Asked, item: Item) -> Result<(), Fault<'static>>
+    fn put(&mut self, asked: LocatedRequest, item: Item) -> Result<(), Fault<'static>>
         requires cell { IsInCell self.old }
         requires put { asked.request ≡ Request.Put item }
         ensures taken { OnOk result (TakesOn self.old self.new asked) }
@@ -161,7 +161,7 @@ impl Packer {
     }
 
     /// Takes an `unext` to a label.
-    fn unext(&mut self, asked: Asked, label: usize) -> Result<(), Fault<'static>>
+    fn unext(&mut self, asked: LocatedRequest, label: usize) -> Result<(), Fault<'static>>
         requires cell { IsInCell self.old }
         requires unext { asked.request ≡ Request.Unext label }
         ensures { OnOk result (TakesOn self.old self.new asked) }
@@ -174,7 +174,7 @@ impl Packer {
     }
 
     /// Takes the place of a label.
-    fn mark(&mut self, asked: Asked, label: usize) -> Result<(), Fault<'static>>
+    fn mark(&mut self, asked: LocatedRequest, label: usize) -> Result<(), Fault<'static>>
         requires cell { IsInCell self.old }
         requires mark { asked.request ≡ Request.Mark label }
         ensures { OnOk result (TakesOn self.old self.new asked) }
@@ -193,7 +193,7 @@ impl Packer {
     }
 
     /// Ends the cell, and goes on in the one at a spot.
-    fn go(&mut self, asked: Asked, spot: Spot) -> Result<(), Fault<'static>>
+    fn go(&mut self, asked: LocatedRequest, spot: PackingSpot) -> Result<(), Fault<'static>>
         requires cell { IsInCell self.old }
         requires begin { spot.slot ≡ 0 }
         requires fills { IsFilling asked.request }
@@ -208,7 +208,7 @@ impl Packer {
         Ok(())
     }
 
-    fn take(&mut self, asked: Asked) -> Result<(), Fault<'static>>
+    fn take(&mut self, asked: LocatedRequest) -> Result<(), Fault<'static>>
         requires { IsInCell self.old }
         ensures taken { OnOk result (TakesOn self.old self.new asked) }
         ensures packed { OnOk result ((requests : List RequestOf) → IsPlainRequest asked.request → IsPackedPlain self.old requests →
@@ -222,13 +222,17 @@ impl Packer {
             Request::Mark(label) => self.mark(asked, label),
             Request::Fill => self.go(asked, next),
             Request::Go(address) => self.go(asked, begin_at(address)),
-            Request::Carry(is_set) => self.go(asked, begin_at(carried(is_set, next.at))),
+            Request::Carry(is_set) => self.go(asked, begin_at(with_carry_bit(is_set, next.at))),
         }
     }
 }
 
 /// Packs requests, which name so many labels.
-pub(crate) fn pack(alloc: Global, asked: &[Asked], labels: usize) -> Result<Packed, Fault<'static>>
+pub(crate) fn pack(
+    alloc: Global,
+    asked: &[LocatedRequest],
+    labels: usize,
+) -> Result<PackedNode, Fault<'static>>
     ensures laid_out { IfOk result (λ packed. IsLaidOut packed asked.now) }
     ensures groups { IfOk result (λ packed. map laid_by packed.groups.items ≡ groups_of packed.labels.items asked.now) }
     ensures cells { IfOk result (λ packed. ArePlain (requests_of asked.now) → AreCellGroups (cells_from 0 (requests_of asked.now)) packed.groups.items) }
@@ -246,7 +250,7 @@ pub(crate) fn pack(alloc: Global, asked: &[Asked], labels: usize) -> Result<Pack
         packer.take(*one)?;
     }
     packer.close()?;
-    Ok(Packed {
+    Ok(PackedNode {
         groups: packer.groups,
         labels: packer.labels,
     })

@@ -7,7 +7,7 @@ ghost use Rattle.ga_source.specs.Programs.{given_of, with_registers, has_cells a
 ghost use Rattle.ga_source.specs.Cells.{IsEmptyElsewhere, HasGroups};
 ghost use Rattle.ga_grid.specs.Grid.{number_where_any};
 ghost use Rattle.ga_parser.specs.Plain.{Plain, is_node as is_node_word, body_in, bodies_in, yxx_in, texts_in, plain_of, value_in, asked_by};
-ghost use Rattle.ga_parser.specs.Saying.{all_said, said_in, Said};
+ghost use Rattle.ga_parser.specs.Saying.{token_contents, said_in, TokenContent};
 ghost use Rattle.ga_parser.specs.Vocabulary.{bound_of};
 ghost use Rattle.ga_source.specs.Made.{IsChipOfSource, AreDistinctCells, cells_from, IsSoundSource};
 ghost use Rattle.ga_parser.specs.declared.fault.SourceCause.TheVariants.{Memory};
@@ -22,8 +22,8 @@ use super::reading::resolve;
 use ga_grid::{Chip, NODES, NodeId, node_number};
 use ga_node::{Node, Place};
 use ga_parser::{
-    Asked, Fault, Given, Label, NodeRequests, Operand, Register, Registers, Request, SourceCause,
-    Token, fault_at, read_requests, words_up_to_fault,
+    Fault, Label, LocatedRequest, NodeRequests, Operand, Register, RegisterValue, Registers,
+    Request, SourceCause, Token, fault_at, read_requests, words_up_to_fault,
 };
 use std::alloc::Global;
 
@@ -47,8 +47,8 @@ fn body_length(tokens: &[Token]) -> usize
     ensures front { texts_of (take result tokens.now) ≡ body_in (texts_of tokens.now) }
     ensures behind { bodies_in (texts_of (drop result tokens.now)) ≡ bodies_in (texts_of tokens.now) }
     ensures next { body_in (texts_of (drop result tokens.now)) ≡ [] }
-    ensures said { all_said (take result tokens.now) ≡ said_body (all_said tokens.now) }
-    ensures said_behind { said_bodies (all_said (drop result tokens.now)) ≡ said_bodies (all_said tokens.now) }
+    ensures said { token_contents (take result tokens.now) ≡ said_body (token_contents tokens.now) }
+    ensures said_behind { said_bodies (token_contents (drop result tokens.now)) ≡ said_bodies (token_contents tokens.now) }
 {
     for (i, token) in tokens.iter().enumerate() {
         if is_node(token.text) {
@@ -59,7 +59,7 @@ fn body_length(tokens: &[Token]) -> usize
 }
 
 /// Whether one of the requests asks for an item, and so for a cell.
-fn has_cells(asked: &[Asked]) -> bool
+fn has_cells(asked: &[LocatedRequest]) -> bool
     ensures { result ≡ has_cells_of asked.now }
 {
     asked.iter().any(|one| is_item(one.request))
@@ -105,7 +105,7 @@ fn registers_of(given: Registers, labels: &[Label<'_>], has_cells: bool) -> Regi
 {
     let mut registers = given;
     if registers.p.is_none() && has_cells {
-        registers.p = Some(Given {
+        registers.p = Some(RegisterValue {
             line: 0,
             value: start_of(labels),
         });
@@ -128,7 +128,7 @@ fn name_of<'s>(names: &[Label<'s>], value: Operand) -> &'s [u8] {
 fn value_given<'s>(
     labels: &[Option<u32>],
     names: &[Label<'s>],
-    given: Option<Given>,
+    given: Option<RegisterValue>,
     register: Register,
 ) -> Result<Option<u32>, Fault<'s>>
     ensures in_range { IfOk result (λ found. IfSome found (λ value. value < bound_of register)) }
@@ -175,7 +175,7 @@ pub struct Program<'s> {
     pub node: NodeId,
     /// The line of the node's name.
     pub line: u32,
-    pub asked: Vec<Asked>,
+    pub asked: Vec<LocatedRequest>,
     /// The addresses of the labels by their numbers.
     pub labels: Vec<Option<u32>>,
     /// The labels' names, empty for one that a control word made.
@@ -201,7 +201,7 @@ fn assemble_node<'s>(
 ) -> Result<Program<'s>, Fault<'s>>
     ensures node { IfOk result (λ program. program.node ≡ id) }
     ensures loaded { IfOk result (λ program. HasProgram node.old node.new program) }
-    ensures asked { IfOk result (AsksFor line (all_said tokens.now)) }
+    ensures asked { IfOk result (AsksFor line (token_contents tokens.now)) }
     ensures groups { IfOk result HasGroups }
     ensures asks { IfOk result (λ program. (plain : Plain) → plain_of (texts_of tokens.now) ≡ Some plain → asked_by program.asked.items program.registers ≡ plain) }
     ensures names { IfOk result (λ program. (plain : Plain) → plain_of (texts_of tokens.now) ≡ Some plain → program.names.items ≡ []) }
@@ -252,8 +252,8 @@ fn assemble_first<'s>(
     ensures groups { OnOk result (All HasGroups programs.old.items → All HasGroups programs.new.items) }
     ensures read { (all : List (List (List ℕ))) → AreOfFirst all programs.old.items (bodies_in (texts_of words.now)) →
         IfOk result (λ count. AreOfFirst all programs.new.items (bodies_in (texts_of (drop count words.now)))) }
-    ensures asked { (all : List (List Said)) → AreAskedFirst all programs.old.items (said_bodies (all_said words.now)) →
-        IfOk result (λ count. AreAskedFirst all programs.new.items (said_bodies (all_said (drop count words.now)))) }
+    ensures asked { (all : List (List TokenContent)) → AreAskedFirst all programs.old.items (said_bodies (token_contents words.now)) →
+        IfOk result (λ count. AreAskedFirst all programs.new.items (said_bodies (token_contents (drop count words.now)))) }
     ensures sound { IfOk result (λ count. IsSoundFrom begun.old words.now → IsSoundFrom begun.new (drop count words.now)) }
     ensures refused { IfErr result (λ fault. IsSoundFrom begun.old words.now → fault.cause ≡ Memory) }
 {
@@ -289,16 +289,16 @@ pub fn assemble_words<'s>(alloc: Global, words: &[Token<'s>]) -> Result<Assemble
     ensures programs { IfOk result (λ all. IsAssembled all.chip all.programs.items) }
 
     // Each program is that of the words behind a `node`, in order, and asks for just what these ask for.
-    ensures asked { IfOk result (λ all. AreAskedBy (said_bodies (all_said words.now)) all.programs.items) }
+    ensures asked { IfOk result (λ all. AreAskedBy (said_bodies (token_contents words.now)) all.programs.items) }
 
     // The groups of each program are the cells that its requests make, in order.
     ensures groups { IfOk result (λ all. All HasGroups all.programs.items) }
 
     // Each program asks for what its words ask for as plain words, where they are.
-    ensures read { IfOk result (λ all. AreOf (bodies_in (texts_in (all_said words.now))) all.programs.items) }
+    ensures read { IfOk result (λ all. AreOf (bodies_in (texts_in (token_contents words.now))) all.programs.items) }
 
     // The words of a source of plain words that give each cell once are refused for want of memory alone.
-    ensures refused { IfErr result (λ fault. (source : List ℕ) → said_in source ≡ all_said words.now → IsSoundSource source → fault.cause ≡ Memory) }
+    ensures refused { IfErr result (λ fault. (source : List ℕ) → said_in source ≡ token_contents words.now → IsSoundSource source → fault.cause ≡ Memory) }
 {
     let mut chip = match Chip::new(alloc) {
         Ok(chip) => chip,

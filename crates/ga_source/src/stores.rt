@@ -8,7 +8,7 @@ ghost use Rattle.ga_source.specs.Stores.{cell_index, with_code_line, with_litera
 use super::group::Group;
 use super::program::Program;
 use super::reading::resolve;
-use ga_parser::{Asked, Item, Label, Request};
+use ga_parser::{Item, Label, LocatedRequest, Request};
 use ga_ports::advance_p;
 use ga_slots::Op;
 use std::alloc::{AllocError, Global};
@@ -213,7 +213,7 @@ fn store_over(code: &[u32], line: u32, address: u32) -> Option<Store>
 }
 
 /// The store that a request asks for, where its address is known and its cell holds code.
-fn store_of(code: &[u32], known: Known, asked: Asked) -> Option<Store>
+fn store_of(code: &[u32], known: Known, asked: LocatedRequest) -> Option<Store>
     requires { length code.now ≡ 192 }
     ensures { result ≡ store_of code.now known asked.line asked.request }
 {

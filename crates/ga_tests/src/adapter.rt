@@ -3,9 +3,9 @@
 use crate::common::{CALLS, begun, lab_of, same};
 use ga_dap_queries::{asked_variable, evaluate, exception_info};
 use ga_dap_views::{
-    Scope, SourceFile, Spot, cell_of_chip, chip_address, disassembled, frame_of, node_of_frame,
-    node_of_thread, open_calls, reference_of, referred, scopes, spot_behind, stack_trace,
-    thread_of, threads, variables,
+    Scope, SlotAddress, SourceFile, cell_at_chip_address, chip_address, disassembled, frame_of,
+    node_of_frame, node_of_thread, open_calls, reference_of, resolve_reference, scopes,
+    slot_address_after, stack_trace, thread_of, threads, variables,
 };
 use ga_grid::NodeId;
 use serde_json::Value;
@@ -37,10 +37,10 @@ fn numbers_mean_something(rt: HostRuntime) {
     same(&rt, &frame_of(node, 2), &2035);
     same(&rt, &node_of_frame(2035), &Some((node, 2)));
     same(&rt, &reference_of(node, Scope::Rom), &1022);
-    same(&rt, &referred(1022), &Some((node, Scope::Rom)));
+    same(&rt, &resolve_reference(1022), &Some((node, Scope::Rom)));
     same(&rt, &chip_address(node, 5), &0x701005);
-    same(&rt, &cell_of_chip(0x701005), &Some((node, 5)));
-    same(&rt, &cell_of_chip(0x0a1005), &None);
+    same(&rt, &cell_at_chip_address(0x701005), &Some((node, 5)));
+    same(&rt, &cell_at_chip_address(0x0a1005), &None);
 }
 
 #[test]
@@ -140,8 +140,8 @@ fn returned_calls_are_closed(rt: HostRuntime) -> Result<(), Fail> {
     let (lab, _) = begun(&rt, rt.alloc(), CALLS, 14)?;
     same(
         &rt,
-        &spot_behind(&lab, node, 0),
-        &Some(Spot { cell: 0, slot: 0 }),
+        &slot_address_after(&lab, node, 0),
+        &Some(SlotAddress { cell: 0, slot: 0 }),
     );
     let calls = open_calls(&lab, node);
     same(&rt, &calls.len(), &1);
@@ -149,7 +149,7 @@ fn returned_calls_are_closed(rt: HostRuntime) -> Result<(), Fail> {
         Some(call) => {
             same(&rt, &call.step, &3);
             // `call` is in slot 1 of cell 0.
-            same(&rt, &call.at, &Some(Spot { cell: 0, slot: 1 }));
+            same(&rt, &call.at, &Some(SlotAddress { cell: 0, slot: 1 }));
         }
         None => assert!(&rt; false),
     }

@@ -2,7 +2,7 @@
 //!
 //! An assertion in a function of its own is proved once, and costs the tests that call it little.
 
-use ga_debug_info::{Notes, notes_of};
+use ga_debug_info::{DebugInfo, debug_info_of};
 use ga_grid::NodeId;
 use ga_image::parse;
 use ga_lab::Lab;
@@ -55,11 +55,11 @@ pub fn begun(
     alloc: Global,
     source: &[u8],
     steps: u32,
-) -> Result<(Lab, Notes), Fail> {
+) -> Result<(Lab, DebugInfo), Fail> {
     let Ok(assembled) = assemble(alloc, source) else {
         panic!(rt; "assembles");
     };
-    let notes = notes_of(alloc, source, assembled.programs.as_slice())?;
+    let notes = debug_info_of(alloc, source, assembled.programs.as_slice())?;
     let mut lab = Lab::new(alloc, assembled.chip, 1000)?;
     for _ in 0..steps {
         lab.step(NodeId::new(0))?;

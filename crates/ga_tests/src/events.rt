@@ -113,7 +113,7 @@ fn is_ticked(
     let mut ticks = Ticks::new();
     let removed = lab.rewind_ticked(at.0, at.1, &mut ticks);
     same(rt, &removed, &Ok(wanted.0));
-    let counts = (lab.counts().kept, ticks.count(), ticks.vain());
+    let counts = (lab.counts().kept, ticks.count(), ticks.fruitless());
     same(rt, &counts, &(wanted.1, wanted.2, 0));
     Ok(())
 }

@@ -140,14 +140,14 @@ fn responses_are_written(rt: HostRuntime) -> Result<(), Fail> {
 #[test]
 fn events_are_written(rt: HostRuntime) -> Result<(), Fail> {
     let mut outbox = Outbox::new(rt.alloc());
-    outbox.tell_alone("initialized")?;
+    outbox.add_bare_event("initialized")?;
     assert_sent(
         &rt,
         &mut outbox,
         "Content-Length: 46\r\n\r\n{\"event\":\"initialized\",\"seq\":1,\"type\":\"event\"}",
     );
     let body = json!(in rt.alloc(); {"reason": "step", "threadId": 1000u64})?;
-    outbox.tell("stopped", body)?;
+    outbox.add_event("stopped", body)?;
     assert_sent(
         &rt,
         &mut outbox,
@@ -161,7 +161,7 @@ fn events_are_written(rt: HostRuntime) -> Result<(), Fail> {
 fn what_is_written_is_read_back(rt: HostRuntime) -> Result<(), Fail> {
     let request = threads(rt.alloc())?;
     let mut outbox = Outbox::new(rt.alloc());
-    outbox.tell_alone("initialized")?;
+    outbox.add_bare_event("initialized")?;
     let body = json!(in rt.alloc(); {"text": "a\n\u{1F600} \\ \""})?;
     outbox.respond(&request, body)?;
     let mut inbox = Inbox::new(rt.alloc());

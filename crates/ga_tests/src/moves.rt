@@ -2,12 +2,12 @@
 
 use crate::common::{CALLS, begun, each_same, same};
 use ga_dap_breakpoints::{
-    Breakpoint, Comparison, Grain, Halt, Halts, HitCount, Stepping, ValueTest, Watched, Went,
-    breakpoint_of_address, breakpoint_of_line, go_on, kept_hits, reverse_to, step_back,
-    step_back_line, step_on,
+    Breakpoint, Comparison, Granularity, Halt, Halts, HitCount, MoveResult, StepMove, ValueTest,
+    Watched, breakpoint_of_address, breakpoint_of_line, continue_run, continue_step, kept_hits,
+    reverse_to, step_back, step_back_line,
 };
-use ga_dap_views::{Spot, Variable};
-use ga_debug_info::{Notes, SlotWord};
+use ga_dap_views::{SlotAddress, Variable};
+use ga_debug_info::{DebugInfo, SlotWord};
 use ga_grid::NodeId;
 use ga_lab::Lab;
 use ga_scheduler::Schedule;
@@ -37,17 +37,17 @@ fn watching(watched: Watched) -> Breakpoint {
 }
 
 /// The second `dup` of `quad` is come to.
-const SECOND_DUP: Watched = Watched::Comes(Spot { cell: 5, slot: 2 });
+const SECOND_DUP: Watched = Watched::Comes(SlotAddress { cell: 5, slot: 2 });
 
 /// A move of node 000 by lines, with no breakpoint, ends after this number of events.
-fn moves(rt: &impl Abort, lab: &mut Lab, notes: &Notes, mut by: Stepping, wanted: u64) {
+fn moves(rt: &impl Abort, lab: &mut Lab, notes: &DebugInfo, mut by: StepMove, wanted: u64) {
     let halts = each_hit(lab, &[]);
-    let went = step_on(lab, Schedule::in_rounds(), &mut by, notes, halts, 100);
+    let went = continue_step(lab, Schedule::round_robin(), &mut by, notes, halts, 100);
     same(rt, &went.events, &wanted);
     same(rt, &is_moved(went), &true);
 }
 
-fn is_moved(went: Went) -> bool {
+fn is_moved(went: MoveResult) -> bool {
     match went.halt {
         Halt::Moved(_) => true,
         _ => false,
@@ -55,7 +55,7 @@ fn is_moved(went: Went) -> bool {
 }
 
 /// The place of the breakpoint by which a move ended.
-fn hit_by(went: Went) -> Option<usize> {
+fn hit_by(went: MoveResult) -> Option<usize> {
     match went.halt {
         Halt::Hit { which, .. } => Some(which),
         _ => None,
@@ -68,18 +68,18 @@ fn lines_are_stepped_in(rt: HostRuntime) -> Result<(), Fail> {
     let (mut lab, notes) = begun(&rt, rt.alloc(), CALLS, 0)?;
     // To line 6 by the call, to 9 by the next, to 10 by `dup`, to 7 by the return, and round to line 3.
     for wanted in [3, 2, 3, 4] {
-        let line = Stepping::step_in(&lab, node, Grain::Line);
+        let line = StepMove::step_in(&lab, node, Granularity::Line);
         moves(&rt, &mut lab, &notes, line, wanted);
     }
     // The node is taken back over the call of `quad`.
     same(&rt, &step_back_line(&mut lab, &notes, node), &9);
-    let over = Stepping::next(&lab, node, Grain::Line);
+    let over = StepMove::next(&lab, node, Granularity::Line);
     moves(&rt, &mut lab, &notes, over, 9);
-    let step = Stepping::step_in(&lab, node, Grain::Instruction);
+    let step = StepMove::step_in(&lab, node, Granularity::Instruction);
     moves(&rt, &mut lab, &notes, step, 1);
     // By `2*` and `;` back to `drop`, the rest of line 3, and to line 4.
     for wanted in [2, 2] {
-        let out = Stepping::next(&lab, node, Grain::Line);
+        let out = StepMove::next(&lab, node, Granularity::Line);
         moves(&rt, &mut lab, &notes, out, wanted);
     }
     Ok(())
@@ -89,12 +89,12 @@ fn lines_are_stepped_in(rt: HostRuntime) -> Result<(), Fail> {
 fn calls_are_stepped_out_of(rt: HostRuntime) -> Result<(), Fail> {
     let node = NodeId::new(0);
     let (mut lab, notes) = begun(&rt, rt.alloc(), CALLS, 0)?;
-    same(&rt, &Stepping::step_out(&lab, node), &None);
+    same(&rt, &StepMove::step_out(&lab, node), &None);
     for wanted in [3, 2] {
-        let line = Stepping::step_in(&lab, node, Grain::Line);
+        let line = StepMove::step_in(&lab, node, Granularity::Line);
         moves(&rt, &mut lab, &notes, line, wanted);
     }
-    match Stepping::step_out(&lab, node) {
+    match StepMove::step_out(&lab, node) {
         // `quad` comes back by its step 12.
         Some(out) => moves(&rt, &mut lab, &notes, out, 7),
         None => assert!(&rt; false),
@@ -112,12 +112,12 @@ fn slices_stop_at_a_breakpoint(rt: HostRuntime) -> Result<(), Fail> {
     same(&rt, &on_line.line, &10);
     let breakpoints = [on_line.breakpoint];
     let halts = each_hit(&lab, &breakpoints);
-    let slice = go_on(&mut lab, Schedule::greedily(), halts, 5);
+    let slice = continue_run(&mut lab, Schedule::greedy(), halts, 5);
     same(&rt, &slice.halt, &Halt::Cut);
-    let hit = go_on(&mut lab, slice.schedule, halts, 100);
+    let hit = continue_run(&mut lab, slice.schedule, halts, 100);
     same(&rt, &hit.events, &3);
     same(&rt, &hit_by(hit), &Some(0));
-    let again = go_on(&mut lab, hit.schedule, halts, 100);
+    let again = continue_run(&mut lab, hit.schedule, halts, 100);
     same(&rt, &again.events, &18);
     Ok(())
 }
@@ -138,10 +138,10 @@ fn each_third_hit_is_stopped_at(rt: HostRuntime) -> Result<(), Fail> {
     }];
     let mut halts = each_hit(&lab, &third);
     // The second `dup` is come to by event 8, and then by each 18th.
-    let hit = go_on(&mut lab, Schedule::greedily(), halts, 100);
+    let hit = continue_run(&mut lab, Schedule::greedy(), halts, 100);
     same(&rt, &hit.events, &44);
     halts.tally = hit.tally;
-    let again = go_on(&mut lab, hit.schedule, halts, 100);
+    let again = continue_run(&mut lab, hit.schedule, halts, 100);
     same(&rt, &again.events, &54);
     same(&rt, &reverse_to(&mut lab, node, &third), &54);
     same(&rt, &kept_hits(&lab, &third).counts[0], &3);
@@ -159,10 +159,10 @@ fn a_store_is_stopped_at(rt: HostRuntime) -> Result<(), Fail> {
     let breakpoints = [watching(Watched::Writes(9)), main];
     let halts = each_hit(&lab, &breakpoints);
     // The node is at address 0 when loaded, and arrives there by its first fetch.
-    let first = go_on(&mut lab, Schedule::greedily(), halts, 100);
+    let first = continue_run(&mut lab, Schedule::greedy(), halts, 100);
     same(&rt, &first.events, &1);
     same(&rt, &hit_by(first), &Some(1));
-    let hit = go_on(&mut lab, first.schedule, halts, 100);
+    let hit = continue_run(&mut lab, first.schedule, halts, 100);
     same(&rt, &hit.events, &6);
     same(&rt, &hit_by(hit), &Some(0));
     same(&rt, &lab.memory(node, 9).get(), &7);
@@ -184,7 +184,7 @@ fn steps_are_taken_back(rt: HostRuntime) -> Result<(), Fail> {
     same(&rt, &step_back_line(&mut lab, &notes, node), &2);
     same(&rt, &step_back_line(&mut lab, &notes, node), &3);
     let (mut lab, _) = begun(&rt, alloc, CALLS, 14)?;
-    let double = watching(Watched::Comes(Spot { cell: 3, slot: 0 }));
+    let double = watching(Watched::Comes(SlotAddress { cell: 3, slot: 0 }));
     same(&rt, &reverse_to(&mut lab, node, &[double]), &11);
     same(&rt, &reverse_to(&mut lab, node, &[double]), &3);
     Ok(())

@@ -1,8 +1,10 @@
 //! What some bytes begin with; messages taken from inputs that come in pieces, end, and fail; a text that is written whole or
-//! not. Streams of the program that fail are in `.ci/failing` at the top.
+//! not. Streams of the program that fail are in `.ci/io_faults` at the top.
 
 use crate::common::{each_said, each_same, same};
-use ga_dap_protocol::{Broken, CONTENT_LIMIT, Front, Inbox, Next, front_of, push_frame};
+use ga_dap_protocol::{
+    CONTENT_LIMIT, FrameError, FramePrefix, Inbox, Next, parse_frame_prefix, push_frame,
+};
 use ga_text::write_all;
 use std::alloc::{AllocError, Global};
 use std::io;
@@ -11,65 +13,83 @@ use std::process::Abort;
 use std::test::Fail;
 
 /// What each text begins with.
-const FRONTS: &[(&[u8], Front)] = &[
+const FRONTS: &[(&[u8], FramePrefix)] = &[
     (
         b"Content-Length: 2\r\n\r\n{}",
-        Front::Message { start: 21, end: 23 },
+        FramePrefix::Message { start: 21, end: 23 },
     ),
     (
         b"Content-Length: 2\r\n\r\n{}Con",
-        Front::Message { start: 21, end: 23 },
+        FramePrefix::Message { start: 21, end: 23 },
     ),
     (
         b"Content-Length: 0\r\n\r\n",
-        Front::Message { start: 21, end: 21 },
+        FramePrefix::Message { start: 21, end: 21 },
     ),
     (
         b"Content-Length: 0000002\r\n\r\n{}",
-        Front::Message { start: 27, end: 29 },
+        FramePrefix::Message { start: 27, end: 29 },
     ),
-    (b"Content-Length: 131072\r\n\r\n{}", Front::Part),
-    (b"Content-Length: 131073", Front::Wrong(Broken::TooLong)),
-    (b"Content-Length: 9999999999", Front::Wrong(Broken::TooLong)),
+    (b"Content-Length: 131072\r\n\r\n{}", FramePrefix::Part),
+    (
+        b"Content-Length: 131073",
+        FramePrefix::Wrong(FrameError::TooLong),
+    ),
+    (
+        b"Content-Length: 9999999999",
+        FramePrefix::Wrong(FrameError::TooLong),
+    ),
     (
         b"Content-Length: 00000002\r\n\r\n{}",
-        Front::Wrong(Broken::ManyDigits),
+        FramePrefix::Wrong(FrameError::ManyDigits),
     ),
-    (b"Content-Length: \r\n\r\n", Front::Wrong(Broken::NoDigit)),
+    (
+        b"Content-Length: \r\n\r\n",
+        FramePrefix::Wrong(FrameError::NoDigit),
+    ),
     (
         b"Content-Length: -2\r\n\r\n{}",
-        Front::Wrong(Broken::NoDigit),
+        FramePrefix::Wrong(FrameError::NoDigit),
     ),
     (
         b"Content-Length:  2\r\n\r\n{}",
-        Front::Wrong(Broken::NoDigit),
+        FramePrefix::Wrong(FrameError::NoDigit),
     ),
     (
         b"Content-Length: 2 \r\n\r\n{}",
-        Front::Wrong(Broken::HeaderEnd),
+        FramePrefix::Wrong(FrameError::HeaderEnd),
     ),
-    (b"Content-Length: 2\n\n{}", Front::Wrong(Broken::HeaderEnd)),
+    (
+        b"Content-Length: 2\n\n{}",
+        FramePrefix::Wrong(FrameError::HeaderEnd),
+    ),
     (
         b"Content-Length: 2\r\nContent-Type: a\r\n\r\n{}",
-        Front::Wrong(Broken::HeaderEnd),
+        FramePrefix::Wrong(FrameError::HeaderEnd),
     ),
-    (b"Content-Length:2\r\n\r\n{}", Front::Wrong(Broken::Field)),
-    (b"content-length: 2\r\n\r\n{}", Front::Wrong(Broken::Field)),
+    (
+        b"Content-Length:2\r\n\r\n{}",
+        FramePrefix::Wrong(FrameError::Field),
+    ),
+    (
+        b"content-length: 2\r\n\r\n{}",
+        FramePrefix::Wrong(FrameError::Field),
+    ),
     (
         b"Content-Type: a\r\nContent-Length: 2\r\n\r\n{}",
-        Front::Wrong(Broken::Field),
+        FramePrefix::Wrong(FrameError::Field),
     ),
     (
         b"\nContent-Length: 2\r\n\r\n{}",
-        Front::Wrong(Broken::Field),
+        FramePrefix::Wrong(FrameError::Field),
     ),
-    (b"{}", Front::Wrong(Broken::Field)),
+    (b"{}", FramePrefix::Wrong(FrameError::Field)),
 ];
 
 #[test]
 fn fronts_are_told(rt: HostRuntime) {
     for (text, wanted) in FRONTS {
-        assert_eq!(rt; front_of(text), *wanted, "at {text:?}");
+        assert_eq!(rt; parse_frame_prefix(text), *wanted, "at {text:?}");
     }
 }
 
@@ -79,12 +99,12 @@ fn beginnings_ask_for_more(rt: HostRuntime) {
     let message = b"Content-Length: 12\r\n\r\n{\"seq\":1234}";
     for count in 0..message.len() {
         let (part, _) = message.as_slice().split_at(count);
-        assert_eq!(rt; front_of(part), Front::Part, "at {count}");
+        assert_eq!(rt; parse_frame_prefix(part), FramePrefix::Part, "at {count}");
     }
     same(
         &rt,
-        &front_of(message),
-        &Front::Message { start: 22, end: 34 },
+        &parse_frame_prefix(message),
+        &FramePrefix::Message { start: 22, end: 34 },
     );
 }
 
@@ -95,15 +115,19 @@ fn the_bound_is_within(rt: HostRuntime) -> Result<(), Fail> {
     content.resize(CONTENT_LIMIT, b' ')?;
     let mut text = Vec::new(rt.alloc());
     push_frame(rt.alloc(), &mut text, &content)?;
-    let whole = Front::Message {
+    let whole = FramePrefix::Message {
         start: 26,
         end: 26 + 131_072,
     };
-    same(&rt, &front_of(&text), &whole);
+    same(&rt, &parse_frame_prefix(&text), &whole);
     content.push(b' ')?;
     text.clear();
     push_frame(rt.alloc(), &mut text, &content)?;
-    same(&rt, &front_of(&text), &Front::Wrong(Broken::TooLong));
+    same(
+        &rt,
+        &parse_frame_prefix(&text),
+        &FramePrefix::Wrong(FrameError::TooLong),
+    );
     Ok(())
 }
 
@@ -112,20 +136,20 @@ fn the_bound_is_within(rt: HostRuntime) -> Result<(), Fail> {
 fn causes_are_said(rt: HostRuntime) -> Result<(), Fail> {
     let causes = [
         (
-            Broken::Field,
+            FrameError::Field,
             "the header does not begin with `Content-Length: `",
         ),
-        (Broken::NoDigit, "`Content-Length` is no number"),
-        (Broken::TooLong, "`Content-Length` is more than 131072"),
+        (FrameError::NoDigit, "`Content-Length` is no number"),
+        (FrameError::TooLong, "`Content-Length` is more than 131072"),
         (
-            Broken::ManyDigits,
+            FrameError::ManyDigits,
             "`Content-Length` has more than seven digits",
         ),
         (
-            Broken::HeaderEnd,
+            FrameError::HeaderEnd,
             "the header does not end behind `Content-Length`",
         ),
-        (Broken::Cut, "the input ends within a message"),
+        (FrameError::Cut, "the input ends within a message"),
     ];
     each_said(&rt, rt.alloc(), &causes)
 }
@@ -166,7 +190,7 @@ fn in_pieces(text: &'static [u8], most: usize) -> Pieces {
 #[derive(Clone, Copy, PartialEq, Eq, Debug)]
 enum Ending {
     End,
-    Wrong(Broken),
+    Wrong(FrameError),
     Failed,
 }
 
@@ -216,19 +240,19 @@ fn an_input_in_any_pieces_is_the_same_messages(rt: HostRuntime) -> Result<(), Fa
 
 #[test]
 fn a_broken_frame_is_told_behind_what_is_whole(rt: HostRuntime) -> Result<(), Fail> {
-    let cases: [(&'static [u8], Broken); 4] = [
-        (b"Content-Length: 2\r\n\r\n{}\n", Broken::Field),
+    let cases: [(&'static [u8], FrameError); 4] = [
+        (b"Content-Length: 2\r\n\r\n{}\n", FrameError::Field),
         (
             b"Content-Length: 2\r\n\r\n{}Content-Length: x",
-            Broken::NoDigit,
+            FrameError::NoDigit,
         ),
         (
             b"Content-Length: 2\r\n\r\n{}Content-Length: 2000000\r\n\r\n",
-            Broken::TooLong,
+            FrameError::TooLong,
         ),
         (
             b"Content-Length: 2\r\n\r\n{}Content-Length: 2\r\n\r\n{",
-            Broken::Cut,
+            FrameError::Cut,
         ),
     ];
     for (text, why) in cases {

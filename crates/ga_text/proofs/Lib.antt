@@ -1,5 +1,5 @@
 pub mod Numbers
 pub mod DigitLemmas
-pub mod SaidLemmas
+pub mod WriteLemmas
 pub mod TextLemmas
 pub mod Taking

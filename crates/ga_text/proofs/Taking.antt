@@ -3,7 +3,7 @@ use Rattle.std.specs.Prelude.{◌==◌, nat_le, nat_lt, option_map, slice_range}
 use Rattle.std.proofs.Common.{◌≡◌, ◌≢◌, ℕ, zero, suc, Bool, true, false, cond, ◌+◌, ◌<◌, List, [], ◌∷◌, ◌++◌, length, take, drop, get_or, Option, Some, None, arith, ap, refl, ◌∙◌, add-one, ◌-◌, ◌*◌, ◌/◌, ◌%◌, ◌^◌, ◌≤◌, ◌&&◌, decimal, sym, append_assoc, min, length-take, take-append-drop, drop-cons, Result, Ok, Err, rules}
 use Rattle.std.proofs.lemmas.Bool.{ne_eqb, eqb-true}
 use Rattle.std.specs.List.{AllByRecursion}
-use Rattle.ga_text.specs.Parsing.{cut, in_front, IsNumber, SpellsAddress, node_in, fitting, with_digit, with_digits, number_in}
+use Rattle.ga_text.specs.Parsing.{split_at_space, in_front, IsNumber, SpellsAddress, parse_node, fitting, with_digit, with_digits, parse_number}
 use Rattle.std.specs.Str.{str_to_ascii_lowercase}
 use Rattle.std.specs.Char.{to_ascii_lowercase}
 use Rattle.std.proofs.lemmas.Bool.Decides.{nat_tests}
@@ -24,17 +24,17 @@ use Rattle.ga_text.specs.Lines.{ends_line, HasNoFeed, ended}
 -- ---- A text is cut at its first space
 
 -- another byte belongs to the first part
-past_byte : (b : ℕ) (text : List ℕ) → b ≢ 32 → cut (b ∷ text) ≡ in_front b (cut text)
+past_byte : (b : ℕ) (text : List ℕ) → b ≢ 32 → split_at_space (b ∷ text) ≡ in_front b (split_at_space text)
 past_byte b text other = rw (ne_eqb b 32 other) refl
 
-pub at_space : (text : List ℕ) (i : ℕ) → i < length text → ((k : ℕ) → k < i → get_or text k 0 ≢ 32) → get_or text i 0 ≡ 32 → cut text ≡ Some (take i text, drop (i + 1) text)
+pub at_space : (text : List ℕ) (i : ℕ) → i < length text → ((k : ℕ) → k < i → get_or text k 0 ≢ 32) → get_or text i 0 ≡ 32 → split_at_space text ≡ Some (take i text, drop (i + 1) text)
 at_space [] i within none space = absurd (omega arith)
 at_space (b ∷ text) zero within none space = rw space refl
 at_space (b ∷ text) (suc i) within none space =
-    let again : cut text ≡ Some (take i text, drop (i + 1) text) = at_space text i (omega arith) (λ k below. none (suc k) (omega arith)) space in
+    let again : split_at_space text ≡ Some (take i text, drop (i + 1) text) = at_space text i (omega arith) (λ k below. none (suc k) (omega arith)) space in
     past_byte b text (none 0 (omega arith)) ∙ ap (in_front b) again ∙ rw (add-one, add-one) refl
 
-pub no_space : (text : List ℕ) → ((k : ℕ) → k < length text → get_or text k 0 ≢ 32) → cut text ≡ None
+pub no_space : (text : List ℕ) → ((k : ℕ) → k < length text → get_or text k 0 ≢ 32) → split_at_space text ≡ None
 no_space [] none = refl
 no_space (b ∷ text) none = past_byte b text (none 0 (omega arith)) ∙ ap (in_front b) (no_space text (λ k below. none (suc k) (omega arith)))
 
@@ -43,7 +43,7 @@ abbrev pub IsWord : List ℕ → Type 0
 IsWord word = AllByRecursion (λ b. b ≢ 32) word
 
 -- a word and a space are cut there
-pub word_cut : (word rest : List ℕ) → IsWord word → cut (word ++ 32 ∷ rest) ≡ Some (word, rest)
+pub word_cut : (word rest : List ℕ) → IsWord word → split_at_space (word ++ 32 ∷ rest) ≡ Some (word, rest)
 word_cut [] rest is = refl
 word_cut (b ∷ word) rest is = past_byte b (word ++ 32 ∷ rest) is.0 ∙ ap (in_front b) (word_cut word rest is.1)
 
@@ -55,14 +55,14 @@ joined b text (Some some) parts is e =
     ap (λ (t : List ℕ). b ∷ t) (is some refl) ∙ ap (λ (p : List ℕ × List ℕ). p.0 ++ 32 ∷ p.1) same
 
 at_test : (t : Bool) (b : ℕ) (text : List ℕ) (parts : List ℕ × List ℕ) → (t ≡ true → b ≡ 32)
-    → ((some : List ℕ × List ℕ) → cut text ≡ Some some → text ≡ some.0 ++ 32 ∷ some.1) → cond t (Some ([], text)) (in_front b (cut text)) ≡ Some parts → b ∷ text ≡ parts.0 ++ 32 ∷ parts.1
+    → ((some : List ℕ × List ℕ) → split_at_space text ≡ Some some → text ≡ some.0 ++ 32 ∷ some.1) → cond t (Some ([], text)) (in_front b (split_at_space text)) ≡ Some parts → b ∷ text ≡ parts.0 ++ 32 ∷ parts.1
 at_test true b text parts space again e =
     let same : ([], text) ≡ parts = cc in
     ap (λ (c : ℕ). c ∷ text) (space refl) ∙ ap (λ (p : List ℕ × List ℕ). p.0 ++ 32 ∷ p.1) same
-at_test false b text parts space again e = joined b text (cut text) parts again e
+at_test false b text parts space again e = joined b text (split_at_space text) parts again e
 
 -- what was cut is the whole with the space
-pub cut_joined : (text : List ℕ) (parts : List ℕ × List ℕ) → cut text ≡ Some parts → text ≡ parts.0 ++ 32 ∷ parts.1
+pub cut_joined : (text : List ℕ) (parts : List ℕ × List ℕ) → split_at_space text ≡ Some parts → text ≡ parts.0 ++ 32 ∷ parts.1
 cut_joined [] parts e = cc
 cut_joined (b ∷ text) parts e = at_test (b == 32) b text parts (eqb-true b 32) (λ some f. cut_joined text some f) e
 
@@ -100,8 +100,8 @@ named yxx node e =
     let number : node.number ≡ 18 * (yxx / 100) + yxx % 100 = rw (← same) (omega arith) in
     rw number (omega arith)
 
-pub node_name : (word : List ℕ) (node : NodeId) → node_in word ≡ Some node → word ≡ name_of_node node
-unfolding node_in
+pub node_name : (word : List ℕ) (node : NodeId) → parse_node word ≡ Some node → word ≡ name_of_node node
+unfolding parse_node
 node_name word node e =
     let (yxx, digits, at) = first_step (node_number word) _ node e in
     (node_spelled word yxx digits).1 ∙ ap decimal3_of (sym (named yxx node at))
@@ -113,8 +113,8 @@ numbered row column r c =
     let below : (100 * row + column) % 100 ≡ column = omega arith in
     grind (arith, nat_tests)
 
-pub name_node : (node : NodeId) → node_in (name_of_node node) ≡ Some node
-unfolding node_in
+pub name_node : (node : NodeId) → parse_node (name_of_node node) ≡ Some node
+unfolding parse_node
 name_node node =
     let small : node.number < 144 = node.in_range in
     rw (node_read (yxx_of node.number) (omega arith), node_of_yxx node.number small) (ap Some (node_id-number node))
@@ -173,7 +173,7 @@ digits_more n (byte ∷ text) k small e =
     (is, sym (append_assoc (decimal n) (byte ∷ []) text) ∙ ap (λ (t : List ℕ). t ++ text) front ∙ whole)
 
 -- a word that parses as a number is that number in decimal
-pub number_decimal : (word : List ℕ) (k : ℕ) → number_in word ≡ Some k → IsNumber k × (word ≡ decimal k)
+pub number_decimal : (word : List ℕ) (k : ℕ) → parse_number word ≡ Some k → IsNumber k × (word ≡ decimal k)
 number_decimal [] k e = cc
 number_decimal (byte ∷ text) k e =
     let (digit, first, rest) = first_step (digit_in byte) _ k e in
@@ -191,7 +191,7 @@ digits_behind n (b ∷ text) m byte e =
     let (next, first, rest) = first_step (with_digit n b) _ m e in
     rw first (digits_behind next text m byte rest)
 
-digit_behind : (word : List ℕ) (m byte : ℕ) → number_in word ≡ Some m → number_in (word ++ byte ∷ []) ≡ with_digit m byte
+digit_behind : (word : List ℕ) (m byte : ℕ) → parse_number word ≡ Some m → parse_number (word ++ byte ∷ []) ≡ with_digit m byte
 digit_behind [] m byte e = cc
 digit_behind (b ∷ text) m byte e =
     let (digit, first, rest) = first_step (digit_in b) _ m e in
@@ -205,9 +205,9 @@ last_digit n big small =
 
 -- the digits of a number give it back
 Reads : ℕ → List ℕ → Type 0
-Reads n word = n < 2 ^ 32 → number_in word ≡ Some n
+Reads n word = n < 2 ^ 32 → parse_number word ≡ Some n
 
-pub decimal_number : (k : ℕ) → IsNumber k → number_in (decimal k) ≡ Some k
+pub decimal_number : (k : ℕ) → IsNumber k → parse_number (decimal k) ≡ Some k
 unfolding Reads
 decimal_number k small = decimal_by_steps Reads one more k (omega arith) small where
   one : (n : ℕ) → n < 10 → Reads n ((48 + n) ∷ [])

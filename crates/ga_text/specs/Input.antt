@@ -1,7 +1,7 @@
 -- How much of an input is taken, and in which blocks; what the reading of one line does.
 use Rattle.std.specs.Prelude.{ℕ, ◌+◌, ◌≤◌, length, ◌≡◌, [], ◌∷◌, ◌++◌, take, Result, Ok, Err}
 use Rattle.ga_text.specs.Lines.{Bytes, Line, longest, HasNoFeed}
-use Rattle.ga_text.specs.declared.output.WriteFailed.{WriteFailed}
+use Rattle.ga_text.specs.declared.output.WriteError.{WriteError}
 use Rattle.ga_text.specs.declared.lines.LineEnd.{LineEnd}
 use Rattle.ga_text.specs.declared.lines.LineEnd.TheVariants.{Feed, Last, Past, ReadFailed}
 
@@ -50,7 +50,7 @@ pub record TakesOne (old : Unread) (input : Bytes) (line : Line) (new : Unread) 
   pub full : new.taken ≡ input_limit
 
 -- Input is what the reader has left before the call, rest what it has left afterwards.
-abbrev pub ReadsLine : Unread → Bytes → Line → Unread → Bytes → Result LineEnd WriteFailed → Type 0
+abbrev pub ReadsLine : Unread → Bytes → Line → Unread → Bytes → Result LineEnd WriteError → Type 0
 ReadsLine old input line new rest (Ok Feed) = TakesLine old input line new rest
 ReadsLine old input line new rest (Ok Last) = TakesAll old input line new [] × (rest ≡ [])
 ReadsLine old input line new rest (Ok Past) = TakesOne old input line new rest

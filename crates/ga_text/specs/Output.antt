@@ -5,7 +5,7 @@ use Rattle.ga_text.specs.Input.{input_limit, block_size}
 use Rattle.ga_text.specs.Image.{EndsAtEnd, HasNoEnd}
 use Rattle.ga_text.specs.declared.whole.WholeRead.{WholeRead}
 use Rattle.ga_text.specs.declared.whole.WholeRead.TheVariants.{Whole, TooLong, ReadFailed, NoMemory}
-use Rattle.ga_text.specs.declared.output.WriteFailed.{WriteFailed}
+use Rattle.ga_text.specs.declared.output.WriteError.{WriteError}
 use Rattle.ga_text.specs.declared.output.Writer.{Writer}
 
 -- ---- what reading a whole input does (docs/REFERENCE.md, "Source"; this project's own)
@@ -35,55 +35,55 @@ abbrev pub ready : Text
 ready = codes "ready\n"
 
 -- front is a front of text
-abbrev pub Begins : Text → Text → Type 0
-Begins text front = (more : Text) × (text ≡ front ++ more)
+abbrev pub TextHasPrefix : Text → Text → Type 0
+TextHasPrefix text front = (more : Text) × (text ≡ front ++ more)
 
 -- Whether the stream holds a prefix of the output after what it held before, and the rest of the output is pending.
-pub record IsSaid (contents : Option Bytes) (before said pending : Text) : Type 0 where
+pub record IsWritten (contents : Option Bytes) (before said pending : Text) : Type 0 where
   pub sent : Bytes
   pub held : contents ≡ Some (before ++ sent)
   pub splits : said ≡ sent ++ pending
 
 -- Whether the stream holds a prefix of the output after what it held before, and nothing more is written.
-pub record IsCut (contents : Option Bytes) (before said : Text) : Type 0 where
+pub record IsTruncated (contents : Option Bytes) (before said : Text) : Type 0 where
   pub sent : Bytes
   pub held : contents ≡ Some (before ++ sent)
-  pub front : Begins said sent
+  pub front : TextHasPrefix said sent
 
 -- by whether the writes succeeded: a text is written, of which the rest is pending, or it is cut short
-abbrev pub IsSaidOrCut : {T : Type 0} → Result T WriteFailed → Option Bytes → Bytes → Text → Text → Type 0
-IsSaidOrCut (Ok done) contents before said pending = IsSaid contents before said pending
-IsSaidOrCut (Err failed) contents before said pending = IsCut contents before said
+abbrev pub IsWrittenOrTruncated : {T : Type 0} → Result T WriteError → Option Bytes → Bytes → Text → Text → Type 0
+IsWrittenOrTruncated (Ok done) contents before said pending = IsWritten contents before said pending
+IsWrittenOrTruncated (Err failed) contents before said pending = IsTruncated contents before said
 
 -- A writer writes to the stream that it wrote to before.
 abbrev pub IsSameStream : {W : Type 0} → Writer W → Writer W → Type 0
 IsSameStream old new = new.stream.ghost_name ≡ old.stream.ghost_name
 
 -- Whether the output doesn't grow between two states of a writer; a pending part of it may be sent to the stream.
-abbrev pub SaysNothing : {T W : Type 0} → Result T WriteFailed → (W → Option Bytes) → Writer W → Writer W → Type 0
+abbrev pub SaysNothing : {T W : Type 0} → Result T WriteError → (W → Option Bytes) → Writer W → Writer W → Type 0
 SaysNothing result contents old new =
     IsSameStream old new
     × ((before said : Text)
-    → IsSaid (contents old.stream.now) before said old.pending.items
-    → IsSaidOrCut result (contents new.stream.now) before said new.pending.items)
+    → IsWritten (contents old.stream.now) before said old.pending.items
+    → IsWrittenOrTruncated result (contents new.stream.now) before said new.pending.items)
 
 -- Whether exactly this text is written, or cut short by a failed write.
-abbrev pub SaysExactly : {T W : Type 0} → Result T WriteFailed → Text → (W → Option Bytes) → Writer W → Writer W → Type 0
-SaysExactly result text contents old new =
+abbrev pub WritesExactly : {T W : Type 0} → Result T WriteError → Text → (W → Option Bytes) → Writer W → Writer W → Type 0
+WritesExactly result text contents old new =
     IsSameStream old new
     × ((before said : Text)
-    → IsSaid (contents old.stream.now) before said old.pending.items
-    → IsSaidOrCut result (contents new.stream.now) before (said ++ text) new.pending.items)
+    → IsWritten (contents old.stream.now) before said old.pending.items
+    → IsWrittenOrTruncated result (contents new.stream.now) before (said ++ text) new.pending.items)
 
 -- Whether a text of this kind is written, or cut short by a failed write.
-abbrev pub Says : {T W : Type 0} → Result T WriteFailed → (Text → Type 0) → (W → Option Bytes) → Writer W → Writer W → Type 0
-Says result IsText contents old new =
+abbrev pub WritesSome : {T W : Type 0} → Result T WriteError → (Text → Type 0) → (W → Option Bytes) → Writer W → Writer W → Type 0
+WritesSome result IsText contents old new =
     IsSameStream old new
     × ((before said : Text)
-    → IsSaid (contents old.stream.now) before said old.pending.items
+    → IsWritten (contents old.stream.now) before said old.pending.items
     → (text : Text)
     × IsText text
-    × IsSaidOrCut result (contents new.stream.now) before (said ++ text) new.pending.items)
+    × IsWrittenOrTruncated result (contents new.stream.now) before (said ++ text) new.pending.items)
 
 -- ---- what a call does with streams that tell their bytes
 

@@ -14,13 +14,13 @@ in_front b None = None
 in_front b (Some parts) = Some (b ∷ parts.0, parts.1)
 
 -- the text before the first space, and the text after it
-abbrev pub cut : Text → Option (Text × Text)
-cut [] = None
-cut (b ∷ text) = if b == 32 then Some ([], text) else in_front b (cut text)
+abbrev pub split_at_space : Text → Option (Text × Text)
+split_at_space [] = None
+split_at_space (b ∷ text) = if b == 32 then Some ([], text) else in_front b (split_at_space text)
 
 -- the node of three decimal digits
-unfoldable pub node_in : Text → Option NodeId
-node_in word = do
+unfoldable pub parse_node : Text → Option NodeId
+parse_node word = do
   yxx ← node_number word
   option_map node_id (node_of yxx)
 
@@ -44,9 +44,9 @@ with_digits n (byte ∷ text) = do
   with_digits more text
 
 -- the number of decimal digits without leading zeros
-abbrev pub number_in : Text → Option ℕ
-number_in [] = None
-number_in (byte ∷ text) = do
+abbrev pub parse_number : Text → Option ℕ
+parse_number [] = None
+parse_number (byte ∷ text) = do
   digit ← decimal_digit byte
   with_digits digit text
 

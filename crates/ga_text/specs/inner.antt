@@ -1,11 +1,11 @@
 -- What only private contracts and proofs name.
 use Rattle.std.specs.Prelude.{ℕ, ◌+◌, ◌/◌, ◌%◌, [], ◌∷◌, Bool, true, false, ◌≡◌, ◌<◌, length, ◌++◌, Option, Result}
 use Rattle.ga_text.specs.Lines.{Text, Line, ended, Bytes, HasNoFeed}
-use Rattle.ga_text.specs.declared.input.Fill.{Fill}
-use Rattle.ga_text.specs.declared.input.Fill.TheVariants.{More, End, Past, Failed}
+use Rattle.ga_text.specs.declared.input.ReadStatus.{ReadStatus}
+use Rattle.ga_text.specs.declared.input.ReadStatus.TheVariants.{More, End, Past, Failed}
 use Rattle.ga_text.specs.Input.{Unread, input_limit}
-use Rattle.ga_text.specs.declared.output.WriteFailed.{WriteFailed}
-use Rattle.ga_text.specs.Output.{IsSaid, IsSaidOrCut}
+use Rattle.ga_text.specs.declared.output.WriteError.{WriteError}
+use Rattle.ga_text.specs.Output.{IsWritten, IsWrittenOrTruncated}
 
 -- ---- numbers in two and in four digits
 
@@ -27,14 +27,14 @@ with_feed part false = part
 -- ---- what was read of an input and is not taken yet, and how more is read
 
 -- What one read of more does: input is what the reader has left before it, rest what it has left afterwards, bytes what was read.
-abbrev pub Fills : ℕ → Bytes → Bytes → Bytes → Fill → Type 0
+abbrev pub Fills : ℕ → Bytes → Bytes → Bytes → ReadStatus → Type 0
 Fills taken input bytes rest More = input ≡ bytes ++ rest
 Fills taken input bytes rest End = (input ≡ []) × (rest ≡ [])
 Fills taken input bytes rest Past = (taken ≡ input_limit) × ((b : ℕ) × (input ≡ b ∷ rest))
 Fills taken input bytes rest Failed = rest ≡ input
 
 -- after a read of more there are bytes, or none
-abbrev pub HasFilled : Bytes → Fill → Type 0
+abbrev pub HasFilled : Bytes → ReadStatus → Type 0
 HasFilled bytes More = 0 < length bytes
 HasFilled bytes End = bytes ≡ []
 HasFilled bytes Past = bytes ≡ []

@@ -4,7 +4,7 @@ ghost use Rattle.ga_text.specs.Lines.{Bytes, ended};
 ghost use Rattle.ga_text.specs.Input.{IsWithin, block_size};
 ghost use Rattle.ga_text.specs.Image.{ReadsImage, end_line};
 
-use super::input::{Fill, Input};
+use super::input::{Input, ReadStatus};
 use std::alloc::AllocError;
 use std::io::Read;
 
@@ -47,10 +47,10 @@ pub fn read_image<R: Read>(
             start = text.len();
         } else {
             match input.fill(reader) {
-                Fill::More => {}
-                Fill::End => return Ok(ImageEnd::Ended),
-                Fill::Past => return Ok(ImageEnd::Past),
-                Fill::Failed => return Ok(ImageEnd::Failed),
+                ReadStatus::More => {}
+                ReadStatus::End => return Ok(ImageEnd::Ended),
+                ReadStatus::Past => return Ok(ImageEnd::Past),
+                ReadStatus::Failed => return Ok(ImageEnd::Failed),
             }
         }
     }

@@ -4,7 +4,7 @@ ghost use Rattle.ga_text.specs.Lines.{Bytes, HasNoFeed};
 ghost use Rattle.ga_text.specs.Input.{Unread, IsWithin, block_size};
 ghost use Rattle.ga_text.specs.inner.{Fills, HasFilled, TakesPart, with_feed};
 
-use super::lines::{LineBuffer, keep};
+use super::lines::{LineBuffer, append_bounded};
 use std::alloc::AllocError;
 use std::io::Read;
 use std::marker::Model;
@@ -26,7 +26,7 @@ pub struct Input {
 
 /// The result of a read of more.
 #[derive(Clone, Copy, PartialEq, Eq)]
-pub enum Fill {
+pub enum ReadStatus {
     /// There are bytes to take.
     More,
     /// The input ended.
@@ -62,7 +62,7 @@ impl Input {
     }
 
     /// Reads more, by one read, if all that was read is taken. At the limit it checks only whether the input ends there.
-    pub(crate) fn fill<R: Read>(&mut self, reader: &mut R) -> Fill
+    pub(crate) fn fill<R: Read>(&mut self, reader: &mut R) -> ReadStatus
         requires { self.old.bytes ≡ [] }
         ensures fills { (input : Bytes) → R.remaining reader.old ≡ Some input →
             (rest : Bytes) × (R.remaining reader.new ≡ Some rest)
@@ -76,20 +76,20 @@ impl Input {
         if self.taken == INPUT_LIMIT {
             let mut one = [0u8; 1];
             return match reader.read(&mut one) {
-                Ok(0) => Fill::End,
-                Ok(_) => Fill::Past,
-                Err(_) => Fill::Failed,
+                Ok(0) => ReadStatus::End,
+                Ok(_) => ReadStatus::Past,
+                Err(_) => ReadStatus::Failed,
             };
         }
         let room = (INPUT_LIMIT - self.taken) as usize;
         let most = if room < BLOCK { room } else { BLOCK };
         match reader.read(&mut self.block[..most]) {
-            Ok(0) => Fill::End,
+            Ok(0) => ReadStatus::End,
             Ok(count) => {
                 self.end = count;
-                Fill::More
+                ReadStatus::More
             }
-            Err(_) => Fill::Failed,
+            Err(_) => ReadStatus::Failed,
         }
     }
 
@@ -115,21 +115,21 @@ impl Input {
     }
 
     /// Takes what was read, up to a line feed, and keeps at most 201 bytes of the line. Returns whether a line feed was taken.
-    pub(crate) fn take_line(&mut self, line: &mut LineBuffer) -> bool
+    pub(crate) fn read_buffered_line(&mut self, line: &mut LineBuffer) -> bool
         ensures takes { (part : Bytes) × TakesPart self.old part self.new result
             × (line.new.items ≡ take 201 (line.old.items ++ part)) }
         ensures within { IsWithin self.new }
     {
         let ahead = &self.block[self.start..self.end];
-        match feed_at(ahead) {
+        match find_line_feed(ahead) {
             Some(count) => {
-                keep(line, &ahead[..count]);
+                append_bounded(line, &ahead[..count]);
                 self.start += count + 1;
                 self.taken += count as u32 + 1;
                 true
             }
             None => {
-                keep(line, ahead);
+                append_bounded(line, ahead);
                 self.taken += ahead.len() as u32;
                 self.start = self.end;
                 false
@@ -146,7 +146,7 @@ impl Input {
         ensures within { IsWithin self.new }
     {
         let ahead = &self.block[self.start..self.end];
-        match feed_at(ahead) {
+        match find_line_feed(ahead) {
             Some(count) => {
                 text.extend_from_slice(&ahead[..count + 1])?;
                 self.start += count + 1;
@@ -165,7 +165,7 @@ impl Input {
 
 /// The position of the first line feed.
 #[tactic(auto, using(crate::proofs::Taking::no_feed))]
-pub fn feed_at(bytes: &[u8]) -> Option<usize>
+pub fn find_line_feed(bytes: &[u8]) -> Option<usize>
     ensures found { IfSome result (λ count. (count < length bytes.now)
         × HasNoFeed (take count bytes.now) × (slice_index bytes.now count ≡ 10)) }
     ensures none { IfNone result (HasNoFeed bytes.now) }

@@ -11,13 +11,13 @@ mod whole;
 mod words;
 
 pub use image::{ImageEnd, read_image};
-pub use input::{Input, feed_at};
+pub use input::{Input, find_line_feed};
 pub use lines::{LineBuffer, LineEnd, first_line, read_line};
-pub use output::{PENDING_ROOM, Spoken, WriteFailed, Writer, write_all};
+pub use output::{OUTPUT_CAPACITY, WriteError, WriteResult, Writer, write_all};
 pub use text::{
-    BYTE_ROOM, LINE_ROOM, NODE_ROOM, NUMBER_ROOM, STEP_ROOM, TextBuffer, WORD_ROOM, hex2,
-    name_numbered, push_byte, push_digit, push_eight, push_node, push_node_spaced, push_number,
-    push_spaced, push_step, push_text, push_word,
+    BYTE_ROOM, MAX_LINE_BYTES, MAX_NUMBER_DIGITS, MAX_STEP_BYTES, NODE_NAME_BYTES, TextBuffer,
+    WORD_DIGITS, hex2, node_name_text, push_byte, push_digit, push_eight, push_node,
+    push_node_spaced, push_number, push_spaced, push_step, push_text, push_word,
 };
 pub use whole::{WholeRead, read_whole};
-pub use words::{byte_of, cut, node_in, number_in};
+pub use words::{parse_hex_byte, parse_node, parse_number, split_at_space};

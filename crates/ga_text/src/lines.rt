@@ -4,8 +4,8 @@ ghost use Rattle.ga_text.specs.Lines.{Bytes, lines_of};
 ghost use Rattle.ga_text.specs.Input.{IsWithin, ReadsLine};
 ghost use Rattle.ga_text.specs.Output.{SaysNothing};
 
-use super::input::{Fill, Input};
-use super::output::{WriteFailed, Writer};
+use super::input::{Input, ReadStatus};
+use super::output::{WriteError, Writer};
 use arrayvec::ArrayVec;
 use std::io::{Read, Write};
 
@@ -34,7 +34,7 @@ pub fn read_line<R: Read, W: Write>(
     reader: &mut R,
     writer: &mut Writer<'_, W>,
     line: &mut LineBuffer,
-) -> Result<LineEnd, WriteFailed>
+) -> Result<LineEnd, WriteError>
     requires { IsWithin input.old }
     ensures reads { (left : Bytes) → R.remaining reader.old ≡ Some left →
         (rest : Bytes) × (R.remaining reader.new ≡ Some rest)
@@ -45,21 +45,21 @@ pub fn read_line<R: Read, W: Write>(
 {
     line.clear();
     'parts: loop {
-        if input.take_line(line) {
+        if input.read_buffered_line(line) {
             return Ok(LineEnd::Feed);
         }
-        writer.send()?;
+        writer.flush()?;
         match input.fill(reader) {
-            Fill::More => {}
-            Fill::End => return Ok(LineEnd::Last),
-            Fill::Past => return Ok(LineEnd::Past),
-            Fill::Failed => return Ok(LineEnd::ReadFailed),
+            ReadStatus::More => {}
+            ReadStatus::End => return Ok(LineEnd::Last),
+            ReadStatus::Past => return Ok(LineEnd::Past),
+            ReadStatus::Failed => return Ok(LineEnd::ReadFailed),
         }
     }
 }
 
 /// Adds bytes to a line, as far as there is room.
-pub fn keep(line: &mut LineBuffer, bytes: &[u8])
+pub fn append_bounded(line: &mut LineBuffer, bytes: &[u8])
     ensures { line.new.items ≡ take 201 (line.old.items ++ bytes.now) }
 {
     let count = line.remaining_capacity().min(bytes.len());

@@ -1,7 +1,7 @@
 //! The output to a stream, buffered before it is written.
 ghost use Rattle.std.specs.Prelude.{◌≡◌, ◌++◌, ◌+◌, ◌≤◌, length, ℕ, List, [], OnOk};
 ghost use Rattle.ga_text.specs.Lines.{Bytes};
-ghost use Rattle.ga_text.specs.Output.{IsSaid, IsSaidOrCut, SaysExactly, SaysNothing, ready};
+ghost use Rattle.ga_text.specs.Output.{IsWritten, IsWrittenOrTruncated, WritesExactly, SaysNothing, ready};
 
 use arrayvec::ArrayVec;
 use std::io::Write;
@@ -10,10 +10,10 @@ use thiserror::Error;
 /// A write failed, or took none of the bytes that it was offered.
 #[derive(Clone, Copy, PartialEq, Eq, Debug, Error)]
 #[error("a write failed")]
-pub struct WriteFailed;
+pub struct WriteError;
 
 /// The result of writing to the output.
-pub type Spoken = Result<(), WriteFailed>;
+pub type WriteResult = Result<(), WriteError>;
 
 /// The bytes of a long text that are buffered at once.
 const BLOCK: usize = 4096;
@@ -22,13 +22,13 @@ const BLOCK: usize = 4096;
 const CLEARED: usize = 1024;
 
 /// The number of bytes of the buffer.
-pub const PENDING_ROOM: usize = 65536;
+pub const OUTPUT_CAPACITY: usize = 65536;
 
 /// A stream, with the output to it that is not written yet.
 #[derive(Drop)]
 pub struct Writer<'w, W: Write> {
     /// The output that is not written yet.
-    pub pending: ArrayVec<u8, PENDING_ROOM>,
+    pub pending: ArrayVec<u8, OUTPUT_CAPACITY>,
     /// The stream to which the output is written.
     pub stream: &'w mut W,
 }
@@ -61,9 +61,9 @@ impl<'w, W: Write> Writer<'w, W> {
     ///
     /// # Errors
     /// A write failed.
-    pub fn say(&mut self, text: &[u8]) -> Spoken
-        requires { length text.now ≤ PENDING_ROOM }
-        ensures { SaysExactly result text.now W.contents self.old self.new }
+    pub fn write_text(&mut self, text: &[u8]) -> WriteResult
+        requires { length text.now ≤ OUTPUT_CAPACITY }
+        ensures { WritesExactly result text.now W.contents self.old self.new }
     {
         self.make_room(text.len())?;
         let _fits = self.pending.try_extend_from_slice(text);
@@ -74,13 +74,13 @@ impl<'w, W: Write> Writer<'w, W> {
     ///
     /// # Errors
     /// A write failed.
-    pub fn say_blocks(&mut self, text: &[u8]) -> Spoken
-        ensures { SaysExactly result text.now W.contents self.old self.new }
+    pub fn write_blocks(&mut self, text: &[u8]) -> WriteResult
+        ensures { WritesExactly result text.now W.contents self.old self.new }
     {
         let mut rest = text;
         'pieces: while !rest.is_empty() {
             let (block, after) = rest.split_at(rest.len().min(BLOCK));
-            self.say(block)?;
+            self.write_text(block)?;
             rest = after;
         }
         Ok(())
@@ -91,22 +91,22 @@ impl<'w, W: Write> Writer<'w, W> {
     /// # Errors
     /// A write failed.
     #[inline(always)]
-    pub fn make_room(&mut self, count: usize) -> Spoken
-        requires { count ≤ PENDING_ROOM }
+    pub fn make_room(&mut self, count: usize) -> WriteResult
+        requires { count ≤ OUTPUT_CAPACITY }
         ensures said { SaysNothing result W.contents self.old self.new }
-        ensures room { OnOk result (length self.new.pending.items + count ≤ PENDING_ROOM) }
+        ensures room { OnOk result (length self.new.pending.items + count ≤ OUTPUT_CAPACITY) }
     {
         if self.pending.remaining_capacity() >= count {
             return Ok(());
         }
-        self.send()
+        self.flush()
     }
 
     /// Writes all that is pending, and hands it on.
     ///
     /// # Errors
     /// A write failed.
-    pub fn send(&mut self) -> Spoken
+    pub fn flush(&mut self) -> WriteResult
         ensures said { SaysNothing result W.contents self.old self.new }
         ensures sent { OnOk result (self.new.pending.items ≡ []) }
     {
@@ -120,7 +120,7 @@ impl<'w, W: Write> Writer<'w, W> {
 }
 
 /// Drops what is pending, in blocks that the C library fills by wide stores.
-fn forget(pending: &mut ArrayVec<u8, PENDING_ROOM>)
+fn forget(pending: &mut ArrayVec<u8, OUTPUT_CAPACITY>)
     ensures { pending.new.items ≡ [] }
 {
     'blocks: while !pending.is_empty() {
@@ -133,20 +133,20 @@ fn forget(pending: &mut ArrayVec<u8, PENDING_ROOM>)
 ///
 /// # Errors
 /// A write failed.
-pub fn write_all<W: Write>(writer: &mut W, text: &[u8]) -> Spoken
-    ensures { (before said : Bytes) → IsSaid (W.contents writer.old) before said text.now →
-        IsSaidOrCut result (W.contents writer.new) before said [] }
+pub fn write_all<W: Write>(writer: &mut W, text: &[u8]) -> WriteResult
+    ensures { (before said : Bytes) → IsWritten (W.contents writer.old) before said text.now →
+        IsWrittenOrTruncated result (W.contents writer.new) before said [] }
 {
     let mut rest = text;
     'bytes: while !rest.is_empty() {
         match writer.write(rest) {
-            Ok(0) => return Err(WriteFailed),
+            Ok(0) => return Err(WriteError),
             Ok(count) => rest = rest.split_at(count).1,
-            Err(_) => return Err(WriteFailed),
+            Err(_) => return Err(WriteError),
         }
     }
     match writer.flush() {
         Ok(()) => Ok(()),
-        Err(_) => Err(WriteFailed),
+        Err(_) => Err(WriteError),
     }
 }

@@ -12,23 +12,23 @@ use ga_word::Word18;
 use itoa::write_digits;
 
 /// The most bytes of an answer's line, its line feed included.
-pub const LINE_ROOM: usize = 256;
+pub const MAX_LINE_BYTES: usize = 256;
 
 /// The most digits of a number.
-pub const NUMBER_ROOM: usize = b"18446744073709551615".len();
+pub const MAX_NUMBER_DIGITS: usize = b"18446744073709551615".len();
 
 /// The digits of a node's name, of a word and of a byte.
-pub const NODE_ROOM: usize = b"717".len();
+pub const NODE_NAME_BYTES: usize = b"717".len();
 
-pub const WORD_ROOM: usize = b"03ffff".len();
+pub const WORD_DIGITS: usize = b"03ffff".len();
 
 pub const BYTE_ROOM: usize = b"ff".len();
 
 /// The most bytes of a step: the name of its node, a space and its number.
-pub const STEP_ROOM: usize = NODE_ROOM + 1 + NUMBER_ROOM;
+pub const MAX_STEP_BYTES: usize = NODE_NAME_BYTES + 1 + MAX_NUMBER_DIGITS;
 
 /// The text of a line.
-pub type TextBuffer = ArrayVec<u8, LINE_ROOM>;
+pub type TextBuffer = ArrayVec<u8, MAX_LINE_BYTES>;
 
 /// Adds a text.
 #[inline]
@@ -43,9 +43,9 @@ pub fn push_text<const ROOM: usize>(out: &mut ArrayVec<u8, ROOM>, text: &[u8])
 /// Adds a number in decimal digits.
 #[inline(always)]
 pub fn push_number<const ROOM: usize>(out: &mut ArrayVec<u8, ROOM>, number: u64)
-    requires { array_vec_len out.old + NUMBER_ROOM ≤ ROOM }
+    requires { array_vec_len out.old + MAX_NUMBER_DIGITS ≤ ROOM }
     ensures text { out.new.items ≡ out.old.items ++ decimal number }
-    ensures len { array_vec_len out.new ≤ array_vec_len out.old + NUMBER_ROOM }
+    ensures len { array_vec_len out.new ≤ array_vec_len out.old + MAX_NUMBER_DIGITS }
 {
     if number < 100000000 {
         push_eight(out, number);
@@ -57,12 +57,12 @@ pub fn push_number<const ROOM: usize>(out: &mut ArrayVec<u8, ROOM>, number: u64)
 /// Adds a number of any length in decimal digits.
 #[tactic(auto, using(crate::proofs::DigitLemmas::short_decimal))]
 fn push_long<const ROOM: usize>(out: &mut ArrayVec<u8, ROOM>, number: u64)
-    requires { array_vec_len out.old + NUMBER_ROOM ≤ ROOM }
+    requires { array_vec_len out.old + MAX_NUMBER_DIGITS ≤ ROOM }
     ensures text { out.new.items ≡ out.old.items ++ decimal number }
-    ensures len { array_vec_len out.new ≤ array_vec_len out.old + NUMBER_ROOM }
+    ensures len { array_vec_len out.new ≤ array_vec_len out.old + MAX_NUMBER_DIGITS }
 {
-    let mut digits = [0; NUMBER_ROOM];
-    let start = write_digits(number, &mut digits, NUMBER_ROOM);
+    let mut digits = [0; MAX_NUMBER_DIGITS];
+    let start = write_digits(number, &mut digits, MAX_NUMBER_DIGITS);
     push_text(out, &digits[start..]);
 }
 
@@ -145,16 +145,16 @@ pub fn push_digit<const ROOM: usize>(out: &mut ArrayVec<u8, ROOM>, number: u8)
 
 /// Adds a node's name.
 pub fn push_node<const ROOM: usize>(out: &mut ArrayVec<u8, ROOM>, node: NodeId)
-    requires { array_vec_len out.old + NODE_ROOM ≤ ROOM }
+    requires { array_vec_len out.old + NODE_NAME_BYTES ≤ ROOM }
     ensures text { out.new.items ≡ out.old.items ++ name_of_node node }
-    ensures len { array_vec_len out.new ≡ array_vec_len out.old + NODE_ROOM }
+    ensures len { array_vec_len out.new ≡ array_vec_len out.old + NODE_NAME_BYTES }
 {
     push_text(out, &name_digits(node));
 }
 
 /// The digits of a node's name: one of its row, and two of its column.
 #[inline(always)]
-fn name_digits(node: NodeId) -> [u8; NODE_ROOM]
+fn name_digits(node: NodeId) -> [u8; NODE_NAME_BYTES]
     ensures { result ≡ name_of_node node }
 {
     let [row, tens, ones, _] = name_spaced(node);
@@ -166,12 +166,12 @@ fn name_digits(node: NodeId) -> [u8; NODE_ROOM]
 fn name_spaced(node: NodeId) -> [u8; 4]
     ensures { result ≡ name_of_node node ++ codes " " }
 {
-    name_numbered(node.index() as u8)
+    node_name_text(node.index() as u8)
 }
 
 /// The name of the node with this number and a space, or four zeros where there is no such node.
 #[inline(always)]
-pub fn name_numbered(number: u8) -> [u8; 4]
+pub fn node_name_text(number: u8) -> [u8; 4]
     ensures named { (node : NodeId) → node.number ≡ number → result ≡ name_of_node node ++ codes " " }
     ensures none { 144 ≤ number → result ≡ (0 ∷ 0 ∷ 0 ∷ 0 ∷ []) }
 {
@@ -182,9 +182,9 @@ pub fn name_numbered(number: u8) -> [u8; 4]
 /// Adds a node's name and a space.
 #[inline(always)]
 pub fn push_node_spaced<const ROOM: usize>(out: &mut ArrayVec<u8, ROOM>, node: NodeId)
-    requires { array_vec_len out.old + NODE_ROOM + 1 ≤ ROOM }
+    requires { array_vec_len out.old + NODE_NAME_BYTES + 1 ≤ ROOM }
     ensures text { out.new.items ≡ out.old.items ++ (name_of_node node ++ codes " ") }
-    ensures len { array_vec_len out.new ≡ array_vec_len out.old + NODE_ROOM + 1 }
+    ensures len { array_vec_len out.new ≡ array_vec_len out.old + NODE_NAME_BYTES + 1 }
 {
     push_text(out, &name_spaced(node));
 }
@@ -192,9 +192,9 @@ pub fn push_node_spaced<const ROOM: usize>(out: &mut ArrayVec<u8, ROOM>, node: N
 /// Adds a step: the name of its node and its number.
 #[inline(always)]
 pub fn push_step<const ROOM: usize>(out: &mut ArrayVec<u8, ROOM>, node: NodeId, step: u32)
-    requires { array_vec_len out.old + STEP_ROOM ≤ ROOM }
+    requires { array_vec_len out.old + MAX_STEP_BYTES ≤ ROOM }
     ensures text { out.new.items ≡ out.old.items ++ step_text node step }
-    ensures len { array_vec_len out.new ≤ array_vec_len out.old + STEP_ROOM }
+    ensures len { array_vec_len out.new ≤ array_vec_len out.old + MAX_STEP_BYTES }
 {
     push_text(out, &name_spaced(node));
     push_number(out, u64::from(step));
@@ -202,9 +202,9 @@ pub fn push_step<const ROOM: usize>(out: &mut ArrayVec<u8, ROOM>, node: NodeId, 
 
 /// Adds a word in six hexadecimal digits.
 pub fn push_word<const ROOM: usize>(out: &mut ArrayVec<u8, ROOM>, word: Word18)
-    requires { array_vec_len out.old + WORD_ROOM ≤ ROOM }
+    requires { array_vec_len out.old + WORD_DIGITS ≤ ROOM }
     ensures text { out.new.items ≡ out.old.items ++ hex6_of word }
-    ensures len { array_vec_len out.new ≡ array_vec_len out.old + WORD_ROOM }
+    ensures len { array_vec_len out.new ≡ array_vec_len out.old + WORD_DIGITS }
 {
     push_text(out, &hex6(word));
 }
@@ -212,9 +212,9 @@ pub fn push_word<const ROOM: usize>(out: &mut ArrayVec<u8, ROOM>, word: Word18)
 /// Adds a space and a word.
 #[inline(always)]
 pub fn push_spaced<const ROOM: usize>(out: &mut ArrayVec<u8, ROOM>, word: Word18)
-    requires { array_vec_len out.old + 1 + WORD_ROOM ≤ ROOM }
+    requires { array_vec_len out.old + 1 + WORD_DIGITS ≤ ROOM }
     ensures text { out.new.items ≡ out.old.items ++ (codes " " ++ hex6_of word) }
-    ensures len { array_vec_len out.new ≡ array_vec_len out.old + 1 + WORD_ROOM }
+    ensures len { array_vec_len out.new ≡ array_vec_len out.old + 1 + WORD_DIGITS }
 {
     let [a, b, c, d, e, f] = hex6(word);
     push_text(out, &[b' ', a, b, c, d, e, f]);
@@ -223,7 +223,7 @@ pub fn push_spaced<const ROOM: usize>(out: &mut ArrayVec<u8, ROOM>, word: Word18
 /// The six hexadecimal digits of a word.
 #[inline(always)]
 #[tactic(auto, using(crate::proofs::DigitLemmas::three_bytes))]
-fn hex6(word: Word18) -> [u8; WORD_ROOM]
+fn hex6(word: Word18) -> [u8; WORD_DIGITS]
     ensures { result ≡ hex6_of word }
 {
     let bits = word.get();

@@ -3,14 +3,14 @@
 ghost use Rattle.std.specs.Prelude.{◌≡◌, ◌+◌, ◌*◌, ◌<◌, [], ◌∷◌, option_map};
 ghost use Rattle.ga_grid.specs.Grid.{node_of as node_numbered, node_id, decimal_digit};
 ghost use Rattle.ga_text.specs.Digits.{byte_in};
-ghost use Rattle.ga_text.specs.Parsing.{cut, node_in, number_in, with_digit};
+ghost use Rattle.ga_text.specs.Parsing.{split_at_space, parse_node, parse_number, with_digit};
 
 use ga_grid::{NodeId, decimal_digit};
 
 /// The text before the first space, and the text after it.
 #[tactic(auto, using(crate::proofs::Taking::at_space, crate::proofs::Taking::no_space))]
-pub fn cut(text: &[u8]) -> Option<(&[u8], &[u8])>
-    ensures { option_map (λ parts. (parts.0.now, parts.1.now)) result ≡ cut text.now }
+pub fn split_at_space(text: &[u8]) -> Option<(&[u8], &[u8])>
+    ensures { option_map (λ parts. (parts.0.now, parts.1.now)) result ≡ split_at_space text.now }
 {
     for (i, byte) in text.iter().enumerate() {
         if *byte == b' ' {
@@ -21,21 +21,21 @@ pub fn cut(text: &[u8]) -> Option<(&[u8], &[u8])>
 }
 
 /// The node that is named by three decimal digits: its row, and two of its column.
-#[tactic(auto, unfolding(crate::specs::Parsing::node_in, ga_grid::specs::Grid::node_number))]
-pub fn node_in(word: &[u8]) -> Option<NodeId>
-    ensures { result ≡ node_in word.now }
+#[tactic(auto, unfolding(crate::specs::Parsing::parse_node, ga_grid::specs::Grid::node_number))]
+pub fn parse_node(word: &[u8]) -> Option<NodeId>
+    ensures { result ≡ parse_node word.now }
 {
     match word {
-        [row, tens, ones] => node_named(*row, *tens, *ones),
+        [row, tens, ones] => parse_node_digits(*row, *tens, *ones),
         _ => None,
     }
 }
 
 /// The node of three decimal digits: one of its row, and two of its column.
-#[tactic(auto, unfolding(crate::specs::Parsing::node_in, ga_grid::specs::Grid::node_number))]
+#[tactic(auto, unfolding(crate::specs::Parsing::parse_node, ga_grid::specs::Grid::node_number))]
 #[inline(always)]
-pub fn node_named(row: u8, tens: u8, ones: u8) -> Option<NodeId>
-    ensures { result ≡ node_in (row ∷ tens ∷ ones ∷ []) }
+pub fn parse_node_digits(row: u8, tens: u8, ones: u8) -> Option<NodeId>
+    ensures { result ≡ parse_node (row ∷ tens ∷ ones ∷ []) }
 {
     let row = decimal_digit(row)?;
     let tens = decimal_digit(tens)?;
@@ -57,8 +57,8 @@ fn node_at(row: u32, column: u32) -> Option<NodeId>
 }
 
 /// A decimal number below 2^32 without leading zeros.
-pub fn number_in(word: &[u8]) -> Option<u32>
-    ensures { result ≡ number_in word.now }
+pub fn parse_number(word: &[u8]) -> Option<u32>
+    ensures { result ≡ parse_number word.now }
 {
     let (first, rest) = word.split_first()?;
     let mut number = decimal_digit(*first)?;
@@ -80,7 +80,7 @@ fn with_digit(number: u32, byte: u8) -> Option<u32>
 }
 
 /// A number of exactly two hexadecimal digits in either case.
-pub fn byte_of(text: &[u8]) -> Option<u8>
+pub fn parse_hex_byte(text: &[u8]) -> Option<u8>
     ensures { result ≡ byte_in text.now }
 {
     let mut byte = [0];

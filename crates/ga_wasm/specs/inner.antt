@@ -5,7 +5,7 @@ use Rattle.ga_console.specs.declared.run.Status.TheVariants.{Done, ImageRefused,
 use Rattle.ga_node.specs.Record.{NodeRecord, NodeState}
 use Rattle.ga_grid.specs.declared.node_id.NodeId.{NodeId}
 use Rattle.ga_event.specs.declared.event.Cause.{Cause}
-use Rattle.ga_event.specs.Apply.{Told, apply, cause_of}
+use Rattle.ga_event.specs.Apply.{EventOutcome, apply, cause_of}
 use Rattle.ga_event.specs.Next.{next}
 use Rattle.ga_lab.specs.Machine.{State, causes_of, actor_of}
 use Rattle.ga_grid.specs.Chip.{records_of}
@@ -28,7 +28,7 @@ number_of NotFinished = 4
 -- from one chip to another the node with this number makes its next event
 pub record Makes (chip : List NodeRecord) (n : ℕ) (cause : Cause) (after : List NodeRecord) : Type 0 where
   pub node : NodeId
-  pub told : Told
+  pub told : EventOutcome
   pub number : node.number ≡ n
   pub due : next chip node ≡ Ok cause.event
   pub look : cause ≡ cause_of chip cause.event

@@ -2,14 +2,14 @@
 
 ghost use Rattle.std.specs.Prelude.{◌≡◌, ◌++◌, ◌⊎◌, ℕ, List, None, Ok, IfSome, length, take};
 ghost use Rattle.ga_text.specs.Lines.{Bytes};
-ghost use Rattle.ga_explorer.specs.Opening.{Exploring};
+ghost use Rattle.ga_explorer.specs.Opening.{ExplorerState};
 ghost use Rattle.ga_picture.specs.Following.{FollowsTo};
 ghost use Rattle.ga_wasm.specs.inner.{maker_of, makers_of};
 
 use crate::buffer::{put_front, streams};
 use ga_event::{Cause, Event};
 use ga_lab::Lab;
-use ga_picture::follow_session;
+use ga_picture::run_silent_session;
 use std::alloc::Global;
 
 /// Executes a session that is given whole, and writes for each event in the history at its end, in order, the number of the
@@ -17,12 +17,12 @@ use std::alloc::Global;
 /// there are none, or the end isn't reached: the image or source is refused, the input is too long, or an allocation failed.
 #[unsafe(no_mangle)]
 pub extern "C" fn ga_kept(alloc: Global, input: &[u8], output: &mut [u8], limit: u32) -> usize
-    ensures { (result ≡ 0) ⊎ ((read rest text : Bytes) × (last : Exploring) × (input.now ≡ read ++ rest)
+    ensures { (result ≡ 0) ⊎ ((read rest text : Bytes) × (last : ExplorerState) × (input.now ≡ read ++ rest)
         × FollowsTo None limit read rest text (Ok last) × (nodes : List ℕ) × (nodes ≡ makers_of last.lab)
         × (result ≡ length nodes) × (take result output.new ≡ take (length output.old) nodes)) }
 {
     let (mut reader, mut refusal, mut errors) = streams(alloc, input);
-    match follow_session(alloc, &mut reader, &mut refusal, &mut errors, None, limit) {
+    match run_silent_session(alloc, &mut reader, &mut refusal, &mut errors, None, limit) {
         Ok(explorer) => tell(alloc, explorer.lab(), output),
         Err(_) => 0,
     }

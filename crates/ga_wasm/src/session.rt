@@ -3,7 +3,7 @@
 ghost use Rattle.std.specs.Prelude.{◌≡◌, ◌++◌, ◌∷◌, [], None, length, take};
 ghost use Rattle.ga_text.specs.Lines.{Bytes};
 ghost use Rattle.ga_console.specs.declared.run.Status.{Status as Ended};
-ghost use Rattle.ga_explorer.specs.Session.{RunsExploring};
+ghost use Rattle.ga_explorer.specs.Session.{RunsExplorer};
 ghost use Rattle.ga_wasm.specs.inner.{number_of};
 
 use crate::buffer::{put_front, streams};
@@ -23,7 +23,7 @@ pub extern "C" fn ga_session(
     limit: u32,
 ) -> usize
     ensures { (read rest text : Bytes) × (status : Ended) × (input.now ≡ read ++ rest)
-        × RunsExploring None limit read rest text status
+        × RunsExplorer None limit read rest text status
         × (result ≡ length text) × (take result output.new ≡ take (length output.old) text)
         × (take 1 ended.new ≡ take (length ended.old) (number_of status ∷ [])) }
 {

@@ -7,14 +7,14 @@ use Rattle.ga_ports.specs.Steps.{◌>>=◌}
 use Rattle.ga_console.specs.declared.command.Command.{Command}
 use Rattle.ga_console.specs.declared.command.Command.TheVariants.{Step, Back, Rewind, Node, Memory, Trace, Why, Count, Dump, Quit}
 use Rattle.ga_text.specs.Digits.{byte_in}
-use Rattle.ga_text.specs.Parsing.{cut, node_in, number_in}
+use Rattle.ga_text.specs.Parsing.{split_at_space, parse_node, parse_number}
 
 -- a node and a step of it
 unfoldable pub step_in : Text → Option (NodeId × ℕ)
 step_in text = do
-  parts ← cut text
-  node ← node_in parts.0
-  step ← number_in parts.1
+  parts ← split_at_space text
+  node ← parse_node parts.0
+  step ← parse_number parts.1
   Some (node, step)
 
 unfoldable pub rewind_in : Text → Option Command
@@ -22,17 +22,17 @@ rewind_in text = option_map (λ step. Rewind step.0 step.1) (step_in text)
 
 unfoldable pub memory_in : Text → Option Command
 memory_in text = do
-  parts ← cut text
-  node ← node_in parts.0
+  parts ← split_at_space text
+  node ← parse_node parts.0
   address ← byte_in parts.1
   Some (Memory node address)
 
 unfoldable pub why_in : Text → Option Command
 why_in text = do
-  first ← cut text
-  second ← cut first.1
-  from ← node_in first.0
-  from_step ← number_in second.0
+  first ← split_at_space text
+  second ← split_at_space first.1
+  from ← parse_node first.0
+  from_step ← parse_number second.0
   to ← step_in second.1
   Some (Why from from_step to.0 to.1)
 
@@ -48,11 +48,11 @@ alone name =
 -- a command with arguments
 unfoldable pub with_arguments : Text → Text → Option Command
 with_arguments name text =
-    if pointwise nat_eq name (codes "step") then option_map Step (node_in text)
+    if pointwise nat_eq name (codes "step") then option_map Step (parse_node text)
     else if pointwise nat_eq name (codes "rewind") then rewind_in text
-    else if pointwise nat_eq name (codes "node") then option_map Node (node_in text)
+    else if pointwise nat_eq name (codes "node") then option_map Node (parse_node text)
     else if pointwise nat_eq name (codes "mem") then memory_in text
-    else if pointwise nat_eq name (codes "trace") then option_map Trace (node_in text)
+    else if pointwise nat_eq name (codes "trace") then option_map Trace (parse_node text)
     else if pointwise nat_eq name (codes "why") then why_in text
     else None
 
@@ -62,7 +62,7 @@ command_by (Some parts) line = with_arguments parts.0 parts.1
 
 -- the command that a line spells
 abbrev pub command_in : Line → Option Command
-command_in line = command_by (cut line) line
+command_in line = command_by (split_at_space line) line
 
 -- the first four bytes of a line in one number
 abbrev pub head_of : Line → ℕ

@@ -5,17 +5,17 @@ use Rattle.ga_text.specs.Parsing.{IsNumber}
 use Rattle.ga_console.specs.Commands.{SpellsCommand}
 use Rattle.ga_console.specs.Session.{quit_line, Answering, Serves, Written}
 use Rattle.ga_console.specs.declared.command.Command.{Command}
-use Rattle.ga_console.specs.declared.ahead.Ahead.{Ahead}
-use Rattle.ga_console.specs.declared.ahead.Ahead.TheVariants.{Spelled, Other, Nothing}
-use Rattle.ga_text.specs.declared.output.WriteFailed.{WriteFailed}
-use Rattle.ga_text.specs.Output.{Begins, ready}
+use Rattle.ga_console.specs.declared.fast_path.PrefixCommand.{PrefixCommand}
+use Rattle.ga_console.specs.declared.fast_path.PrefixCommand.TheVariants.{Spelled, Other, Nothing}
+use Rattle.ga_text.specs.declared.output.WriteError.{WriteError}
+use Rattle.ga_text.specs.Output.{TextHasPrefix, ready}
 use Rattle.ga_console.specs.declared.run.Status.{Status}
 use Rattle.ga_console.specs.declared.run.Status.TheVariants.{Done, ImageRefused, StreamFault, NotFinished}
 use Rattle.ga_console.specs.Race.{IsReport, IsRefusal, IsCutShort}
 use Rattle.ga_image.specs.declared.fault.ImageFault.{ImageFault}
 use Rattle.ga_text.specs.Input.{input_limit}
 use Rattle.ga_lab.specs.Machine.{State}
-use Rattle.ga_console.specs.declared.commands.Ending.{Ending}
+use Rattle.ga_console.specs.declared.commands.CommandsEnd.{CommandsEnd}
 use Rattle.ga_console.specs.Run.{status_of, Refuses, Opens, IsFault}
 
 -- ---- A line that was read whole and is not taken yet
@@ -46,7 +46,7 @@ pub record IsNumberAhead (bytes : Bytes) (number digits : ℕ) : Type 0 where
   pub spelled : take digits bytes ≡ decimal number
 
 -- what the bytes begin with
-abbrev pub StandsAhead : Bytes → Ahead → Type 0
+abbrev pub StandsAhead : Bytes → PrefixCommand → Type 0
 StandsAhead bytes (Spelled asked count) = IsAhead bytes asked count
 StandsAhead bytes (Other count) = IsLineAhead bytes count
 StandsAhead bytes Nothing = Unit {0}
@@ -62,7 +62,7 @@ AnswersCommand A m asked new answer = (line : Line) → length line ≤ longest 
 -- a text was written whole, or that failed
 abbrev pub Writes : Bytes → Text → Status → Type 0
 Writes whole text Done = text ≡ whole
-Writes whole text StreamFault = Begins whole text
+Writes whole text StreamFault = TextHasPrefix whole text
 Writes whole text ImageRefused = ⊥
 Writes whole text NotFinished = ⊥
 
@@ -78,6 +78,6 @@ Races limit workers calls image text NotFinished = text ≡ []
 -- is refused, no more is read.
 abbrev pub AfterImage : {M : Type 0} → Answering M → (State → M) → ℕ → Text → ℕ → Bytes → Bytes → Bytes → Text → Status → Type 0
 AfterImage {M} A begin limit image taken ahead read rest text status =
-    ((machine : State) × Opens image limit machine × (ending : Result Ending WriteFailed) × (status ≡ status_of ending)
+    ((machine : State) × Opens image limit machine × (ending : Result CommandsEnd WriteError) × (status ≡ status_of ending)
     × (said : Text) × (last : M) × Serves A (input_limit - taken) (begin machine) read rest said last ending × Written ending (ready ++ said) text)
     ⊎ ((fault : ImageFault) × IsFault image fault × Refuses fault text status × (read ≡ ahead))

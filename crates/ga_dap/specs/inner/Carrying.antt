@@ -2,12 +2,12 @@
 use Rattle.std.specs.Prelude.{Result, Ok, Err}
 use Rattle.ga_dap_protocol.specs.Sent.{SentMessages}
 use Rattle.ga_dap_queries.specs.Sending.{Messages, SendsAll}
-use Rattle.ga_dap.specs.declared.unanswered.Unanswered.{Unanswered}
-use Rattle.ga_dap.specs.declared.unanswered.Unanswered.TheVariants.{Memory, Untold}
+use Rattle.ga_dap.specs.declared.unanswered.NoResponse.{NoResponse}
+use Rattle.ga_dap.specs.declared.unanswered.NoResponse.TheVariants.{Memory, Untold}
 
 -- messages were sent for which this holds; or an allocation failed before anything changed, for which that holds; or for what
 -- had to be reported of a change
-abbrev pub Carries : Result (Unit {0}) Unanswered → (Messages → Type 0) → Type 0 → SentMessages → SentMessages → Type 0
+abbrev pub Carries : Result (Unit {0}) NoResponse → (Messages → Type 0) → Type 0 → SentMessages → SentMessages → Type 0
 Carries (Ok done) Does Stays old new = (messages : Messages) × Does messages × SendsAll old messages new
 Carries (Err Memory) Does Stays old new = Stays
 Carries (Err Untold) Does Stays old new = Unit {0}

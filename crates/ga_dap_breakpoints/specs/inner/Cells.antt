@@ -12,27 +12,27 @@ use Rattle.ga_event.specs.Told.{steps_of}
 use Rattle.ga_lab.specs.Machine.{State, chip_of, history_of}
 use Rattle.ga_provenance.specs.Fetched.{fetched_cell}
 use Rattle.ga_scheduler.specs.Conditions.{is_step_of}
-use Rattle.ga_dap_views.specs.declared.spots.Spot.{Spot}
+use Rattle.ga_dap_views.specs.declared.spots.SlotAddress.{SlotAddress}
 use Rattle.ga_dap_views.specs.Spots.{spot_by}
 use Rattle.ga_dap_breakpoints.specs.declared.back.Watched.{Watched}
 use Rattle.ga_dap_breakpoints.specs.declared.back.Watched.TheVariants.{Comes, Writes}
 use Rattle.ga_dap_breakpoints.specs.declared.breakpoint.Breakpoint.{Breakpoint}
 use Rattle.ga_dap_breakpoints.specs.declared.hits.HitTally.{HitTally}
-use Rattle.ga_dap_breakpoints.specs.Back.{arrives, is_at_spot}
+use Rattle.ga_dap_breakpoints.specs.Back.{can_reach_slot, is_at_spot}
 use Rattle.ga_dap_breakpoints.specs.Breakpoints.{has_done, hit_counted, is_stopping}
 use Rattle.ga_dap_breakpoints.specs.Conditions.{meets_test}
 use Rattle.ga_dap_breakpoints.specs.inner.Words.{keeps_kind}
 use Rattle.ga_scheduler.specs.declared.watched.WatchedEnd.{WatchedEnd}
-use Rattle.ga_dap_breakpoints.specs.declared.halts.Halting.{Halting}
+use Rattle.ga_dap_breakpoints.specs.declared.halts.HaltMonitor.{HaltMonitor}
 use Rattle.ga_dap_breakpoints.specs.declared.going.Halt.{Halt}
 use Rattle.ga_dap_breakpoints.specs.declared.going.Halt.TheVariants.{Hit, Stopped, Moved, Cut, Quiet, Refused}
 
 -- the cells of the nodes' words by the numbers of the nodes: known or not, and of a memory or not
-abbrev pub Cells : Type 0
-Cells = List (Option (Option ℕ))
+abbrev pub InstructionCells : Type 0
+InstructionCells = List (Option (Option ℕ))
 
 -- after this event, a node that may have fetched another word is forgotten
-abbrev pub cells_left : Made → Cells → Cells
+abbrev pub cells_left : Made → InstructionCells → InstructionCells
 cells_left (made.Own node step kind) cells = if keeps_kind kind then cells else slice_set cells node.number None
 cells_left (made.Pass writer i reader j word) cells = slice_set cells reader.number None
 
@@ -41,59 +41,59 @@ abbrev pub cell_known : State → NodeId → Option (Option ℕ) → Option ℕ
 cell_known s node (Some cell) = cell
 cell_known s node None = fetched_cell s node (steps_of node.number s.kept)
 
-abbrev pub cell_in : State → Cells → NodeId → Option ℕ
+abbrev pub cell_in : State → InstructionCells → NodeId → Option ℕ
 cell_in s cells node = cell_known s node (slice_index_or cells node.number None)
 
 -- a node's cell is needed if the node is in its word at the slot, and is known from then on
-abbrev pub asks_word : Spot → NodeRecord → Bool
+abbrev pub asks_word : SlotAddress → NodeRecord → Bool
 asks_word at n = not (n.slot == 4) && n.slot == at.slot
 
-abbrev pub cells_with : ℕ → Option ℕ → Cells → Cells
+abbrev pub cells_with : ℕ → Option ℕ → InstructionCells → InstructionCells
 cells_with n cell cells = slice_set cells n (Some cell)
 
-abbrev pub cells_asked : Bool → State → NodeId → Cells → Cells
+abbrev pub cells_asked : Bool → State → NodeId → InstructionCells → InstructionCells
 cells_asked asked s node cells = if asked then cells_with node.number (cell_in s cells node) cells else cells
 
 -- ---- what an event hits, by the cells
 
 -- the node's newest step came to the slot, where its word came from this cell
-abbrev pub comes_by : State → NodeId → Spot → Option ℕ → Bool
+abbrev pub comes_by : State → NodeId → SlotAddress → Option ℕ → Bool
 comes_by s node at cell =
-    arrives (slice_get (history_of s node.number) (steps_of node.number s.kept - 1)) && is_at_spot at (spot_by (record_at (chip_of s) node.number) cell)
+    can_reach_slot (slice_get (history_of s node.number) (steps_of node.number s.kept - 1)) && is_at_spot at (spot_by (record_at (chip_of s) node.number) cell)
 
-abbrev pub has_done_by : Watched → NodeId → Made → State → Cells → Bool
+abbrev pub has_done_by : Watched → NodeId → Made → State → InstructionCells → Bool
 has_done_by (Comes at) node told s cells = is_step_of node.number told && comes_by s node at (cell_in s cells node)
 has_done_by (Writes address) node told s cells = has_done (Writes address) node told s
 
-abbrev pub cells_done : Watched → NodeId → Made → State → Cells → Cells
+abbrev pub cells_done : Watched → NodeId → Made → State → InstructionCells → InstructionCells
 cells_done (Comes at) node told s cells = cells_asked (is_step_of node.number told && asks_word at (record_at (chip_of s) node.number)) s node cells
 cells_done (Writes address) node told s cells = cells
 
-abbrev pub is_hit_by : Made → State → Breakpoint → Cells → Bool
+abbrev pub is_hit_by : Made → State → Breakpoint → InstructionCells → Bool
 is_hit_by told s one cells =
     has_done_by one.watched one.node told s cells && meets_test one.condition (record_at (chip_of s) one.node.number) (steps_of one.node.number s.kept)
 
-abbrev pub one_counted_by : Made → State → Breakpoint → ℕ → Cells → HitTally → HitTally
+abbrev pub one_counted_by : Made → State → Breakpoint → ℕ → InstructionCells → HitTally → HitTally
 one_counted_by told s one place cells tally = if is_hit_by told s one cells then hit_counted one place tally else tally
 
 -- the breakpoints of the list from a place on are counted if this event hits them by the cells; and the cells after them
-abbrev pub counted_by : Made → State → ℕ → List Breakpoint → Cells → HitTally → HitTally
+abbrev pub counted_by : Made → State → ℕ → List Breakpoint → InstructionCells → HitTally → HitTally
 counted_by told s place [] cells tally = tally
 counted_by told s place (one ∷ rest) cells tally =
     counted_by told s (place + 1) rest (cells_done one.watched one.node told s cells) (one_counted_by told s one place cells tally)
 
-abbrev pub cells_from : Made → State → List Breakpoint → Cells → Cells
+abbrev pub cells_from : Made → State → List Breakpoint → InstructionCells → InstructionCells
 cells_from told s [] cells = cells
 cells_from told s (one ∷ rest) cells = cells_from told s rest (cells_done one.watched one.node told s cells)
 
 -- the number of hits of each breakpoint, and the cells, after this event, on the machine that it left
-abbrev pub tally_by : List Breakpoint → Made → State → Cells → HitTally → HitTally
+abbrev pub tally_by : List Breakpoint → Made → State → InstructionCells → HitTally → HitTally
 tally_by breakpoints told s cells tally = counted_by told s 0 breakpoints (cells_left told cells) (record tally { hit = None })
 
-abbrev pub cells_behind : List Breakpoint → Made → State → Cells → Cells
+abbrev pub cells_behind : List Breakpoint → Made → State → InstructionCells → InstructionCells
 cells_behind breakpoints told s cells = cells_from told s breakpoints (cells_left told cells)
 
-abbrev pub ends_by : List Breakpoint → Cells → HitTally → Bool → Option NodeId → Made → State → Bool
+abbrev pub ends_by : List Breakpoint → InstructionCells → HitTally → Bool → Option NodeId → Made → State → Bool
 ends_by breakpoints cells tally stops node told s = is_some (tally_by breakpoints told s cells tally).hit || is_stopping stops node told
 
 -- ---- why a move ended, by how its run did
@@ -115,7 +115,7 @@ halt_of hit stops first (the_end.Refused why) = Refused why
 
 -- ---- what is watched, after an event
 
-abbrev pub with_hits : Halting → Made → State → Halting
+abbrev pub with_hits : HaltMonitor → Made → State → HaltMonitor
 with_hits w told s =
     record w {
       halts = record w.halts { tally = tally_by w.halts.breakpoints.now told s w.cells w.halts.tally };

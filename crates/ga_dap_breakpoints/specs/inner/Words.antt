@@ -12,15 +12,15 @@ use Rattle.ga_event.specs.declared.made.Made.{Made}
 use Rattle.ga_event.specs.declared.made.Made.TheVariants as made
 use Rattle.ga_event.specs.Told.{steps_of}
 use Rattle.ga_lab.specs.Machine.{State, history_of}
-use Rattle.ga_debug_info.specs.declared.notes.Notes.{Notes}
+use Rattle.ga_debug_info.specs.declared.notes.DebugInfo.{DebugInfo}
 use Rattle.ga_provenance.specs.Origins.{node_after}
 use Rattle.ga_provenance.specs.Fetched.{fetched_cell}
 use Rattle.ga_scheduler.specs.Conditions.{is_step_of}
-use Rattle.ga_dap_views.specs.declared.spots.Spot.{Spot}
-use Rattle.ga_dap_views.specs.Spots.{spot_by, spot_behind}
-use Rattle.ga_dap_breakpoints.specs.declared.stepping.Grain.{Grain}
-use Rattle.ga_dap_breakpoints.specs.declared.stepping.Grain.TheVariants.{Instruction, Line}
-use Rattle.ga_dap_breakpoints.specs.declared.stepping.Stepping.{Stepping}
+use Rattle.ga_dap_views.specs.declared.spots.SlotAddress.{SlotAddress}
+use Rattle.ga_dap_views.specs.Spots.{spot_by, slot_address_after}
+use Rattle.ga_dap_breakpoints.specs.declared.stepping.Granularity.{Granularity}
+use Rattle.ga_dap_breakpoints.specs.declared.stepping.Granularity.TheVariants.{Instruction, Line}
+use Rattle.ga_dap_breakpoints.specs.declared.stepping.StepMove.{StepMove}
 use Rattle.ga_dap_breakpoints.specs.Lines.{op_at, place_back, line_on_spot, comes_on}
 use Rattle.ga_dap_breakpoints.specs.Stepping.{call_behind}
 
@@ -55,20 +55,20 @@ word_seen node word told s = if is_step_of node.number told then word_after s no
 
 -- ---- where a line begins, by the cells of the words before and after the step
 
-abbrev pub spot_before : ℕ → State → NodeId → ℕ → Option ℕ → Option Spot
+abbrev pub spot_before : ℕ → State → NodeId → ℕ → Option ℕ → Option SlotAddress
 spot_before began s node k word =
-    if place_back began s node k == k then spot_by (node_after s node.number k) word else spot_behind s node (place_back began s node k)
+    if place_back began s node k == k then spot_by (node_after s node.number k) word else slot_address_after s node (place_back began s node k)
 
-abbrev pub begins_by : ℕ → Notes → State → NodeId → ℕ → Option ℕ → Option ℕ → Bool
+abbrev pub begins_by : ℕ → DebugInfo → State → NodeId → ℕ → Option ℕ → Option ℕ → Bool
 begins_by began notes s node k before behind =
     comes_on notes node (spot_before began s node k before) (spot_by (node_after s node.number (k + 1)) behind) (op_at s node k)
     (line_on_spot notes node (spot_by (node_after s node.number (k + 1)) behind))
 
-abbrev pub reaches_by : Grain → ℕ → Notes → NodeId → State → ℕ → Option ℕ → Option ℕ → Bool
+abbrev pub reaches_by : Granularity → ℕ → DebugInfo → NodeId → State → ℕ → Option ℕ → Option ℕ → Bool
 reaches_by Instruction began notes node s k before behind = true
 reaches_by Line began notes node s k before behind = begins_by began notes s node k before behind
 
-abbrev pub is_moved_by : Notes → Stepping → Option ℕ → Made → State → Bool
+abbrev pub is_moved_by : DebugInfo → StepMove → Option ℕ → Made → State → Bool
 is_moved_by notes by word told s =
     is_step_of by.node.number told
     && (is_none (call_behind s by.node by.over by.call)

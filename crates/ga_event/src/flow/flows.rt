@@ -3,14 +3,14 @@
 ghost use Rattle.std.specs.Prelude.{◌≡◌, ◌≤◌, ◌∷◌, []};
 ghost use Rattle.ga_ports.specs.Address.{IsTarget};
 ghost use Rattle.ga_node.specs.Record.{record_of};
-ghost use Rattle.ga_node.specs.Table.{due_of};
+ghost use Rattle.ga_node.specs.Table.{next_action_of};
 ghost use Rattle.ga_event.specs.declared.flow.part.Part.TheVariants.{P};
 ghost use Rattle.ga_event.specs.Flow.{Same, From, SetI, SetP, StartAgain, IsPart, choice, target_of, moves_where, fetch_moves, execute_moves, multiply_moves, send_moves, take_moves, flow_where, own_flow, send_flow, take_flow, flow_of, AreSources, IsSource};
 ghost use Rattle.ga_event.specs.inner.{sought_of, At, before_all, read_before, write_before, count_before, IsSought};
 
-use super::sought::Sought;
+use super::sought::TracedPart;
 use super::{Choice, Flow, Part, from_one, from_three, from_two};
-use ga_node::{Due, Node, Place, Wait};
+use ga_node::{NextAction, Node, Place, Wait};
 use ga_ports::{Target, classify};
 use ga_slots::{Op, opcode};
 use ga_word::Word18;
@@ -32,32 +32,32 @@ fn i_of(node: &Node) -> Word18
 }
 
 /// What comes next in a node that runs.
-pub fn due_in(node: &Node) -> Due
-    ensures { result ≡ due_of (record_of node.now) }
+pub fn due_in(node: &Node) -> NextAction
+    ensures { result ≡ next_action_of (record_of node.now) }
 {
     let slot = slot_of(node);
     if slot == 4 {
-        return Due::Fetch;
+        return NextAction::Fetch;
     }
-    Due::Run(opcode(i_of(node), slot))
+    NextAction::Run(opcode(i_of(node), slot))
 }
 
 // What decides the next event besides its opcode.
 #[tactic(auto, unfolding(ga_node::specs::Record::record_of))]
-fn choice_of(node: &Node, due: Due) -> Choice
+fn choice_of(node: &Node, due: NextAction) -> Choice
     ensures value { result ≡ choice due (record_of node.now) }
     ensures in_range { IsTarget (target_of result) }
 {
     match due {
-        Due::Fetch => Choice::At(classify(node.get(Place::P))),
-        Due::Run(op) => choice_by(node, op),
+        NextAction::Fetch => Choice::At(classify(node.get(Place::P))),
+        NextAction::Run(op) => choice_by(node, op),
     }
 }
 
 // What decides an opcode that comes next, besides the opcode itself.
 #[tactic(auto, unfolding(ga_node::specs::Record::record_of))]
 fn choice_by(node: &Node, op: Op) -> Choice
-    ensures value { result ≡ choice (Due.Run op) (record_of node.now) }
+    ensures value { result ≡ choice (NextAction.Run op) (record_of node.now) }
     ensures in_range { IsTarget (target_of result) }
 {
     match op {
@@ -75,7 +75,7 @@ fn choice_by(node: &Node, op: Op) -> Choice
 }
 
 // A part followed back over a word read at the address and pushed, where `later` is followed back over what came after it.
-fn before_read(choice: Choice, part: Part, later: Sought) -> Sought
+fn before_read(choice: Choice, part: Part, later: TracedPart) -> TracedPart
     requires choice { IsTarget (target_of choice) }
     requires part { IsPart part }
     requires known { IsSought (sought_of later) }
@@ -86,13 +86,13 @@ fn before_read(choice: Choice, part: Part, later: Sought) -> Sought
         Target::Ram(k) => later.push_data(Flow::Same(Part::Ram(k))),
         Target::Rom(k) => later.push_data(Flow::Same(Part::Rom(k))),
         Target::Io => later.push_data(Flow::Same(Part::Outside)),
-        Target::Ports(_) => Sought::At(part).set_wait(),
-        Target::Bad => Sought::At(part).set_stop(),
+        Target::Ports(_) => TracedPart::At(part).set_wait(),
+        Target::Bad => TracedPart::At(part).set_stop(),
     }
 }
 
 // A part followed back over T written at the address, where `later` is followed back over what came after it.
-fn before_write(choice: Choice, part: Part, later: Sought) -> Sought
+fn before_write(choice: Choice, part: Part, later: TracedPart) -> TracedPart
     requires choice { IsTarget (target_of choice) }
     requires part { IsPart part }
     requires known { IsSought (sought_of later) }
@@ -105,30 +105,30 @@ fn before_write(choice: Choice, part: Part, later: Sought) -> Sought
         Target::Io => later.set(Part::Io, Flow::Same(Part::T)),
         Target::Ports(sides) => {
             if sides.single().is_some() {
-                Sought::At(part).set_wait()
+                TracedPart::At(part).set_wait()
             } else {
-                Sought::At(part).set_stop()
+                TracedPart::At(part).set_stop()
             }
         }
-        Target::Bad => Sought::At(part).set_stop(),
+        Target::Bad => TracedPart::At(part).set_stop(),
     }
 }
 
 // A part followed back over an instruction word fetched from the source.
-fn before_word(part: Part, source: Part) -> Sought
+fn before_word(part: Part, source: Part) -> TracedPart
     requires part { IsPart part }
     requires source { IsSource source }
     ensures value { sought_of result ≡ before_all (SetI (Same source) ∷ SetP (From (P ∷ [])) ∷ StartAgain ∷ []) (At part) }
     ensures known { IsSought (sought_of result) }
 {
-    Sought::At(part)
+    TracedPart::At(part)
         .start_again()
         .advance(Part::P)
         .set(Part::I, Flow::Same(source))
 }
 
 // A part followed back over a fetch.
-fn before_fetch(choice: Choice, part: Part) -> Sought
+fn before_fetch(choice: Choice, part: Part) -> TracedPart
     requires choice { IsTarget (target_of choice) }
     requires part { IsPart part }
     ensures value { sought_of result ≡ before_all (fetch_moves (target_of choice)) (At part) }
@@ -138,13 +138,13 @@ fn before_fetch(choice: Choice, part: Part) -> Sought
         Target::Ram(k) => before_word(part, Part::Ram(k)),
         Target::Rom(k) => before_word(part, Part::Rom(k)),
         Target::Io => before_word(part, Part::Outside),
-        Target::Ports(_) => Sought::At(part).set_wait(),
-        Target::Bad => Sought::At(part).set_stop(),
+        Target::Ports(_) => TracedPart::At(part).set_wait(),
+        Target::Bad => TracedPart::At(part).set_stop(),
     }
 }
 
 // A part followed back over `ex`.
-fn before_execute(at: Sought) -> Sought
+fn before_execute(at: TracedPart) -> TracedPart
     requires { IsSought (sought_of at) }
     ensures value { sought_of result ≡ before_all execute_moves (sought_of at) }
     ensures known { IsSought (sought_of result) }
@@ -155,7 +155,7 @@ fn before_execute(at: Sought) -> Sought
 }
 
 // A part followed back over `+*`.
-fn before_multiply(at: Sought) -> Sought
+fn before_multiply(at: TracedPart) -> TracedPart
     requires { IsSought (sought_of at) }
     ensures value { sought_of result ≡ before_all multiply_moves (sought_of at) }
     ensures known { IsSought (sought_of result) }
@@ -166,50 +166,54 @@ fn before_multiply(at: Sought) -> Sought
 }
 
 // A part followed back over the writer's half of a transfer.
-fn before_send(part: Part) -> Sought
+fn before_send(part: Part) -> TracedPart
     requires { IsPart part }
     ensures value { sought_of result ≡ before_all send_moves (At part) }
     ensures known { IsSought (sought_of result) }
 {
-    Sought::At(part).go_on().pop_data().set_wait()
+    TracedPart::At(part).go_on().pop_data().set_wait()
 }
 
 // A part followed back over the reader's half of a transfer, of a node that waited for this.
-fn before_take(wait: Wait, part: Part) -> Sought
+fn before_take(wait: Wait, part: Part) -> TracedPart
     requires { IsPart part }
     ensures value { sought_of result ≡ before_all (take_moves wait) (At part) }
     ensures known { IsSought (sought_of result) }
 {
     match wait {
-        Wait::Nothing => Sought::At(part),
-        Wait::Fetch(_) => Sought::At(part)
+        Wait::Nothing => TracedPart::At(part),
+        Wait::Fetch(_) => TracedPart::At(part)
             .start_again()
             .set(Part::I, Flow::Same(Part::Outside))
             .set_wait(),
-        Wait::Read(_) => Sought::At(part)
+        Wait::Read(_) => TracedPart::At(part)
             .go_on()
             .push_data(Flow::Same(Part::Outside))
             .set_wait(),
-        Wait::Write(_) => Sought::At(part),
+        Wait::Write(_) => TracedPart::At(part),
     }
 }
 
 // A part followed back over the opcode.
 #[tactic(auto, using(crate::proofs::Following::read_found, crate::proofs::Following::write_found, crate::proofs::Following::count_found))]
-fn before_op(op: Op, choice: Choice, part: Part) -> Sought
+fn before_op(op: Op, choice: Choice, part: Part) -> TracedPart
     requires choice { IsTarget (target_of choice) }
     requires part { IsPart part }
-    ensures value { sought_of result ≡ before_all (moves_where (Due.Run op) choice) (At part) }
+    ensures value { sought_of result ≡ before_all (moves_where (NextAction.Run op) choice) (At part) }
     ensures known { IsSought (sought_of result) }
 {
-    let at = Sought::At(part);
+    let at = TracedPart::At(part);
     match op {
         Op::Return => at.skip().pop_return().set(Part::P, from_one(Part::R)),
         Op::Execute => before_execute(at),
         Op::Jump => at.jump(),
         Op::Call => at.jump().push_return(Flow::Same(Part::P)),
-        Op::Unext => before_count(choice.holds(), at.go_on(), Sought::At(part).start_again()),
-        Op::Next => before_count(choice.holds(), at.skip(), Sought::At(part).jump()),
+        Op::Unext => before_count(
+            choice.holds(),
+            at.go_on(),
+            TracedPart::At(part).start_again(),
+        ),
+        Op::Next => before_count(choice.holds(), at.skip(), TracedPart::At(part).jump()),
         Op::If => at.jump_where(choice.holds()),
         Op::MinusIf => at.jump_where(choice.holds()),
         Op::FetchP => before_read(choice, part, at.go_on().advance(Part::P)),
@@ -240,7 +244,7 @@ fn before_op(op: Op, choice: Choice, part: Part) -> Sought
 }
 
 // A part followed back over R popped, where it had ended, or else counted down; what came after each is followed back already.
-fn before_count(ends: bool, last: Sought, again: Sought) -> Sought
+fn before_count(ends: bool, last: TracedPart, again: TracedPart) -> TracedPart
     requires last { IsSought (sought_of last) }
     requires again { IsSought (sought_of again) }
     ensures value { sought_of result ≡ count_before ends (sought_of last) (sought_of again) }
@@ -254,9 +258,9 @@ fn before_count(ends: bool, last: Sought, again: Sought) -> Sought
 }
 
 // A part followed back over `+`.
-fn before_plus(choice: Choice, at: Sought) -> Sought
+fn before_plus(choice: Choice, at: TracedPart) -> TracedPart
     requires { IsSought (sought_of at) }
-    ensures value { sought_of result ≡ before_all (moves_where (Due.Run Op.Plus) choice) (sought_of at) }
+    ensures value { sought_of result ≡ before_all (moves_where (NextAction.Run Op.Plus) choice) (sought_of at) }
     ensures known { IsSought (sought_of result) }
 {
     if choice.holds() {
@@ -269,15 +273,15 @@ fn before_plus(choice: Choice, at: Sought) -> Sought
 }
 
 // A part followed back over what comes next in its node.
-fn before_due(due: Due, choice: Choice, part: Part) -> Sought
+fn before_due(due: NextAction, choice: Choice, part: Part) -> TracedPart
     requires choice { IsTarget (target_of choice) }
     requires part { IsPart part }
     ensures value { sought_of result ≡ before_all (moves_where due choice) (At part) }
     ensures known { IsSought (sought_of result) }
 {
     match due {
-        Due::Fetch => before_fetch(choice, part),
-        Due::Run(op) => before_op(op, choice, part),
+        NextAction::Fetch => before_fetch(choice, part),
+        NextAction::Run(op) => before_op(op, choice, part),
     }
 }
 
@@ -295,7 +299,7 @@ pub fn own_flow(node: &Node, part: Part) -> Flow
 
 /// Where the value of a part comes from after the next event of its node, where this decides it: by the opcode and the choice
 /// alone, whatever the node's other values are.
-pub fn flow_where(due: Due, choice: Choice, part: Part) -> Flow
+pub fn flow_where(due: NextAction, choice: Choice, part: Part) -> Flow
     requires choice { IsTarget (target_of choice) }
     requires part { IsPart part }
     ensures value { flow_of result ≡ flow_where due choice part }

@@ -4,93 +4,93 @@ use super::{Flow, Part, from_none, from_one, from_three};
 
 /// A part followed back through the changes of an event, the last of them first.
 #[derive(Drop)]
-pub(crate) enum Sought {
+pub(crate) enum TracedPart {
     /// The part's value is the one that this part has before the changes so far.
     At(Part),
     /// Where the part's value was found to come from.
     Found(Flow),
 }
 
-impl Sought {
+impl TracedPart {
     ghost use Rattle.std.specs.Prelude.{◌≡◌, ◌∷◌, [], if◌then◌else◌};
     ghost use Rattle.ga_event.specs.Flow.{From, GoOn, Skip, StartAgain, SetWait, SetStop, jump_moves, top_return, IsPart, flow_of, AreSources};
     ghost use Rattle.ga_event.specs.Flow as move;
     ghost use Rattle.ga_event.specs.inner.{sought_of, set_at, push_data, pop_data, push_return, pop_return, before, before_all, settled, IsSought};
 
     /// The part followed back over a part that got a word of this flow.
-    pub(crate) fn set(self, at: Part, flow: Flow) -> Sought
+    pub(crate) fn set(self, at: Part, flow: Flow) -> TracedPart
         requires known { IsSought (sought_of self) }
         requires sources { AreSources (flow_of flow) }
         ensures value { sought_of result ≡ set_at at (flow_of flow) (sought_of self) }
         ensures known { IsSought (sought_of result) }
     {
         match self {
-            Sought::At(part) => {
+            TracedPart::At(part) => {
                 if part.is_same(at) {
-                    Sought::Found(flow)
+                    TracedPart::Found(flow)
                 } else {
-                    Sought::At(part)
+                    TracedPart::At(part)
                 }
             }
-            Sought::Found(found) => Sought::Found(found),
+            TracedPart::Found(found) => TracedPart::Found(found),
         }
     }
 
     /// The part followed back over a word of this flow pushed on the data stack.
-    pub(crate) fn push_data(self, flow: Flow) -> Sought
+    pub(crate) fn push_data(self, flow: Flow) -> TracedPart
         requires known { IsSought (sought_of self) }
         requires sources { AreSources (flow_of flow) }
         ensures value { sought_of result ≡ push_data (flow_of flow) (sought_of self) }
         ensures known { IsSought (sought_of result) }
     {
         match self {
-            Sought::At(Part::Data(0)) => Sought::Found(flow),
-            Sought::At(Part::Data(k)) => Sought::At(Part::Data(k - 1)),
-            Sought::At(part) => Sought::At(part),
-            Sought::Found(found) => Sought::Found(found),
+            TracedPart::At(Part::Data(0)) => TracedPart::Found(flow),
+            TracedPart::At(Part::Data(k)) => TracedPart::At(Part::Data(k - 1)),
+            TracedPart::At(part) => TracedPart::At(part),
+            TracedPart::Found(found) => TracedPart::Found(found),
         }
     }
 
     /// The part followed back over a pop of the data stack.
-    pub(crate) fn pop_data(self) -> Sought
+    pub(crate) fn pop_data(self) -> TracedPart
         requires known { IsSought (sought_of self) }
         ensures value { sought_of result ≡ pop_data (sought_of self) }
         ensures known { IsSought (sought_of result) }
     {
         match self {
-            Sought::At(Part::Data(9)) => Sought::At(Part::Data(2)),
-            Sought::At(Part::Data(k)) => Sought::At(Part::Data(k + 1)),
-            Sought::At(part) => Sought::At(part),
-            Sought::Found(found) => Sought::Found(found),
+            TracedPart::At(Part::Data(9)) => TracedPart::At(Part::Data(2)),
+            TracedPart::At(Part::Data(k)) => TracedPart::At(Part::Data(k + 1)),
+            TracedPart::At(part) => TracedPart::At(part),
+            TracedPart::Found(found) => TracedPart::Found(found),
         }
     }
 
     /// The part followed back over a word of this flow pushed on the return stack.
-    pub(crate) fn push_return(self, flow: Flow) -> Sought
+    pub(crate) fn push_return(self, flow: Flow) -> TracedPart
         requires known { IsSought (sought_of self) }
         requires sources { AreSources (flow_of flow) }
         ensures value { sought_of result ≡ push_return (flow_of flow) (sought_of self) }
         ensures known { IsSought (sought_of result) }
     {
         match self {
-            Sought::At(Part::Return(0)) => Sought::Found(flow),
-            Sought::At(Part::Return(k)) => Sought::At(Part::Return(k - 1)),
-            Sought::At(part) => Sought::At(part),
-            Sought::Found(found) => Sought::Found(found),
+            TracedPart::At(Part::Return(0)) => TracedPart::Found(flow),
+            TracedPart::At(Part::Return(k)) => TracedPart::At(Part::Return(k - 1)),
+            TracedPart::At(part) => TracedPart::At(part),
+            TracedPart::Found(found) => TracedPart::Found(found),
         }
     }
 
     /// The part followed back over a pop of the return stack.
-    pub(crate) fn pop_return(self) -> Sought
+    pub(crate) fn pop_return(self) -> TracedPart
         requires known { IsSought (sought_of self) }
         ensures value { sought_of result ≡ pop_return (sought_of self) }
         ensures known { IsSought (sought_of result) }
     {
         match self {
-            Sought::At(Part::Return(8)) => Sought::At(Part::Return(1)),
-            Sought::At(Part::Return(k)) => Sought::At(Part::Return(k + 1)),
-            Sought::At(part) => Sought::At(part),
-            Sought::Found(found) => Sought::Found(found),
+            TracedPart::At(Part::Return(8)) => TracedPart::At(Part::Return(1)),
+            TracedPart::At(Part::Return(k)) => TracedPart::At(Part::Return(k + 1)),
+            TracedPart::At(part) => TracedPart::At(part),
+            TracedPart::Found(found) => TracedPart::Found(found),
         }
     }
 
@@ -101,13 +101,13 @@ impl Sought {
         ensures sources { AreSources (flow_of result) }
     {
         match self {
-            Sought::At(part) => Flow::Same(part),
-            Sought::Found(flow) => flow,
+            TracedPart::At(part) => Flow::Same(part),
+            TracedPart::Found(flow) => flow,
         }
     }
 
     /// The part followed back over the move to the next slot of the instruction word.
-    pub(crate) fn go_on(self) -> Sought
+    pub(crate) fn go_on(self) -> TracedPart
         requires { IsSought (sought_of self) }
         ensures value { sought_of result ≡ before GoOn (sought_of self) }
         ensures known { IsSought (sought_of result) }
@@ -116,7 +116,7 @@ impl Sought {
     }
 
     /// The part followed back over a skip of the rest of the instruction word.
-    pub(crate) fn skip(self) -> Sought
+    pub(crate) fn skip(self) -> TracedPart
         requires { IsSought (sought_of self) }
         ensures value { sought_of result ≡ before Skip (sought_of self) }
         ensures known { IsSought (sought_of result) }
@@ -125,7 +125,7 @@ impl Sought {
     }
 
     /// The part followed back over the move to the first slot of the instruction word.
-    pub(crate) fn start_again(self) -> Sought
+    pub(crate) fn start_again(self) -> TracedPart
         requires { IsSought (sought_of self) }
         ensures value { sought_of result ≡ before StartAgain (sought_of self) }
         ensures known { IsSought (sought_of result) }
@@ -134,7 +134,7 @@ impl Sought {
     }
 
     /// The part followed back over a wait that began or ended.
-    pub(crate) fn set_wait(self) -> Sought
+    pub(crate) fn set_wait(self) -> TracedPart
         requires { IsSought (sought_of self) }
         ensures value { sought_of result ≡ before SetWait (sought_of self) }
         ensures known { IsSought (sought_of result) }
@@ -143,7 +143,7 @@ impl Sought {
     }
 
     /// The part followed back over a stop of the node.
-    pub(crate) fn set_stop(self) -> Sought
+    pub(crate) fn set_stop(self) -> TracedPart
         requires { IsSought (sought_of self) }
         ensures value { sought_of result ≡ before SetStop (sought_of self) }
         ensures known { IsSought (sought_of result) }
@@ -152,7 +152,7 @@ impl Sought {
     }
 
     /// The part followed back over a pop of the data stack whose top then got a word of this flow.
-    pub(crate) fn pop_to(self, flow: Flow) -> Sought
+    pub(crate) fn pop_to(self, flow: Flow) -> TracedPart
         requires known { IsSought (sought_of self) }
         requires sources { AreSources (flow_of flow) }
         ensures value { sought_of result ≡ before (move.PopTo (flow_of flow)) (sought_of self) }
@@ -162,7 +162,7 @@ impl Sought {
     }
 
     /// The part followed back over the address in a register that advanced.
-    pub(crate) fn advance(self, register: Part) -> Sought
+    pub(crate) fn advance(self, register: Part) -> TracedPart
         requires known { IsSought (sought_of self) }
         requires part { IsPart register }
         ensures value { sought_of result ≡ set_at register (From (register ∷ [])) (sought_of self) }
@@ -172,7 +172,7 @@ impl Sought {
     }
 
     /// The part followed back over R that counted down.
-    pub(crate) fn count_down(self) -> Sought
+    pub(crate) fn count_down(self) -> TracedPart
         requires { IsSought (sought_of self) }
         ensures value { sought_of result ≡ set_at top_return (From (top_return ∷ [])) (sought_of self) }
         ensures known { IsSought (sought_of result) }
@@ -181,7 +181,7 @@ impl Sought {
     }
 
     /// The part followed back over a jump where a condition holds, else over a skip of the rest of the instruction word.
-    pub(crate) fn jump_where(self, is_so: bool) -> Sought
+    pub(crate) fn jump_where(self, is_so: bool) -> TracedPart
         requires { IsSought (sought_of self) }
         ensures value { sought_of result ≡ before_all (if is_so then jump_moves else Skip ∷ []) (sought_of self) }
         ensures known { IsSought (sought_of result) }
@@ -190,7 +190,7 @@ impl Sought {
     }
 
     /// The part followed back over a jump to the address that the slot names.
-    pub(crate) fn jump(self) -> Sought
+    pub(crate) fn jump(self) -> TracedPart
         requires { IsSought (sought_of self) }
         ensures value { sought_of result ≡ before_all jump_moves (sought_of self) }
         ensures known { IsSought (sought_of result) }

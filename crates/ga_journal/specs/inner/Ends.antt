@@ -7,41 +7,41 @@ use Rattle.ga_node.specs.Record.{NodeState}
 use Rattle.ga_node.specs.declared.place.Place.{Place}
 use Rattle.ga_grid.specs.Chip.{node_at}
 use Rattle.ga_grid.specs.declared.node_id.NodeId.{NodeId}
-use Rattle.ga_event.specs.declared.event.Deed.{Deed}
+use Rattle.ga_event.specs.declared.event.OwnOutcome.{OwnOutcome}
 use Rattle.ga_event.specs.Undo.{own_effect, IsApplied, CanRestore, restored_at, told_of}
 use Rattle.ga_journal.specs.declared.entry.Act.{Act}
 use Rattle.ga_journal.specs.declared.entry.Head.{Head}
-use Rattle.ga_journal.specs.Histories.{Past, past, history, appended}
+use Rattle.ga_journal.specs.Histories.{EntryRecord, past, history, appended}
 use Rattle.ga_event.specs.declared.event.Event.{Event}
 use Rattle.ga_event.specs.declared.event.Effect.{Effect}
-use Rattle.ga_event.specs.Apply.{Told, Did, Carried}
+use Rattle.ga_event.specs.Apply.{EventOutcome, Did, Carried}
 use Rattle.ga_event.specs.declared.made.Made.{Made}
 
 -- the entry at a position has this stamp and this part
-pub record TellsOf (history : List Past) (at : ℕ) (head : Head) : Type 0 where
-  pub entry : Past
+pub record TellsOf (history : List EntryRecord) (at : ℕ) (head : Head) : Type 0 where
+  pub entry : EntryRecord
   pub found : slice_get history at ≡ Some entry
   pub stamp : entry.stamp ≡ head.stamp
   pub act : entry.act ≡ head.act
 
 -- the node's own event was made on the chip, and its entry added
 pub record IsMadeAlone
-    (old : List Past) (chip : List NodeState) (node : NodeId) (stamp : ℕ) (deed : Deed) (new : List Past) (now : List NodeState)
+    (old : List EntryRecord) (chip : List NodeState) (node : NodeId) (stamp : ℕ) (deed : OwnOutcome) (new : List EntryRecord) (now : List NodeState)
     : Type 0 where
   pub saved : List (Place × ℕ)
   pub applied : IsApplied chip (event.Own node) (own_effect deed saved) now
   pub added : new ≡ old ++ past stamp (act.Own deed) saved ∷ []
 
 -- the values of the last entry can be written back to node n
-abbrev pub CanGoBack : List Past → List NodeState → ℕ → Type 0
+abbrev pub CanGoBack : List EntryRecord → List NodeState → ℕ → Type 0
 CanGoBack history chip n =
-    (front : List Past) (e : Past) → history ≡ front ++ e ∷ [] → CanRestore (node_at chip n) e.saved
+    (front : List EntryRecord) (e : EntryRecord) → history ≡ front ++ e ∷ [] → CanRestore (node_at chip n) e.saved
 
 -- the values of the last entry were written back to node n, and the entry is removed
 pub record IsGoneBack
-    (old : List Past) (chip : List NodeState) (n : ℕ) (new : List Past) (now : List NodeState) (act : Act)
+    (old : List EntryRecord) (chip : List NodeState) (n : ℕ) (new : List EntryRecord) (now : List NodeState) (act : Act)
     : Type 0 where
-  pub entry : Past
+  pub entry : EntryRecord
   pub last : old ≡ new ++ entry ∷ []
   pub part : entry.act ≡ act
   pub node : now ≡ restored_at chip n entry.saved
@@ -49,7 +49,7 @@ pub record IsGoneBack
 -- ---- a new event as made, by the histories alone
 
 -- an event as made with this outcome, with step numbers by the lengths of the histories
-abbrev pub made_over : List (List Past) → Event → Told → Option Made
+abbrev pub made_over : List (List EntryRecord) → Event → EventOutcome → Option Made
 made_over hs (event.Own node) (Did kind) = Some (made.Own node (length (history hs node.number) + 1) kind)
 made_over hs (event.Pass w r side) (Carried word) =
     Some (made.Pass w (length (history hs w.number) + 1) r (length (history hs r.number) + 1) word)
@@ -58,7 +58,7 @@ made_over hs (event.Pass w r side) (Did kind) = None
 
 -- the event was made on the chip and added to the histories, and this is what was made
 pub record IsAdded
-    (hs : List (List Past)) (chip : List NodeState) (stamp : ℕ) (e : Event) (told : Made) (gs : List (List Past)) (now : List NodeState)
+    (hs : List (List EntryRecord)) (chip : List NodeState) (stamp : ℕ) (e : Event) (told : Made) (gs : List (List EntryRecord)) (now : List NodeState)
     : Type 0 where
   pub effect : Effect
   pub applied : IsApplied chip e effect now

@@ -5,7 +5,7 @@ use Rattle.ga_event.specs.declared.event.Cause.{Cause}
 use Rattle.ga_event.specs.Undo.{told_of, cause_with, unapplied}
 use Rattle.ga_journal.specs.declared.entry.Head.{Head}
 use Rattle.ga_event.specs.declared.made.Made.{Made}
-use Rattle.ga_journal.specs.Histories.{Past, history, Book, past, Room, no_room}
+use Rattle.ga_journal.specs.Histories.{EntryRecord, history, JournalState, past, Room, no_room}
 use Rattle.ga_event.specs.Told.{made_after}
 use Rattle.ga_journal.specs.Logs.{Stamped, Records}
 use Rattle.ga_journal.specs.Looks.{IsNewestLook, HasNoLook}
@@ -19,18 +19,18 @@ use Rattle.ga_journal.specs.Marks.{GoWithin, AreMatched}
 -- ---- histories cut to their first entries, and walking back over the log without taking anything out
 
 -- each history cut to its first entries, as many as its number in the list
-abbrev pub cut : List (List Past) → List ℕ → List (List Past)
+abbrev pub cut : List (List EntryRecord) → List ℕ → List (List EntryRecord)
 cut [] ns = []
 cut (h ∷ hs) [] = h ∷ cut hs []
 cut (h ∷ hs) (n ∷ ns) = take n h ∷ cut hs ns
 
 -- no history is shorter than its cut
-abbrev pub IsCutWithin : List (List Past) → List ℕ → Type 0
+abbrev pub IsCutWithin : List (List EntryRecord) → List ℕ → Type 0
 IsCutWithin hs lengths = (n : ℕ) → slice_index lengths n ≤ length (history hs n)
 
 -- the cut of node n is one entry less, and the entry that is cut off has this head
-pub record IsShorter (hs : List (List Past)) (lengths : List ℕ) (n : ℕ) (fewer : List ℕ) (head : Head) : Type 0 where
-  pub entry : Past
+pub record IsShorter (hs : List (List EntryRecord)) (lengths : List ℕ) (n : ℕ) (fewer : List ℕ) (head : Head) : Type 0 where
+  pub entry : EntryRecord
   pub stamp : entry.stamp ≡ head.stamp
   pub act : entry.act ≡ head.act
   pub last : history (cut hs lengths) n ≡ history (cut hs fewer) n ++ entry ∷ []
@@ -51,7 +51,7 @@ older_events [] = []
 older_events (x ∷ older) = older_events older ++ x.event ∷ []
 
 -- the histories, cut to these lengths, are those of these events
-pub record WalksBack (hs : List (List Past)) (lengths : List ℕ) (top : ℕ) (log : List Stamped) : Type 0 where
+pub record WalksBack (hs : List (List EntryRecord)) (lengths : List ℕ) (top : ℕ) (log : List Stamped) : Type 0 where
   pub fits : IsCutWithin hs lengths
   pub records : Records log (cut hs lengths) top
 
@@ -62,14 +62,14 @@ IsFirst (x ∷ older) cause told =
     (cause_with x.event x.effect ≡ cause) × (made_after (older_events older) x.event (told_of x.effect) ≡ Some told)
 
 -- the histories, cut to these lengths, are those of the events of a log but for the first
-abbrev pub IsWalked : List (List Past) → List ℕ → ℕ → List Stamped → Type 0
+abbrev pub IsWalked : List (List EntryRecord) → List ℕ → ℕ → List Stamped → Type 0
 IsWalked hs lengths top [] = ⊥
 IsWalked hs lengths top (x ∷ older) = WalksBack hs lengths top older
 
 -- ---- the state of a reading of the history from the newest event back
 
 -- the first entries, as many of each node as `lengths` has, are those of the events that are not read yet
-pub record IsUntold (book : Book) (lengths : List ℕ) (top place : ℕ) : Type 0 where
+pub record IsUntold (book : JournalState) (lengths : List ℕ) (top place : ℕ) : Type 0 where
   pub log : List Stamped
   pub records : Records log book.histories book.made
   pub within : place ≤ length log
@@ -91,7 +91,7 @@ AreTold log (place ∷ places) (told ∷ more) = IsToldAt log place told × AreT
 -- ---- one past the newest look, as a history stores it
 
 -- one past the position of the newest look among the first `mark` entries, or 0 if none is a look
-abbrev pub IsPastNewest : List Past → ℕ → ℕ → Type 0
+abbrev pub IsPastNewest : List EntryRecord → ℕ → ℕ → Type 0
 IsPastNewest entries mark zero = HasNoLook entries mark
 IsPastNewest entries mark (suc at) = IsNewestLook entries mark at
 
@@ -109,22 +109,22 @@ pub record IsWindow (flags : List Bool) (first past : ℕ) : Type 0 where
 -- the event is the newest of whatever log the histories are of, it was undone on the chip, and the remaining histories are
 -- those of the others
 pub record IsTakenOut
-    (hs : List (List Past)) (chip : List NodeState) (e : Event) (left : List (List Past)) (now : List NodeState)
+    (hs : List (List EntryRecord)) (chip : List NodeState) (e : Event) (left : List (List EntryRecord)) (now : List NodeState)
     : Type 0 where
   pub effect : Effect
   pub newest : (log : List Stamped) (made : ℕ) → Records log hs made → IsNewest log e effect left
   pub chip_is : now ≡ unapplied chip e effect
 
 -- what an entry that was taken out kept
-abbrev pub past_of : Taken → Past
+abbrev pub past_of : Taken → EntryRecord
 past_of e = past e.stamp e.act e.saved
 
 -- the history of one node
 pub record Held : Type 0 where
-  pub items : List Past
+  pub items : List EntryRecord
   pub room : Room
 
-abbrev pub pasts_of : Held → List Past
+abbrev pub pasts_of : Held → List EntryRecord
 pasts_of h = h.items
 
 abbrev pub room_in : Held → Room
@@ -139,36 +139,36 @@ abbrev pub with_held : List Held → ℕ → Held → List Held
 with_held hs n h = slice_set hs n h
 
 -- the entries of the histories, and their room
-abbrev pub lists_of : List Held → List (List Past)
+abbrev pub lists_of : List Held → List (List EntryRecord)
 lists_of hs = map pasts_of hs
 
 abbrev pub room_of : List Held → List Room
 room_of hs = map room_in hs
 
 -- a history's stamps rise, from `low` on and below `high`
-abbrev pub Rises : ℕ → List Past → ℕ → Type 0
+abbrev pub Rises : ℕ → List EntryRecord → ℕ → Type 0
 Rises low [] high = low ≤ high
 Rises low (e ∷ es) high = (low ≤ e.stamp) × Rises (e.stamp + 1) es high
 
-abbrev pub AllRise : List (List Past) → ℕ → Type 0
+abbrev pub AllRise : List (List EntryRecord) → ℕ → Type 0
 AllRise hs high = (n : ℕ) → Rises 0 (history hs n) high
 
 -- the least number above a history's stamps
-abbrev pub bound_from : ℕ → List Past → ℕ
+abbrev pub bound_from : ℕ → List EntryRecord → ℕ
 bound_from low [] = low
 bound_from low (e ∷ es) = bound_from (e.stamp + 1) es
 
-abbrev pub bound_of : List Past → ℕ
+abbrev pub bound_of : List EntryRecord → ℕ
 bound_of h = bound_from 0 h
 
 -- ---- the node whose last entry is the newest of all
 
 -- no node's stamps go past those of node n
-abbrev pub IsLatest : List (List Past) → ℕ → Type 0
+abbrev pub IsLatest : List (List EntryRecord) → ℕ → Type 0
 IsLatest hs n = (m : ℕ) → bound_of (history hs m) ≤ bound_of (history hs n)
 
 -- the node has an entry, and no stamp of another is above all of its own
-pub record IsTopmost (hs : List (List Past)) (n : ℕ) : Type 0 where
+pub record IsTopmost (hs : List (List EntryRecord)) (n : ℕ) : Type 0 where
   pub some : 0 < bound_of (history hs n)
   pub greatest : IsLatest hs n
 

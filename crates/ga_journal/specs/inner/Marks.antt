@@ -5,7 +5,7 @@ use Rattle.ga_grid.specs.declared.node_id.NodeId.{NodeId}
 use Rattle.ga_journal.specs.declared.entry.Act.{Act}
 use Rattle.ga_journal.specs.declared.entry.Act.TheVariants.{Own, Sent, Took}
 use Rattle.ga_event.specs.declared.made.Made.{Made}
-use Rattle.ga_journal.specs.Histories.{Past, Book, history}
+use Rattle.ga_journal.specs.Histories.{EntryRecord, JournalState, history}
 use Rattle.std.specs.List.{sum_by, count_by}
 use Rattle.ga_journal.specs.Marks.{partner_of}
 
@@ -17,7 +17,7 @@ entry_made node i (Own deed) = made.Own node (i + 1) deed.kind
 entry_made node i (Sent to side at word) = made.Pass node (i + 1) to (at + 1) word
 entry_made node i (Took from side at word) = made.Pass from (at + 1) node (i + 1) word
 
-abbrev pub entries_made : NodeId → ℕ → List Past → List Made
+abbrev pub entries_made : NodeId → ℕ → List EntryRecord → List Made
 entries_made node i [] = []
 entries_made node i (e ∷ es) = entry_made node i e.act ∷ entries_made node (i + 1) es
 
@@ -27,20 +27,20 @@ at_of (Own deed) = 0
 at_of (Sent to side at word) = at
 at_of (Took from side at word) = at
 
-abbrev pub AtsWithin : ℕ → List Past → Type 0
+abbrev pub AtsWithin : ℕ → List EntryRecord → Type 0
 AtsWithin most [] = Unit {0}
 AtsWithin most (e ∷ es) = (at_of e.act ≤ most) × AtsWithin most es
 
-abbrev pub to_go : Book → ℕ
+abbrev pub to_go : JournalState → ℕ
 to_go book = sum_by (λ (k : ℕ). k) book.going
 
-abbrev pub in_line : Book → ℕ
+abbrev pub in_line : JournalState → ℕ
 in_line book = count_by (λ (b : Bool). b) book.waiting
 
 -- whether the other entry of an entry's pass is there
-abbrev pub is_there : List (List Past) → Option (ℕ × ℕ) → Bool
+abbrev pub is_there : List (List EntryRecord) → Option (ℕ × ℕ) → Bool
 is_there hs None = false
 is_there hs (Some x) = nat_lt x.1 (length (history hs x.0))
 
-abbrev pub has_partner : List (List Past) → Act → Bool
+abbrev pub has_partner : List (List EntryRecord) → Act → Bool
 has_partner hs act = is_there hs (partner_of act)

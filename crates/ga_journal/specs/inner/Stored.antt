@@ -3,7 +3,7 @@ use Rattle.std.specs.Prelude.{◌≡◌, ℕ, ◌+◌, ◌<◌, true, false, nat
 use Rattle.std.specs.Global.{Global}
 use Rattle.ga_ports.specs.declared.side.Side.TheVariants.{Right}
 use Rattle.ga_grid.specs.Grid.{node_id}
-use Rattle.ga_event.specs.declared.event.Deed.{Deed}
+use Rattle.ga_event.specs.declared.event.OwnOutcome.{OwnOutcome}
 use Rattle.ga_journal.specs.declared.entry.Act.{Act}
 use Rattle.ga_journal.specs.declared.entry.Act.TheVariants.{Sent, Took}
 use Rattle.ga_journal.specs.declared.entry.Act.TheVariants as act
@@ -13,7 +13,7 @@ use Rattle.ga_journal.specs.declared.entry.Part.{Part}
 use Rattle.ga_journal.specs.declared.entry.Part.TheVariants.{Own, Look, Passed}
 use Rattle.ga_journal.specs.declared.entry.Pass.{Pass}
 use Rattle.ga_journal.specs.declared.entry.Entry.{Entry}
-use Rattle.ga_journal.specs.Histories.{Past, past, deed}
+use Rattle.ga_journal.specs.Histories.{EntryRecord, past, own_outcome}
 use Rattle.ga_journal.specs.inner.Histories.{Held}
 
 -- an end of a pass as the part of its node
@@ -22,7 +22,7 @@ act_with Writer p = Sent p.partner p.side p.at p.word
 act_with Reader p = Took p.partner p.side p.at p.word
 
 -- the part of a node in its own event, which looked or didn't
-abbrev pub own_part : Deed → Part
+abbrev pub own_part : OwnOutcome → Part
 own_part deed = if deed.look then Look deed.kind else Own deed.kind
 
 -- the pass that is read past the end of a list of passes: no entry names such a place
@@ -31,12 +31,12 @@ no_pass = record { partner = node_id 0; side = Right; at = 0; looked = 0; word =
 
 -- a node's part in an event; if it is an end of a pass, the pass is at this place of a list
 abbrev pub act_in : List Pass → Part → ℕ → Act
-act_in passes (Own kind) place = act.Own (deed kind false)
-act_in passes (Look kind) place = act.Own (deed kind true)
+act_in passes (Own kind) place = act.Own (own_outcome kind false)
+act_in passes (Look kind) place = act.Own (own_outcome kind true)
 act_in passes (Passed role) place = act_with role (slice_index_or passes place no_pass)
 
 -- an entry with its pass
-abbrev pub past_in : List Pass → Entry → Past
+abbrev pub past_in : List Pass → Entry → EntryRecord
 past_in passes e = past e.stamp (act_in passes e.part e.place) e.saved
 
 -- what a history holds

@@ -1,7 +1,7 @@
 //! Which node had a part in the newest event.
 
 ghost use Rattle.std.specs.Prelude.{◌≡◌, ◌≤◌, List, length};
-ghost use Rattle.ga_journal.specs.Histories.{Past, history};
+ghost use Rattle.ga_journal.specs.Histories.{EntryRecord, history};
 ghost use Rattle.ga_journal.specs.inner.Histories.{lists_of, AllRise, bound_of, IsLatest, cut, IsCutWithin};
 
 use super::Histories;
@@ -10,7 +10,7 @@ use ga_grid::NodeId;
 /// Histories in which the newest entry can be searched for.
 pub(crate) trait Bounds {
     // The histories as they are seen.
-    ghost seen: { Self → List (List Past) };
+    ghost seen: { Self → List (List EntryRecord) };
 
     /// The least number above a history's stamps.
     fn bound(&self, node: NodeId, top: u64) -> u64

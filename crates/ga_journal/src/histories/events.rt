@@ -6,7 +6,7 @@ ghost use Rattle.ga_event.specs.Undo.{own_effect};
 use super::Histories;
 use super::recall::passed;
 use crate::entry::{Act, Pass, Role, Taken};
-use ga_event::{Deed, Effect, Event, Made, apply_pass};
+use ga_event::{Effect, Event, Made, OwnOutcome, apply_pass};
 use ga_grid::{Chip, NodeId};
 use ga_node::Saved;
 use ga_ports::Side;
@@ -22,7 +22,7 @@ pub(crate) fn node_of(event: Event) -> NodeId {
 }
 
 /// What a node's own event did, with the old values.
-fn effect_of(deed: Deed, saved: Saved) -> Effect
+fn effect_of(deed: OwnOutcome, saved: Saved) -> Effect
     ensures { result ≡ own_effect deed saved }
 {
     if deed.look {
@@ -73,7 +73,7 @@ impl Histories {
 
     /// Adds an own event to one history.
     #[inline(always)]
-    fn push_own(&mut self, node: NodeId, stamp: u64, deed: Deed, saved: Saved, before: NodeId)
+    fn push_own(&mut self, node: NodeId, stamp: u64, deed: OwnOutcome, saved: Saved, before: NodeId)
         requires room { has_room (room_of self.old) node.number }
         requires fits { length (history (lists_of self.old) node.number) + 1 < 2 ^ 32 }
         ensures after { lists_of self.new
@@ -211,11 +211,11 @@ impl Histories {
         match event {
             Event::Own(node) => match effect {
                 Effect::Own(kind, saved) => {
-                    let deed = Deed { kind, look: false };
+                    let deed = OwnOutcome { kind, look: false };
                     self.push_own(node, stamp, deed, saved, before);
                 }
                 Effect::Look(kind, saved) => {
-                    let deed = Deed { kind, look: true };
+                    let deed = OwnOutcome { kind, look: true };
                     self.push_own(node, stamp, deed, saved, before);
                 }
                 Effect::Pass { .. } => unreachable!(),

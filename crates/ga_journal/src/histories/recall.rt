@@ -7,7 +7,7 @@ use super::bounds::{Firsts, newest};
 use crate::entry::{Act, Head};
 use crate::fault::JournalFault;
 use crate::since::Since;
-use ga_event::{Cause, Deed, Event, Made};
+use ga_event::{Cause, Event, Made, OwnOutcome};
 use ga_grid::{NODES, NodeId};
 use ga_ports::Side;
 use ga_word::Word18;
@@ -18,10 +18,10 @@ const FIRST_ROOM: usize = 64;
 
 /// A node's own event, as a cause and as made.
 #[inline(always)]
-fn own(node: NodeId, step: u32, deed: Deed) -> (Cause, Made)
+fn own(node: NodeId, step: u32, deed: OwnOutcome) -> (Cause, Made)
     ensures { result ≡ (record { event = Event.Own node; look = deed.look }, Made.Own node step deed.kind) }
 {
-    let Deed { kind, look } = deed;
+    let OwnOutcome { kind, look } = deed;
     let event = Event::Own(node);
     (Cause { event, look }, Made::Own { node, step, kind })
 }

@@ -1,14 +1,14 @@
 //! A node walked back along its history.
 
 use super::History;
-use ga_node::{Gathered, Node};
+use ga_node::{Node, OverwrittenValues};
 
 /// The number of entries from which on a walk back is faster if it gathers their values first.
 const FAR: usize = 512;
 
 impl History {
     ghost use Rattle.std.specs.Prelude.{◌≡◌, ◌≤◌, length, take, drop};
-    ghost use Rattle.ga_journal.specs.Walked.{walked, CanWalk};
+    ghost use Rattle.ga_journal.specs.Walked.{walked_back, CanWalk};
 
     /// Writes the values of the entries from the position `to` on and below `from` back to a node, those of the last entry
     /// first.
@@ -16,7 +16,7 @@ impl History {
         requires order { to ≤ from }
         requires within { from ≤ length self.now.items }
         requires can { CanWalk node.old (drop to (take from self.now.items)) }
-        ensures { node.new ≡ walked node.old (drop to (take from self.now.items)) }
+        ensures { node.new ≡ walked_back node.old (drop to (take from self.now.items)) }
     {
         if from - to < FAR {
             self.walk_near(node, from, to);
@@ -30,13 +30,13 @@ impl History {
         requires order { to ≤ from }
         requires within { from ≤ length self.now.items }
         requires can { CanWalk node.old (drop to (take from self.now.items)) }
-        ensures { node.new ≡ walked node.old (drop to (take from self.now.items)) }
+        ensures { node.new ≡ walked_back node.old (drop to (take from self.now.items)) }
     {
-        let mut aside = node.set_aside();
+        let mut aside = node.suspend_status();
         for entry in self.entries[to..from].iter().rev() {
             node.write_back(&mut aside, &entry.saved);
         }
-        node.take_back(aside);
+        node.resume_status(aside);
     }
 
     // Writes the values of the entries from the position `to` on and below `from` back to a node, of each place the oldest value alone.
@@ -44,14 +44,14 @@ impl History {
         requires order { to ≤ from }
         requires within { from ≤ length self.now.items }
         requires can { CanWalk node.old (drop to (take from self.now.items)) }
-        ensures { node.new ≡ walked node.old (drop to (take from self.now.items)) }
+        ensures { node.new ≡ walked_back node.old (drop to (take from self.now.items)) }
     {
-        let mut gathered = Gathered::new();
+        let mut gathered = OverwrittenValues::new();
         for entry in self.entries[to..from].iter().rev() {
             gathered.add(&entry.saved);
         }
-        let mut aside = node.set_aside();
+        let mut aside = node.suspend_status();
         gathered.write_back(node, &mut aside);
-        node.take_back(aside);
+        node.resume_status(aside);
     }
 }

@@ -19,12 +19,12 @@ pub struct BackwardEvents<'j> {
 }
 
 impl<'j> Model for BackwardEvents<'j> {
-    ghost use Rattle.ga_journal.specs.Histories.{Untold, untold};
+    ghost use Rattle.ga_journal.specs.Histories.{BackwardModel, backward_of};
     ghost use Rattle.ga_journal.specs.inner.Histories.{IsUntold};
 
-    ghost Value = { Untold };
+    ghost Value = { BackwardModel };
 
-    ghost view = { λ b. untold b.journal.now b.place };
+    ghost view = { λ b. backward_of b.journal.now b.place };
 
     ghost invariant = { λ b. IsUntold b.journal.now b.lengths b.top b.place };
 }
@@ -33,7 +33,7 @@ impl<'j> BackwardEvents<'j> {
     ghost use Rattle.std.specs.Prelude.{◌≡◌, ◌-◌, ◌≤◌, ◌↔◌, length, take, Some, IfSome, IsNone};
     ghost use Rattle.ga_event.specs.Told.{steps_of, made_in};
     ghost use Rattle.ga_journal.specs.Events.{kept_of, events_of};
-    ghost use Rattle.ga_journal.specs.Histories.{untold};
+    ghost use Rattle.ga_journal.specs.Histories.{backward_of};
 
     /// The number of events that are not read yet: the place of the one that was read last.
     pub fn place(&self) -> u32
@@ -54,7 +54,7 @@ impl<'j> BackwardEvents<'j> {
     pub fn back(&mut self) -> Option<Made>
         ensures some { IfSome result (λ made. made_in (kept_of self.old.book) (self.old.place - 1) ≡ Some made) }
         ensures none { IsNone result ↔ (self.old.place ≡ 0) }
-        ensures left { self.new ≡ untold self.old.book (self.old.place - 1) }
+        ensures left { self.new ≡ backward_of self.old.book (self.old.place - 1) }
     {
         if self.place == 0 {
             return None;
@@ -72,12 +72,12 @@ impl Journal {
     ghost use Rattle.std.specs.Prelude.{◌≡◌, length};
     ghost use Rattle.ga_journal.specs.Events.{kept_of};
     ghost use Rattle.ga_journal.specs.Logs.{IsWhole};
-    ghost use Rattle.ga_journal.specs.Histories.{untold};
+    ghost use Rattle.ga_journal.specs.Histories.{backward_of};
 
     /// A reader of the history, which has read no event yet.
     pub(crate) fn backward(&self) -> BackwardEvents<'_>
         requires { IsWhole self.now.histories self.now.made }
-        ensures { result ≡ untold self.now (length (kept_of self.now)) }
+        ensures { result ≡ backward_of self.now (length (kept_of self.now)) }
     {
         BackwardEvents {
             journal: self,

@@ -14,7 +14,7 @@ impl Journal {
     ghost use Rattle.std.specs.List.{slice_get, All};
     ghost use Rattle.std.specs.List.Sorted.{IsStrictlyIncreasing};
     ghost use Rattle.ga_journal.specs.Histories.{history};
-    ghost use Rattle.ga_journal.specs.Walked.{walked, CanWalk, overwritten};
+    ghost use Rattle.ga_journal.specs.Walked.{walked_back, CanWalk, overwritten};
     ghost use Rattle.ga_journal.specs.Events.{kept_of, causes_in_book, events_of};
     ghost use Rattle.ga_event.specs.Told.{steps_of, mades_of, made_in};
     ghost use Rattle.ga_journal.specs.Logs.{IsWhole, IsSince};
@@ -32,7 +32,7 @@ impl Journal {
     }
 
     /// The event at a place of those that touch a node, from 0 on; none past their end.
-    pub(crate) fn told(&self, node: NodeId, place: u32) -> Option<Made>
+    pub(crate) fn made_by_step(&self, node: NodeId, place: u32) -> Option<Made>
         requires { IsWhole self.now.histories self.now.made }
         ensures { result ≡ slice_get (mades_of (kept_of self.now) node.number) place }
     {
@@ -53,7 +53,7 @@ impl Journal {
         requires order { to ≤ from }
         requires within { from ≤ length (history self.now.histories node.number) }
         requires can { CanWalk now.old (drop to (take from (history self.now.histories node.number))) }
-        ensures { now.new ≡ walked now.old (drop to (take from (history self.now.histories node.number))) }
+        ensures { now.new ≡ walked_back now.old (drop to (take from (history self.now.histories node.number))) }
     {
         let history = self.histories.at(node);
         history.walk_back(now, from as usize, to as usize);

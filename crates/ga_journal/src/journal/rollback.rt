@@ -7,7 +7,7 @@ use ga_grid::{Chip, NodeId};
 impl Journal {
     ghost use Rattle.std.specs.Prelude.{◌≡◌, ◌<◌, ◌+◌, ◌^◌, ℕ, Some, length, true, false, IfSome, IfNone};
     ghost use Rattle.ga_journal.specs.Histories.{no_work, history};
-    ghost use Rattle.ga_journal.specs.Marks.{AreMarks, mark_of, going_of, waits, numbers_of_position, partner_at, counted_at, ticked, lowered, raised, taken_up, CanTakeBack, IsTakenBack};
+    ghost use Rattle.ga_journal.specs.Marks.{AreMarks, mark_of, entries_to_remove, is_pending, numbers_of_position, partner_at, counted_at, ticked, lowered, raised, taken_up, CanTakeBack, IsTakenBack};
     ghost use Rattle.ga_journal.specs.Looks.{IsLookToGo, SawNoneToGo, IsSought};
 
     /// The ticks that were counted.
@@ -46,8 +46,8 @@ impl Journal {
 
     /// How many of a node's entries are to go, at the end of its history.
     #[inline(always)]
-    pub fn going_of(&self, node: NodeId) -> u32
-        ensures value { result ≡ going_of self.now node.number }
+    pub fn entries_to_remove(&self, node: NodeId) -> u32
+        ensures value { result ≡ entries_to_remove self.now node.number }
         ensures sound { AreMarks self.now }
     {
         self.going[node.index()]
@@ -56,7 +56,7 @@ impl Journal {
     /// The position of the newest look of `looker` that is to stay so far, where it came after an entry of `node` that is
     /// to go: then it saw what is to go. One tick, counted as one in vain where it finds none; no tick where no entry of `looker`
     /// is a look.
-    pub fn look_to_go(&mut self, node: NodeId, looker: NodeId) -> Option<u32>
+    pub fn look_to_remove(&mut self, node: NodeId, looker: NodeId) -> Option<u32>
         requires { self.old.ticks.count + 1 < 2 ^ 64 }
         ensures some { IfSome result (λ at.
             IsLookToGo self.old node.number looker.number at × (self.new ≡ ticked self.old)) }
@@ -110,10 +110,10 @@ impl Journal {
     pub fn take_up(&mut self) -> Option<NodeId>
         requires { self.old.ticks.count + 1 < 2 ^ 64 }
         ensures some { IfSome result (λ node.
-            (waits self.old node.number ≡ true) × (self.new ≡ taken_up self.old node.number)) }
-        ensures none { IfNone result (((n : ℕ) → waits self.old n ≡ false) × (self.new ≡ self.old)) }
+            (is_pending self.old node.number ≡ true) × (self.new ≡ taken_up self.old node.number)) }
+        ensures none { IfNone result (((n : ℕ) → is_pending self.old n ≡ false) × (self.new ≡ self.old)) }
     {
-        let node = self.waiting.take()?;
+        let node = self.waiting.pop()?;
         self.ticks.raise();
         Some(node)
     }

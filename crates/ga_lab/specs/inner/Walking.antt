@@ -7,10 +7,10 @@ use Rattle.std.specs.Prelude.{◌≡◌, ℕ, ◌≤◌, List, length, drop}
 use Rattle.ga_node.specs.Record.{NodeState}
 use Rattle.ga_grid.specs.declared.node_id.NodeId.{NodeId}
 use Rattle.ga_grid.specs.Chip.{node_at}
-use Rattle.ga_journal.specs.Histories.{Book, history, Untold}
-use Rattle.ga_journal.specs.Walked.{walked}
-use Rattle.ga_lab.specs.Machine.{Standing, standing, Telling, telling}
-use Rattle.ga_lab.specs.inner.Tied.{state_of, IsLab}
+use Rattle.ga_journal.specs.Histories.{JournalState, history, BackwardModel}
+use Rattle.ga_journal.specs.Walked.{walked_back}
+use Rattle.ga_lab.specs.Machine.{NodeAtStep, node_at_step, BackwardState, backward_state}
+use Rattle.ga_lab.specs.inner.LabInvariant.{state_of, IsLab}
 
 -- ---- the journal's refusals as those of a step
 
@@ -19,15 +19,15 @@ refusal_of journal_fault.Full = Full
 refusal_of journal_fault.Spent = Spent
 refusal_of journal_fault.Memory = Memory
 
-abbrev pub standing_of : List NodeState → Book → NodeId → ℕ → Standing
-standing_of chip book node step = standing (state_of chip book) node step
+abbrev pub standing_of : List NodeState → JournalState → NodeId → ℕ → NodeAtStep
+standing_of chip book node step = node_at_step (state_of chip book) node step
 
 -- the node of a walk is what walking the chip's node back to the step leads to
-pub record IsWalk (chip : List NodeState) (book : Book) (id : NodeId) (step : ℕ) (node : NodeState) : Type 0 where
+pub record IsWalk (chip : List NodeState) (book : JournalState) (id : NodeId) (step : ℕ) (node : NodeState) : Type 0 where
   pub lab : IsLab chip book
   pub within : step ≤ length (history book.histories id.number)
-  pub walked_to : node ≡ walked (node_at chip id.number) (drop step (history book.histories id.number))
+  pub walked_to : node ≡ walked_back (node_at chip id.number) (drop step (history book.histories id.number))
 
 -- a reading of the journal's history as one of the machine's
-abbrev pub telling_of : List NodeState → Untold → Telling
-telling_of chip walk = telling (state_of chip walk.book) walk.place
+abbrev pub telling_of : List NodeState → BackwardModel → BackwardState
+telling_of chip walk = backward_state (state_of chip walk.book) walk.place

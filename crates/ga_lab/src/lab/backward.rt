@@ -14,11 +14,11 @@ pub struct Backward<'l> {
 }
 
 impl<'l> Model for Backward<'l> {
-    ghost use Rattle.ga_lab.specs.Machine.{Telling};
-    ghost use Rattle.ga_lab.specs.inner.Tied.{IsLab};
+    ghost use Rattle.ga_lab.specs.Machine.{BackwardState};
+    ghost use Rattle.ga_lab.specs.inner.LabInvariant.{IsLab};
     ghost use Rattle.ga_lab.specs.inner.Walking.{telling_of};
 
-    ghost Value = { Telling };
+    ghost Value = { BackwardState };
 
     ghost view = { λ b. telling_of b.chip.now b.walk };
 
@@ -28,7 +28,7 @@ impl<'l> Model for Backward<'l> {
 impl<'l> Backward<'l> {
     ghost use Rattle.std.specs.Prelude.{◌≡◌, ◌-◌, ◌≤◌, ◌↔◌, length, take, IsNone};
     ghost use Rattle.ga_event.specs.Told.{steps_of};
-    ghost use Rattle.ga_lab.specs.Machine.{told_before};
+    ghost use Rattle.ga_lab.specs.Machine.{made_before};
 
     /// The number of events that are not read yet: the place of the one that was read last.
     pub fn place(&self) -> u32
@@ -48,7 +48,7 @@ impl<'l> Backward<'l> {
     /// Reads the event right before the place, which becomes the place, and returns it as made; none if no event is left. Takes
     /// no memory, and the same time whatever the history is.
     pub fn back(&mut self) -> Option<Made>
-        ensures told { result ≡ told_before self.old.machine self.old.place }
+        ensures told { result ≡ made_before self.old.machine self.old.place }
         ensures none { IsNone result ↔ (self.old.place ≡ 0) }
         ensures left { self.new ≡ record self.old { place = self.old.place - 1 } }
     {
@@ -58,11 +58,11 @@ impl<'l> Backward<'l> {
 
 impl Lab {
     ghost use Rattle.std.specs.Prelude.{◌≡◌, length};
-    ghost use Rattle.ga_lab.specs.Machine.{telling};
+    ghost use Rattle.ga_lab.specs.Machine.{backward_state};
 
     /// A reader of the history, one event at a time from the newest back. Takes no memory.
     pub fn backward(&self) -> Backward<'_>
-        ensures { result ≡ telling self.now (length self.now.kept) }
+        ensures { result ≡ backward_state self.now (length self.now.kept) }
     {
         Backward {
             chip: &self.chip,

@@ -6,8 +6,8 @@ use ga_event::Cause;
 
 impl Lab {
     ghost use Rattle.std.specs.Prelude.{◌≡◌, ℕ, IfOk, IfErr, is_some, length};
-    ghost use Rattle.ga_causal.specs.Dependence.{place_of};
-    ghost use Rattle.ga_lab.specs.Machine.{causes_of, stands};
+    ghost use Rattle.ga_causal.specs.Dependence.{position_of_step};
+    ghost use Rattle.ga_lab.specs.Machine.{causes_of, has_step};
 
     /// The events of the history in order, each with whether it looked at the neighbours of its node. A step exists exactly if
     /// it has a place in this list.
@@ -18,7 +18,7 @@ impl Lab {
         ensures ok { IfOk result (λ list. list.items ≡ causes_of self.now) }
         ensures err { IfErr result (λ why. why ≡ LabFault.Memory) }
         ensures size { length (causes_of self.now) ≡ length self.now.kept }
-        ensures places { (n k : ℕ) → is_some (place_of (causes_of self.now) n k) ≡ stands self.now n k }
+        ensures places { (n k : ℕ) → is_some (position_of_step (causes_of self.now) n k) ≡ has_step self.now n k }
     {
         match self.chronicle.causes() {
             Ok(list) => Ok(list),

@@ -4,13 +4,13 @@ use super::Lab;
 use crate::fault::LabFault;
 use ga_event::Made;
 use ga_grid::NodeId;
-use ga_rollback::{Going, RollbackFault, would_rewind};
+use ga_rollback::{RollbackFault, RollbackForecast, would_rewind};
 
 impl Lab {
     ghost use Rattle.std.specs.Prelude.{◌≡◌, ◌↔◌, ◌+◌, ℕ, false, length, slice_index, Ok, Err, IfOk, IfErr};
     ghost use Rattle.std.specs.List.{slice_get};
     ghost use Rattle.ga_event.specs.Told.{steps_of};
-    ghost use Rattle.ga_lab.specs.Machine.{history_of, rewind_answer, rewound, stands};
+    ghost use Rattle.ga_lab.specs.Machine.{history_of, rewind_answer, rewound, has_step};
 
     /// The number of steps of a node in the history.
     pub fn steps(&self, node: NodeId) -> u32
@@ -23,10 +23,10 @@ impl Lab {
     /// A node's step as made, the first of which is at place 0; none past its steps. Takes no memory, and the same time
     /// whatever the history is.
     #[tactic(auto, using(crate::proofs::Replays::told_tied))]
-    pub fn told(&self, node: NodeId, place: u32) -> Option<Made>
+    pub fn made_by_step(&self, node: NodeId, place: u32) -> Option<Made>
         ensures { result ≡ slice_get (history_of self.now node.number) place }
     {
-        self.chronicle.told(node, place)
+        self.chronicle.made_by_step(node, place)
     }
 
     /// What `rewind` would remove: the number of events, and the number of steps of each node. Nothing is removed. Takes no
@@ -34,13 +34,13 @@ impl Lab {
     ///
     /// # Errors
     /// `NoStep`, where the node has no such step.
-    pub fn would_rewind(&mut self, node: NodeId, step: u32) -> Result<Going, LabFault>
+    pub fn would_rewind(&mut self, node: NodeId, step: u32) -> Result<RollbackForecast, LabFault>
         ensures answer { IfOk result (λ going. rewind_answer self.old node.number step ≡ Ok going.events) }
         ensures steps { IfOk result (λ going. (m : ℕ) → slice_index going.steps m
             + steps_of m (rewound self.old node.number step).kept ≡ steps_of m self.old.kept) }
         ensures err { IfErr result (λ why. rewind_answer self.old node.number step ≡ Err why) }
         ensures same { self.new ≡ self.old }
-        ensures refused { (result ≡ Err LabFault.NoStep) ↔ (stands self.old node.number step ≡ false) }
+        ensures refused { (result ≡ Err LabFault.NoStep) ↔ (has_step self.old node.number step ≡ false) }
     {
         // So few that the ticks can't overflow.
         let kept = self.chronicle.journal.kept();

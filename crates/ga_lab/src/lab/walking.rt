@@ -2,7 +2,7 @@
 
 use super::Lab;
 use ga_grid::{Chip, NodeId};
-use ga_journal::Chronicle;
+use ga_journal::OrderedJournal;
 use ga_node::{Node, Place};
 use std::marker::Model;
 
@@ -11,17 +11,17 @@ use std::marker::Model;
 #[derive(Drop)]
 pub struct Walk<'l> {
     chip: &'l Chip,
-    chronicle: &'l Chronicle,
+    chronicle: &'l OrderedJournal,
     id: NodeId,
     step: u32,
     node: Node,
 }
 
 impl<'l> Model for Walk<'l> {
-    ghost use Rattle.ga_lab.specs.Machine.{Standing};
+    ghost use Rattle.ga_lab.specs.Machine.{NodeAtStep};
     ghost use Rattle.ga_lab.specs.inner.Walking.{standing_of, IsWalk};
 
-    ghost Value = { Standing };
+    ghost Value = { NodeAtStep };
 
     ghost view = { λ w. standing_of w.chip.now w.chronicle.now.journal w.id w.step };
 
@@ -89,14 +89,14 @@ impl Lab {
     ghost use Rattle.ga_grid.specs.Chip.{record_at};
     ghost use Rattle.ga_event.specs.Told.{steps_of};
     ghost use Rattle.ga_node.specs.State.{IsInRange};
-    ghost use Rattle.ga_lab.specs.Machine.{chip_of, earlier, standing};
+    ghost use Rattle.ga_lab.specs.Machine.{chip_of, earlier, node_at_step};
     ghost use Rattle.ga_lab.specs.Holding.{Holds};
 
     /// A node as it was right after its step, or at load for step 0, to be walked back from there. Takes no memory, and time by how
     /// many steps the node made since.
     pub fn walk(&self, node: NodeId, step: u32) -> Walk<'_>
         requires { step ≤ steps_of node.number self.now.kept }
-        ensures { result ≡ standing self.now node step }
+        ensures { result ≡ node_at_step self.now node step }
     {
         let mut copy = self.chip.node(node).copy();
         let steps = self.chronicle.journal.steps_of(node);

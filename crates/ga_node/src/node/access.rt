@@ -14,7 +14,7 @@ impl Node {
     ghost use Rattle.ga_ports.specs.Address.{classified};
     ghost use Rattle.ga_node.specs.Record.{record_of};
     ghost use Rattle.ga_node.specs.inner.Saving.{IsMade, IsDone, IsEnded};
-    ghost use Rattle.ga_node.specs.Table.{found, stored, posts, halts};
+    ghost use Rattle.ga_node.specs.Table.{found, stored, posts, stop_effect};
     ghost use Rattle.ga_node.specs.Ready.{IsRunning};
 
     /// The node waits, in place of the event's whole effect.
@@ -38,8 +38,8 @@ impl Node {
         requires running { IsRunning (record_of self.old) }
         requires in_range { code ≤ 3 }
         requires empty { saved.old ≡ [] }
-        ensures kind { result ≡ (halts code).0 }
-        ensures made { IsMade (halts code).1 self.old self.new saved.new }
+        ensures kind { result ≡ (stop_effect code).0 }
+        ensures made { IsMade (stop_effect code).1 self.old self.new saved.new }
     {
         saved.add(Place::Stop, 0);
         self.stop = code;

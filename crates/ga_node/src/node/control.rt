@@ -10,7 +10,7 @@ impl Node {
     ghost use Rattle.ga_node.specs.Record.{record_of};
     ghost use Rattle.ga_node.specs.Changes.{after_changes};
     ghost use Rattle.ga_node.specs.inner.Saving.{IsDoneBy, Saves, IsMade};
-    ghost use Rattle.ga_node.specs.Table.{does, jumps, jumps_where};
+    ghost use Rattle.ga_node.specs.Table.{opcode_effect, jumps, jumps_where};
 
     /// P := the address that the slot names, and the rest of the word is passed over.
     #[tactic(auto, using(crate::proofs::Saving::saves_as))]
@@ -45,7 +45,7 @@ impl Node {
     /// `;`, return: P := the low ten bits of R, and R is popped.
     pub(super) fn run_return(&mut self, saved: &mut Saved)
         requires { saved.old ≡ [] }
-        ensures { IsDoneBy (does Op.Return (record_of self.old)) self.old self.new saved.new }
+        ensures { IsDoneBy (opcode_effect Op.Return (record_of self.old)) self.old self.new saved.new }
     {
         let top = self.top_return();
         let p = top.get();
@@ -57,7 +57,7 @@ impl Node {
     /// `ex`, execute: P := the low ten bits of R, and R := the old P.
     pub(super) fn run_execute(&mut self, saved: &mut Saved)
         requires { saved.old ≡ [] }
-        ensures { IsDoneBy (does Op.Execute (record_of self.old)) self.old self.new saved.new }
+        ensures { IsDoneBy (opcode_effect Op.Execute (record_of self.old)) self.old self.new saved.new }
     {
         let old = self.p();
         let top = self.top_return();
@@ -72,7 +72,7 @@ impl Node {
     pub(super) fn run_jump(&mut self, saved: &mut Saved)
         requires slot { (record_of self.old).slot < 3 }
         requires empty { saved.old ≡ [] }
-        ensures { IsDoneBy (does Op.Jump (record_of self.old)) self.old self.new saved.new }
+        ensures { IsDoneBy (opcode_effect Op.Jump (record_of self.old)) self.old self.new saved.new }
     {
         self.jump(saved);
     }
@@ -81,7 +81,7 @@ impl Node {
     pub(super) fn run_call(&mut self, saved: &mut Saved)
         requires slot { (record_of self.old).slot < 3 }
         requires empty { saved.old ≡ [] }
-        ensures { IsDoneBy (does Op.Call (record_of self.old)) self.old self.new saved.new }
+        ensures { IsDoneBy (opcode_effect Op.Call (record_of self.old)) self.old self.new saved.new }
     {
         let p = self.p();
         self.push_return(saved, Word18::truncated(p));
@@ -91,7 +91,7 @@ impl Node {
     /// `unext`: while R is not 0, R counts down and the word starts again; at 0, R is popped.
     pub(super) fn run_unext(&mut self, saved: &mut Saved)
         requires { saved.old ≡ [] }
-        ensures { IsDoneBy (does Op.Unext (record_of self.old)) self.old self.new saved.new }
+        ensures { IsDoneBy (opcode_effect Op.Unext (record_of self.old)) self.old self.new saved.new }
     {
         let top = self.top_return();
         let count = top.get();
@@ -108,7 +108,7 @@ impl Node {
     pub(super) fn run_next(&mut self, saved: &mut Saved)
         requires slot { (record_of self.old).slot < 3 }
         requires empty { saved.old ≡ [] }
-        ensures { IsDoneBy (does Op.Next (record_of self.old)) self.old self.new saved.new }
+        ensures { IsDoneBy (opcode_effect Op.Next (record_of self.old)) self.old self.new saved.new }
     {
         let top = self.top_return();
         let count = top.get();
@@ -125,7 +125,7 @@ impl Node {
     pub(super) fn run_if(&mut self, saved: &mut Saved)
         requires slot { (record_of self.old).slot < 3 }
         requires empty { saved.old ≡ [] }
-        ensures { IsDoneBy (does Op.If (record_of self.old)) self.old self.new saved.new }
+        ensures { IsDoneBy (opcode_effect Op.If (record_of self.old)) self.old self.new saved.new }
     {
         let top = self.top();
         let word = top.get();
@@ -136,7 +136,7 @@ impl Node {
     pub(super) fn run_minus_if(&mut self, saved: &mut Saved)
         requires slot { (record_of self.old).slot < 3 }
         requires empty { saved.old ≡ [] }
-        ensures { IsDoneBy (does Op.MinusIf (record_of self.old)) self.old self.new saved.new }
+        ensures { IsDoneBy (opcode_effect Op.MinusIf (record_of self.old)) self.old self.new saved.new }
     {
         let top = self.top();
         let word = top.get();

@@ -4,7 +4,7 @@ ghost use Rattle.std.specs.Prelude.{◌≡◌};
 ghost use Rattle.ga_node.specs.inner.Saving.{kind_of};
 
 use super::Node;
-use crate::due::Due;
+use crate::due::NextAction;
 use crate::kind::{Kind, NotReady};
 use crate::saved::Saved;
 use crate::seen::Seen;
@@ -30,7 +30,7 @@ impl Node {
     ghost use Rattle.ga_node.specs.Record.{record_of};
     ghost use Rattle.ga_node.specs.Saving.{Overwrites};
     ghost use Rattle.ga_node.specs.inner.Saving.{IsDone, IsEnded};
-    ghost use Rattle.ga_node.specs.Table.{own, own_event, effect, fetched, looks, looks_by, reads_io, due_of, refusal};
+    ghost use Rattle.ga_node.specs.Table.{own, own_event, effect, fetched, looks, looks_by, reads_io, next_action_of, refusal};
     ghost use Rattle.ga_node.specs.Ready.{IsRunning, CanDo};
 
     /// Carries out an opcode, or answers the kind of the event that its access has become.
@@ -132,28 +132,28 @@ impl Node {
         classify(address) == Target::Io
     }
 
-    /// What the node's next event of its own carries out, for [`Node::looks_by`] and [`Node::do_into`].
+    /// What the node's next event of its own carries out, for [`Node::looks_by`] and [`Node::execute_logged`].
     #[inline(always)]
-    pub fn due(&self) -> Due
+    pub fn due(&self) -> NextAction
         requires { refusal (record_of self.now) ≡ None }
-        ensures due { result ≡ due_of (record_of self.now) }
+        ensures due { result ≡ next_action_of (record_of self.now) }
         ensures can { CanDo result (record_of self.now) }
     {
         let slot = self.slot();
         if slot == 4 {
-            return Due::Fetch;
+            return NextAction::Fetch;
         }
-        Due::Run(opcode(self.i(), slot))
+        NextAction::Run(opcode(self.i(), slot))
     }
 
     /// Whether an event that carries this out is a look ([`Node::looks`]).
     #[inline(always)]
-    pub fn looks_by(&self, due: Due) -> bool
+    pub fn looks_by(&self, due: NextAction) -> bool
         ensures { result ≡ looks_by due (record_of self.now) }
     {
         match due {
-            Due::Fetch => classify(self.p()) == Target::Io,
-            Due::Run(op) => self.reads_io(op),
+            NextAction::Fetch => classify(self.p()) == Target::Io,
+            NextAction::Run(op) => self.reads_io(op),
         }
     }
 
@@ -166,27 +166,27 @@ impl Node {
     {
         let slot = self.slot();
         if slot == 4 {
-            return self.looks_by(Due::Fetch);
+            return self.looks_by(NextAction::Fetch);
         }
-        self.looks_by(Due::Run(opcode(self.i(), slot)))
+        self.looks_by(NextAction::Run(opcode(self.i(), slot)))
     }
 
     /// Makes the node's next event, which carries this out, as [`Node::own`] does, and puts the values that it overwrote
     /// into a list that the caller keeps, which is empty before.
     #[inline(always)]
-    pub fn do_into(&mut self, due: Due, seen: Seen, saved: &mut Saved) -> Kind
-        requires due { due ≡ due_of (record_of self.old) }
+    pub fn execute_logged(&mut self, due: NextAction, seen: Seen, saved: &mut Saved) -> Kind
+        requires due { due ≡ next_action_of (record_of self.old) }
         requires can { CanDo due (record_of self.old) }
         requires empty { saved.old ≡ [] }
         ensures event { (result, record_of self.new) ≡ own seen (record_of self.old) }
         ensures saves { Overwrites (own_event seen (record_of self.old)).1 self.old self.new saved.new }
     {
         match due {
-            Due::Fetch => {
+            NextAction::Fetch => {
                 let done = self.fetch(seen, saved);
                 named(Kind::Fetch, done)
             }
-            Due::Run(op) => {
+            NextAction::Run(op) => {
                 let done = self.execute(seen, saved, op);
                 named(Kind::Run(op.code()), done)
             }
@@ -212,7 +212,7 @@ impl Node {
         }
         let mut saved = Saved::new();
         let due = self.due();
-        let kind = self.do_into(due, seen, &mut saved);
+        let kind = self.execute_logged(due, seen, &mut saved);
         Ok((kind, saved))
     }
 }

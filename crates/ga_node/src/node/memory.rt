@@ -12,7 +12,7 @@ impl Node {
     ghost use Rattle.std.specs.Prelude.{◌≡◌, [], IfErr, OnOk};
     ghost use Rattle.ga_node.specs.Record.{record_of};
     ghost use Rattle.ga_node.specs.inner.Saving.{IsDone, IsDoneBy, IsEnded, IsEndedBy};
-    ghost use Rattle.ga_node.specs.Table.{does, effect};
+    ghost use Rattle.ga_node.specs.Table.{opcode_effect, effect};
     ghost use Rattle.ga_node.specs.Ready.{IsRunning};
 
     /// `@p`, fetch p: the word at P is pushed, and P advances.
@@ -77,8 +77,8 @@ impl Node {
     pub(super) fn run_store_p(&mut self, saved: &mut Saved) -> Result<(), Kind>
         requires running { IsRunning (record_of self.old) }
         requires empty { saved.old ≡ [] }
-        ensures done { OnOk result (IsDoneBy (does Op.StoreP (record_of self.old)) self.old self.new saved.new) }
-        ensures ended { IfErr result (λ kind. IsEndedBy (does Op.StoreP (record_of self.old)) kind self.old self.new saved.new) }
+        ensures done { OnOk result (IsDoneBy (opcode_effect Op.StoreP (record_of self.old)) self.old self.new saved.new) }
+        ensures ended { IfErr result (λ kind. IsEndedBy (opcode_effect Op.StoreP (record_of self.old)) kind self.old self.new saved.new) }
     {
         let p = self.p();
         self.write(saved, p)?;
@@ -92,8 +92,8 @@ impl Node {
     pub(super) fn run_store_plus(&mut self, saved: &mut Saved) -> Result<(), Kind>
         requires running { IsRunning (record_of self.old) }
         requires empty { saved.old ≡ [] }
-        ensures done { OnOk result (IsDoneBy (does Op.StorePlus (record_of self.old)) self.old self.new saved.new) }
-        ensures ended { IfErr result (λ kind. IsEndedBy (does Op.StorePlus (record_of self.old)) kind self.old self.new saved.new) }
+        ensures done { OnOk result (IsDoneBy (opcode_effect Op.StorePlus (record_of self.old)) self.old self.new saved.new) }
+        ensures ended { IfErr result (λ kind. IsEndedBy (opcode_effect Op.StorePlus (record_of self.old)) kind self.old self.new saved.new) }
     {
         let a = self.a();
         self.write(saved, a.get())?;
@@ -107,8 +107,8 @@ impl Node {
     pub(super) fn run_store_b(&mut self, saved: &mut Saved) -> Result<(), Kind>
         requires running { IsRunning (record_of self.old) }
         requires empty { saved.old ≡ [] }
-        ensures done { OnOk result (IsDoneBy (does Op.StoreB (record_of self.old)) self.old self.new saved.new) }
-        ensures ended { IfErr result (λ kind. IsEndedBy (does Op.StoreB (record_of self.old)) kind self.old self.new saved.new) }
+        ensures done { OnOk result (IsDoneBy (opcode_effect Op.StoreB (record_of self.old)) self.old self.new saved.new) }
+        ensures ended { IfErr result (λ kind. IsEndedBy (opcode_effect Op.StoreB (record_of self.old)) kind self.old self.new saved.new) }
     {
         let b = self.b();
         self.write(saved, b)?;
@@ -121,8 +121,8 @@ impl Node {
     pub(super) fn run_store(&mut self, saved: &mut Saved) -> Result<(), Kind>
         requires running { IsRunning (record_of self.old) }
         requires empty { saved.old ≡ [] }
-        ensures done { OnOk result (IsDoneBy (does Op.Store (record_of self.old)) self.old self.new saved.new) }
-        ensures ended { IfErr result (λ kind. IsEndedBy (does Op.Store (record_of self.old)) kind self.old self.new saved.new) }
+        ensures done { OnOk result (IsDoneBy (opcode_effect Op.Store (record_of self.old)) self.old self.new saved.new) }
+        ensures ended { IfErr result (λ kind. IsEndedBy (opcode_effect Op.Store (record_of self.old)) kind self.old self.new saved.new) }
     {
         let a = self.a();
         self.write(saved, a.get())?;

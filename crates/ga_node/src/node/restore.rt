@@ -1,7 +1,7 @@
 //! Taking events back.
 
 use super::Node;
-use crate::aside::Aside;
+use crate::aside::SuspendedStatus;
 use crate::place::Place;
 use crate::saved::Saved;
 use crate::wait::Wait;
@@ -13,7 +13,7 @@ impl Node {
     /// Writes one old value back, of a node whose wait and stop are set aside.
     #[tactic(auto, using(crate::proofs::Restoring::stays_apart))]
     #[inline(always)]
-    pub(crate) fn put_back(&mut self, aside: &mut Aside, place: Place, old: u32)
+    pub(crate) fn put_back(&mut self, aside: &mut SuspendedStatus, place: Place, old: u32)
         requires fit { IsInRange place old }
         requires cleared { IsCleared self.old }
         requires in_range { aside.old.stop ≤ 3 }
@@ -30,13 +30,13 @@ impl Node {
 
     /// Sets the wait and the stop aside, for old values of many events to be written back by `write_back`.
     #[inline(always)]
-    pub fn set_aside(&mut self) -> Aside
+    pub fn suspend_status(&mut self) -> SuspendedStatus
         ensures same { with_aside self.new result ≡ self.old }
         ensures apart { IsApart self.old }
         ensures cleared { IsCleared self.new }
         ensures in_range { result.stop ≤ 3 }
     {
-        let aside = Aside {
+        let aside = SuspendedStatus {
             wait: self.wait,
             stop: self.stop,
         };
@@ -48,7 +48,7 @@ impl Node {
     /// Writes the first six of the values that an event overwrote back, the last of them first, where the wait and the stop
     /// are set aside.
     #[inline(always)]
-    fn write_six_back(&mut self, aside: &mut Aside, saved: &Saved)
+    fn write_six_back(&mut self, aside: &mut SuspendedStatus, saved: &Saved)
         requires fit { AreFit saved.now }
         requires cleared { IsCleared self.old }
         requires in_range { aside.old.stop ≤ 3 }
@@ -65,7 +65,7 @@ impl Node {
 
     /// Writes the values that an event overwrote back, the last of them first, where the wait and the stop are set aside.
     #[inline(always)]
-    pub fn write_back(&mut self, aside: &mut Aside, saved: &Saved)
+    pub fn write_back(&mut self, aside: &mut SuspendedStatus, saved: &Saved)
         requires fit { AreFit saved.now }
         requires cleared { IsCleared self.old }
         requires in_range { aside.old.stop ≤ 3 }
@@ -82,7 +82,7 @@ impl Node {
 
     /// Gives the node the wait and the stop that were set aside.
     #[inline(always)]
-    pub fn take_back(&mut self, aside: Aside)
+    pub fn resume_status(&mut self, aside: SuspendedStatus)
         requires in_range { aside.stop ≤ 3 }
         requires apart { IsApart (with_aside self.old aside) }
         ensures { self.new ≡ with_aside self.old aside }
@@ -98,9 +98,9 @@ impl Node {
         requires apart { IsApart (restored self.old saved.now) }
         ensures { self.new ≡ restored self.old saved.now }
     {
-        let mut aside = self.set_aside();
+        let mut aside = self.suspend_status();
         self.write_back(&mut aside, saved);
-        self.take_back(aside);
+        self.resume_status(aside);
     }
 
     /// Writes the values that an event overwrote back, the last of them first.
@@ -112,8 +112,8 @@ impl Node {
         if saved.is_full() {
             return self.restore_seven(saved);
         }
-        let mut aside = self.set_aside();
+        let mut aside = self.suspend_status();
         self.write_six_back(&mut aside, saved);
-        self.take_back(aside);
+        self.resume_status(aside);
     }
 }

@@ -3,11 +3,11 @@ use Rattle.std.specs.Prelude.{◌≡◌, ◌⊎◌, Result, Ok, Err, ℕ, Bool, 
 use Rattle.std.specs.Result.{MatchResult}
 use Rattle.ga_parser.specs.declared.fault.SourceCause.TheVariants.{Memory}
 use Rattle.ga_parser.specs.declared.fault.Fault.{Fault}
-use Rattle.ga_parser.specs.Asking.{Refusal, Asking}
+use Rattle.ga_parser.specs.Asking.{Refusal, ParseState}
 use Rattle.ga_parser.specs.Requests.{word_refusal}
 use Rattle.std.specs.List.{list_all}
-use Rattle.ga_parser.specs.Saying.{source_words, Said, is_word, spoken}
-use Rattle.ga_parser.specs.declared.draft.Draft.{Draft}
+use Rattle.ga_parser.specs.Saying.{source_words, TokenContent, is_word, spoken}
+use Rattle.ga_parser.specs.declared.draft.RequestBuilder.{RequestBuilder}
 use Rattle.ga_parser.specs.declared.item.Operand.TheVariants.{Number}
 use Rattle.ga_parser.specs.declared.item.Item.TheVariants.{Cell}
 use Rattle.ga_parser.specs.declared.item.Request.{Request}
@@ -32,11 +32,11 @@ Answers result asks came = MatchResult result (λ x. asks ≡ Ok (came x)) (λ f
 -- ---- what the words say that were read so far (docs/REFERENCE.md, "Source"; the notation is this project's own)
 
 -- Of a line, what stands before a rest was told: the rest says what is left, within a comment or not.
-pub record IsTold (line : ℕ) (text : List ℕ) (before now : List Said) (is_open : Bool) (rest : List ℕ) : Type 0 where
+pub record IsTold (line : ℕ) (text : List ℕ) (before now : List TokenContent) (is_open : Bool) (rest : List ℕ) : Type 0 where
   pub says : now ++ spoken line is_open (source_words rest) ≡ before ++ spoken line false (source_words text)
   pub whole : list_all is_word (spoken line is_open (source_words rest)) ≡ list_all is_word (spoken line false (source_words text))
 
-abbrev pub asking_of : Draft → Asking
+abbrev pub asking_of : RequestBuilder → ParseState
 asking_of draft = record {
   expect = draft.expect;
   asked = draft.asked.items;
@@ -117,7 +117,7 @@ abbrev pub texts_of : List Token → List (List ℕ)
 texts_of tokens = map (λ token. token.text.now) tokens
 
 -- what is asked is what was heard, and no name
-pub record HasHeard (now : Asking) (heard : Heard) : Type 0 where
+pub record HasHeard (now : ParseState) (heard : Heard) : Type 0 where
   pub expect : now.expect ≡ heard.expect
   pub plain : asked_by now.asked now.registers ≡ heard.plain
   pub names : now.labels ≡ []

@@ -7,28 +7,28 @@ use Rattle.ga_grid.specs.Chip.{record_at}
 use Rattle.ga_event.specs.declared.event.Event.{Event}
 use Rattle.ga_event.specs.declared.event.Event.TheVariants.{Own, Pass}
 use Rattle.ga_event.specs.declared.event.Cause.{Cause}
-use Rattle.ga_event.specs.Apply.{seen_from}
+use Rattle.ga_event.specs.Apply.{neighbour_states}
 use Rattle.ga_event.specs.Told.{steps_of}
 use Rattle.ga_causal.specs.Dependence.{event_at, rewound_list}
 use Rattle.ga_races.specs.declared.act.EventAccess.{EventAccess}
 use Rattle.ga_races.specs.HappensBefore.{actions, action_at, are_linked}
 use Rattle.ga_races.specs.Acts.{action_in}
 use Rattle.ga_lab.specs.Machine.{State, chip_of, causes_of, earlier, rewound}
-use Rattle.ga_race_detector.specs.declared.moments.Moment.{Moment}
+use Rattle.ga_race_detector.specs.declared.moments.StepCounts.{StepCounts}
 use Rattle.ga_ports.specs.declared.side.Side.{Side}
 use Rattle.ga_ports.specs.declared.side.Side.TheVariants.{Right, Down, Left, Up}
 use Rattle.ga_grid.specs.Grid.{neighbour_of}
 use Rattle.ga_causal.specs.Steps.{touching, IsStep}
 use Rattle.ga_race_detector.specs.declared.around.Around.{Around}
-use Rattle.ga_race_detector.specs.declared.around.LeftAround.{LeftAround}
+use Rattle.ga_race_detector.specs.declared.around.StepsLeftNearby.{StepsLeftNearby}
 use Rattle.ga_race_detector.specs.declared.around.Sweep.{Sweep}
-use Rattle.ga_race_detector.specs.declared.left.LeftOf.{LeftOf}
+use Rattle.ga_race_detector.specs.declared.left.StepsLeft.{StepsLeft}
 use Rattle.ga_race_detector.specs.inner.Writers.{AreLeft, IsTaken}
-use Rattle.ga_races.specs.declared.near.Near.{Near}
-use Rattle.ga_race_detector.specs.declared.readings.Reading.{Reading}
+use Rattle.ga_races.specs.declared.racing_pairs.RacingPair.{RacingPair}
+use Rattle.ga_race_detector.specs.declared.readings.LookRace.{LookRace}
 use Rattle.ga_race_detector.specs.Races.{looks_next}
 use Rattle.ga_race_detector.specs.Readings.{IsTold}
-use Rattle.ga_race_detector.specs.declared.glances.Glance.{Glance}
+use Rattle.ga_race_detector.specs.declared.look_changes.LookChange.{LookChange}
 
 -- ---- nodes as they were before a place of the history, and the event at the place as it was made
 
@@ -62,21 +62,21 @@ last_part (Own n) = n
 last_part (Pass w r side) = r
 
 -- before the event at the place its nodes had made these numbers of steps, and if it looks it reads this word
-pub record IsMoment (s : State) (place : ℕ) (cause : Cause) (moment : Moment) : Type 0 where
+pub record IsMoment (s : State) (place : ℕ) (cause : Cause) (moment : StepCounts) : Type 0 where
   pub first : moment.first ≡ steps_of (first_part cause.event).number (take place s.kept)
   pub last : moment.last ≡ steps_of (last_part cause.event).number (take place s.kept)
-  pub word : cause.look ≡ true → moment.word ≡ io_word (seen_from (chip_of (earlier s place)) (first_part cause.event).number)
+  pub word : cause.look ≡ true → moment.word ≡ io_word (neighbour_states (chip_of (earlier s place)) (first_part cause.event).number)
 
 -- the moment that is read past the end of a list of moments
-abbrev pub no_moment : Moment
+abbrev pub no_moment : StepCounts
 no_moment = record { first = 0; last = 0; word = 0 }
 
 -- from a place on each of the events has its moment
-abbrev pub AreMomentsFrom : State → ℕ → List Cause → List Moment → Type 0
+abbrev pub AreMomentsFrom : State → ℕ → List Cause → List StepCounts → Type 0
 AreMomentsFrom s place causes moments = (i : ℕ) → place ≤ i → i < length moments → IsMoment s i (event_at causes i) (slice_index_or moments i no_moment)
 
 -- each of the events has its moment in the list
-pub record AreMoments (s : State) (causes : List Cause) (moments : List Moment) : Type 0 where
+pub record AreMoments (s : State) (causes : List Cause) (moments : List StepCounts) : Type 0 where
   pub size : length moments ≡ length causes
   pub each : AreMomentsFrom s 0 causes moments
 
@@ -90,21 +90,21 @@ around_over around Left = around.left
 around_over around Up = around.up
 
 -- the list of how many steps of the neighbour on a side are left
-abbrev pub lists_over : LeftAround → Side → List ℕ
+abbrev pub lists_over : StepsLeftNearby → Side → List ℕ
 lists_over lists Right = lists.right.items
 lists_over lists Down = lists.down.items
 lists_over lists Left = lists.left.items
 lists_over lists Up = lists.up.items
 
 -- what is known of a side, for the events so far
-abbrev pub sweep_over : Sweep → Side → LeftOf
+abbrev pub sweep_over : Sweep → Side → StepsLeft
 sweep_over sweep Right = sweep.right
 sweep_over sweep Down = sweep.down
 sweep_over sweep Left = sweep.left
 sweep_over sweep Up = sweep.up
 
 -- nothing is known of a node yet: no step was counted, and the list is empty
-pub record IsFirst (left : LeftOf) : Type 0 where
+pub record IsFirst (left : StepsLeft) : Type 0 where
   pub count : left.count ≡ 0
   pub list : left.list.items ≡ []
 
@@ -134,7 +134,7 @@ pub record IsAround (causes : List Cause) (b k n : ℕ) (around : Around) : Type
   pub beside : (side : Side) (m : ℕ) → neighbour_of n side ≡ Some m → around_over around side ≡ touching m (rewound_list causes b k)
 
 -- the lists have how many steps of node n and of its neighbours a rollback of each step of node b leaves
-pub record AreAround (causes : List Cause) (b n : ℕ) (lists : LeftAround) : Type 0 where
+pub record AreAround (causes : List Cause) (b n : ℕ) (lists : StepsLeftNearby) : Type 0 where
   pub node : AreLeft causes b n lists.node.items
   pub beside : (side : Side) (m : ℕ) → neighbour_of n side ≡ Some m → AreLeft causes b m (lists_over lists side)
 
@@ -146,7 +146,7 @@ part_beside (Own own) n = own
 part_beside (Pass writer reader side) n = if are_linked n writer.number then writer else reader
 
 -- the look and the change of a reading are at these two places
-pub record IsAtNear (s : State) (near : Near) (reading : Reading) : Type 0 where
+pub record IsAtNear (s : State) (near : RacingPair) (reading : LookRace) : Type 0 where
   pub looks : IsStep (causes_of s) reading.node.number reading.step near.look
   pub changes : IsStep (causes_of s) reading.neighbour.number reading.change near.change
   pub side : Side
@@ -154,59 +154,59 @@ pub record IsAtNear (s : State) (near : Near) (reading : Reading) : Type 0 where
   pub order : reading.early ≡ nat_lt near.look near.change
 
 -- the step that a rollback removes for the look to read another word
-abbrev pub taken_of : Glance → NodeId × ℕ
+abbrev pub taken_of : LookChange → NodeId × ℕ
 taken_of glance = if glance.early then (glance.node, glance.step) else (glance.neighbour, glance.change)
 
 -- two looks are of one node, and the removed steps for both are of one node
-pub record HangTogether (one other : Glance) : Type 0 where
+pub record HangTogether (one other : LookChange) : Type 0 where
   pub node : one.node.number ≡ other.node.number
   pub taken : (taken_of one).0.number ≡ (taken_of other).0.number
 
 -- the look and the change are at these places
-pub record IsGlance (s : State) (near : Near) (glance : Glance) : Type 0 where
+pub record IsGlance (s : State) (near : RacingPair) (glance : LookChange) : Type 0 where
   pub look : near.look < length (causes_of s)
   pub change_at : near.change < length (causes_of s)
   pub looked : event_at (causes_of s) near.look ≡ record { event = Own glance.node; look = true }
   pub step : glance.step ≡ touching glance.node.number (take near.look (causes_of s)) + 1
-  pub word : glance.word ≡ io_word (seen_from (chip_of (earlier s near.look)) glance.node.number)
+  pub word : glance.word ≡ io_word (neighbour_states (chip_of (earlier s near.look)) glance.node.number)
   pub neighbour : glance.neighbour ≡ part_beside (event_at (causes_of s) near.change).event glance.node.number
   pub change : glance.change ≡ touching glance.neighbour.number (take near.change (causes_of s)) + 1
   pub early : glance.early ≡ nat_lt near.look near.change
 
 -- the look and the change are at some places, and the node that looked is the requested one, if one was
-abbrev pub IsGlanced : State → Option NodeId → Glance → Type 0
-IsGlanced s only glance = ((near : Near) × IsGlance s near glance) × IfSome only (λ node. glance.node ≡ node)
+abbrev pub IsGlanced : State → Option NodeId → LookChange → Type 0
+IsGlanced s only glance = ((near : RacingPair) × IsGlance s near glance) × IfSome only (λ node. glance.node ≡ node)
 
 -- one of the list is the look and the change at the places
-abbrev pub IsShownBy : State → Near → List Glance → Type 0
-IsShownBy s near list = (glance : Glance) × Contains list glance × IsGlance s near glance
+abbrev pub IsShownBy : State → RacingPair → List LookChange → Type 0
+IsShownBy s near list = (glance : LookChange) × Contains list glance × IsGlance s near glance
 
 -- for each reading to be reported that is at listed places, one of the list is the look and the change there
-abbrev pub AreGlanced : State → Option NodeId → List Near → List Glance → Type 0
-AreGlanced s only nears list = (reading : Reading) (near : Near) → Contains nears near → IsTold s only reading → IsAtNear s near reading → IsShownBy s near list
+abbrev pub AreGlanced : State → Option NodeId → List RacingPair → List LookChange → Type 0
+AreGlanced s only nears list = (reading : LookRace) (near : RacingPair) → Contains nears near → IsTold s only reading → IsAtNear s near reading → IsShownBy s near list
 
 -- how many steps of the node that looked, and of its neighbours, a rollback of the step for it to read another word leaves
-abbrev pub IsAroundOf : List Cause → Glance → Around → Type 0
+abbrev pub IsAroundOf : List Cause → LookChange → Around → Type 0
 IsAroundOf causes glance around = IsAround causes (taken_of glance).0.number (taken_of glance).1 glance.node.number around
 
 -- the step that is removed for the look to read another word was made
-pub record HasStep (causes : List Cause) (glance : Glance) : Type 0 where
+pub record HasStep (causes : List Cause) (glance : LookChange) : Type 0 where
   pub first : 0 < (taken_of glance).1
   pub within : (taken_of glance).1 ≤ touching (taken_of glance).0.number causes
 
 -- what is known of how many steps are left around some of the looks is true
-abbrev pub AreKnown : List Cause → List Glance → List (Option Around) → Type 0
+abbrev pub AreKnown : List Cause → List LookChange → List (Option Around) → Type 0
 AreKnown causes glances known =
-    (i : ℕ) (glance : Glance) (around : Around) → glance ≡ slice_index_or glances i glance → slice_index_or known i None ≡ Some around → IsAroundOf causes glance around
+    (i : ℕ) (glance : LookChange) (around : Around) → glance ≡ slice_index_or glances i glance → slice_index_or known i None ≡ Some around → IsAroundOf causes glance around
 
 -- After a rollback of the one step, the look comes next and reads the word.
-pub record IsOtherWord (s : State) (glance : Glance) (word : ℕ) : Type 0 where
-  pub is : word ≡ io_word (seen_from (chip_of (rewound s (taken_of glance).0.number (taken_of glance).1)) glance.node.number)
+pub record IsOtherWord (s : State) (glance : LookChange) (word : ℕ) : Type 0 where
+  pub is : word ≡ io_word (neighbour_states (chip_of (rewound s (taken_of glance).0.number (taken_of glance).1)) glance.node.number)
   pub next : looks_next (chip_of (rewound s (taken_of glance).0.number (taken_of glance).1)) glance.node.number ≡ true
   pub step : steps_of glance.node.number (rewound s (taken_of glance).0.number (taken_of glance).1).kept + 1 ≡ glance.step
 
 -- no reading of these looks and changes that is to be reported is left out
-abbrev pub AreRead : State → Option NodeId → List Glance → List Reading → Type 0
+abbrev pub AreRead : State → Option NodeId → List LookChange → List LookRace → Type 0
 AreRead s only glances list =
-    (near : Near) (glance : Glance) (reading : Reading) → Contains glances glance → IsGlance s near glance → IsTold s only reading → IsAtNear s near reading
+    (near : RacingPair) (glance : LookChange) (reading : LookRace) → Contains glances glance → IsGlance s near glance → IsTold s only reading → IsAtNear s near reading
     → Contains list reading

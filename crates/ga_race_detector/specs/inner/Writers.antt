@@ -13,9 +13,9 @@ use Rattle.ga_event.specs.declared.made.Made.TheVariants.{Own, Pass}
 use Rattle.ga_causal.specs.Dependence.{cause_touches, rewound_list}
 use Rattle.ga_causal.specs.Steps.{touching}
 use Rattle.ga_race_detector.specs.declared.left.LeftBeside.{LeftBeside}
-use Rattle.ga_race_detector.specs.declared.left.LeftOf.{LeftOf}
+use Rattle.ga_race_detector.specs.declared.left.StepsLeft.{StepsLeft}
 use Rattle.ga_lab.specs.Machine.{State, chip_of, rewound, causes_of}
-use Rattle.ga_race_detector.specs.Races.{offered}
+use Rattle.ga_race_detector.specs.Races.{alternative_word}
 use Rattle.ga_race_detector.specs.declared.writers.Writers.{Writers}
 use Rattle.ga_race_detector.specs.declared.races.Besides.{Besides}
 
@@ -53,7 +53,7 @@ pub record IsFilled (old new : List ℕ) (to number : ℕ) : Type 0 where
 
 -- One more event, with this depth, was added: if it is a step of the node, the list is filled up to the depth with the number
 -- of the node's steps before it, since a rollback of any of these steps removes it.
-pub record IsTaken (old new : LeftOf) (cause : Cause) (depth : ℕ) : Type 0 where
+pub record IsTaken (old new : StepsLeft) (cause : Cause) (depth : ℕ) : Type 0 where
   pub node : new.node ≡ old.node
   pub count : new.count ≡ old.count + (if cause_touches cause old.node.number then 1 else 0)
   pub list : IsFilled old.list.items new.list.items (if cause_touches cause old.node.number then depth else length old.list.items) old.count
@@ -87,7 +87,7 @@ at_side flags Up = flags.up
 
 -- a rollback of none of the node's steps leaves a word offered to it over the side
 abbrev pub NeverOffers : State → ℕ → Side → Type 0
-NeverOffers s n side = (k : ℕ) → offered (chip_of (rewound s n k)) n side ≡ None
+NeverOffers s n side = (k : ℕ) → alternative_word (chip_of (rewound s n k)) n side ≡ None
 
 -- a rollback of none of the node's steps leaves a word offered to it over a side that has no flag
 abbrev pub AreSilent : State → ℕ → Writers → Type 0

@@ -4,7 +4,7 @@ ghost use Rattle.std.specs.Prelude.{◌≡◌, ◌≤◌, option_to_list};
 ghost use Rattle.ga_lab.specs.Machine.{history_of};
 ghost use Rattle.ga_scheduler.specs.Words.{end_of, words_of, words_after, carried_as, is_over, one_over, word_count};
 
-use super::{Sent, Words};
+use super::{Transfer, TransferIter};
 use ga_grid::NodeId;
 use ga_lab::{Lab, Made};
 
@@ -47,13 +47,13 @@ pub(crate) fn one_over(made: &Made, writer: NodeId, reader: NodeId) -> u32
 }
 
 /// How many words went from the writer to the reader, of those that are kept. Takes time by the steps of the one that has fewer.
-pub fn count_words(lab: &Lab, writer: NodeId, reader: NodeId) -> u32
+pub fn count_transfers(lab: &Lab, writer: NodeId, reader: NodeId) -> u32
     ensures { result ≡ word_count lab.now writer.number reader.number }
 {
     let end = end_of(is_shorter(lab, writer, reader), writer, reader);
     let mut words = 0;
     'places: for place in 0..lab.steps(end) {
-        match lab.told(end, place) {
+        match lab.made_by_step(end, place) {
             Some(made) => words += one_over(&made, writer, reader),
             None => return words,
         }
@@ -62,7 +62,7 @@ pub fn count_words(lab: &Lab, writer: NodeId, reader: NodeId) -> u32
 }
 
 // The word that an event carried over the link, with this number.
-fn sent_as(made: &Made, writer: NodeId, reader: NodeId, number: u32) -> Option<Sent>
+fn sent_as(made: &Made, writer: NodeId, reader: NodeId, number: u32) -> Option<Transfer>
     ensures { option_to_list result ≡ carried_as writer.number reader.number number made.now }
 {
     match made {
@@ -75,7 +75,7 @@ fn sent_as(made: &Made, writer: NodeId, reader: NodeId, number: u32) -> Option<S
             word,
         } => {
             if from.number == writer.number && to.number == reader.number {
-                Some(Sent {
+                Some(Transfer {
                     number,
                     writer_step: *writer_step,
                     reader_step: *reader_step,
@@ -88,7 +88,7 @@ fn sent_as(made: &Made, writer: NodeId, reader: NodeId, number: u32) -> Option<S
     }
 }
 
-impl Words {
+impl TransferIter {
     ghost use Rattle.std.specs.Prelude.{◌≡◌, ◌++◌, [], option_to_list, IfNone};
     ghost use Rattle.ga_lab.specs.Machine.{State};
     ghost use Rattle.ga_scheduler.specs.Words.{words_of, words_left};
@@ -97,7 +97,7 @@ impl Words {
     pub fn new(writer: NodeId, reader: NodeId) -> Self
         ensures { (s : State) → words_left s result ≡ words_of s writer.number reader.number }
     {
-        Words {
+        TransferIter {
             writer,
             reader,
             by_reader: false,
@@ -120,7 +120,7 @@ impl Words {
 
     /// The next word; none if all are listed. The time is linear in the number of steps between the words, of the writer or of
     /// the reader: of the one that had fewer at the first word.
-    pub fn next(&mut self, lab: &Lab) -> Option<Sent>
+    pub fn next(&mut self, lab: &Lab) -> Option<Transfer>
         ensures word { words_left lab.now self.old ≡ option_to_list result ++ words_left lab.now self.new }
         ensures end { IfNone result (words_left lab.now self.old ≡ []) }
     {
@@ -129,10 +129,10 @@ impl Words {
         let end = end_of(by_reader, writer, reader);
         let steps = lab.steps(end);
         for place in self.place..steps {
-            match lab.told(end, place) {
+            match lab.made_by_step(end, place) {
                 Some(made) => {
                     if let Some(sent) = sent_as(&made, writer, reader, before + 1) {
-                        *self = Words {
+                        *self = TransferIter {
                             writer,
                             reader,
                             by_reader,

@@ -9,7 +9,7 @@ returns-in-Ok g c = λ wording. (
   λ before said h. (
     removed_text 1 c.counts.result.kept,
     back_done wording c.args.lab.now _ c.undo.new.self c.counts.result.kept c.in-Ok.ensures.answer c.in-Ok.ensures.state c.counts.ensures.kept refl,
-    c.say_removed.ensures.1 before said h,
+    c.write_removed.ensures.1 before said h,
   ),
 )
 
@@ -19,6 +19,6 @@ returns-in-Err g c = λ wording. (
   λ before said h. (
     c.refusal_text.result.now,
     back_refused wording c.args.lab.now c.in-Err.fault _ c.undo.new.self c.in-Err.ensures.answer c.in-Err.ensures.state c.refusal_text.ensures.text,
-    c.say.ensures.1 before said h,
+    c.write_text.ensures.1 before said h,
   ),
 )

@@ -10,7 +10,7 @@ returns-in-Ok g c = λ wording. (
     removed_text c.in-Ok.removed c.counts.result.kept,
     rewind_done wording c.args.lab.now c.args.node c.args.step c.in-Ok.removed c.counts.result.kept _ c.rewind.new.self c.in-Ok.ensures.answer c.in-Ok.ensures.state
         c.counts.ensures.kept refl,
-    c.say_removed.ensures.1 before said h,
+    c.write_removed.ensures.1 before said h,
   ),
 )
 
@@ -20,6 +20,6 @@ returns-in-Err g c = λ wording. (
   λ before said h. (
     c.refusal_text.result.now,
     rewind_refused wording c.args.lab.now c.args.node c.args.step c.in-Err.fault _ c.rewind.new.self c.in-Err.ensures.answer c.in-Err.ensures.same c.refusal_text.ensures.text,
-    c.say.ensures.1 before said h,
+    c.write_text.ensures.1 before said h,
   ),
 )

@@ -9,7 +9,7 @@ returns-in-Ok g c = (
   λ before said h. (
     made_text c.in-Ok.made,
     step_made c.args.wording c.args.lab.now c.args.node c.in-Ok.made _ c.step_inlined.new.self c.in-Ok.ensures.answer c.in-Ok.ensures.ok refl,
-    c.say_made.ensures.1 before said h,
+    c.write_event.ensures.1 before said h,
   ),
 )
 
@@ -19,6 +19,6 @@ returns-in-Err g c = (
   λ before said h. (
     c.refusal.result.now,
     step_refused c.args.wording c.args.lab.now c.args.node c.in-Err.fault _ c.step_inlined.new.self c.in-Err.ensures.answer c.in-Err.ensures.err c.refusal.ensures.text,
-    c.say.ensures.1 before said h,
+    c.write_text.ensures.1 before said h,
   ),
 )

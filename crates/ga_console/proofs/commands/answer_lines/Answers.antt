@@ -4,25 +4,25 @@ use Rattle.std.specs.Result.{IsErr}
 use Rattle.ga_console.specs.inner.Run.{IsAhead, IsLineAhead}
 use Rattle.ga_console.specs.Session.{Answering, Serves, ServesCut}
 use Rattle.ga_display.specs.Texts.{no_input}
-use Rattle.ga_text.specs.declared.output.WriteFailed.{WriteFailed}
-use Rattle.ga_console.specs.declared.commands.Ending.{Ending}
-use Rattle.ga_console.specs.declared.commands.Ending.TheVariants.{Ended, Past}
-use Rattle.ga_text.proofs.SaidLemmas.{at_err, cut_here, said_assoc, cut_assoc, said_pending, said_nothing, empty_part, some_part}
+use Rattle.ga_text.specs.declared.output.WriteError.{WriteError}
+use Rattle.ga_console.specs.declared.commands.CommandsEnd.{CommandsEnd}
+use Rattle.ga_console.specs.declared.commands.CommandsEnd.TheVariants.{Ended, Past}
+use Rattle.ga_text.proofs.WriteLemmas.{at_err, truncated_here, said_assoc, cut_assoc, written_pending, said_nothing, empty_part, some_part}
 use Rattle.ga_console.proofs.AheadLemmas.{ahead_whole, line_whole, line_taken, line_kept, line_within, quit_part}
 use Rattle.ga_console.proofs.Heard.{heard_none, heard_push, heard_cut, heard_failed, heard_ended, heard_last, heard_quit, heard_quit_last, heard_past, heard_same, cut_short, read_to, read_past, read_over, split_at, split_past, split_over}
 use Rattle.ga_console.proofs.commands.answer_lines.Goals as goal
 
 -- a write failed
-serves_cut : {M : Type 0} (A : Answering M) (room : ℕ) (m : M) (read rest text : List ℕ) (last : M) (result : Result Ending WriteFailed) → IsErr result
+serves_cut : {M : Type 0} (A : Answering M) (room : ℕ) (m : M) (read rest text : List ℕ) (last : M) (result : Result CommandsEnd WriteError) → IsErr result
     → ServesCut A room m read rest text last → Serves A room m read rest text last result
-serves_cut A room m read rest text last result is h = at_err (λ (r : Result Ending WriteFailed). Serves A room m read rest text last r) result is (λ why. h)
+serves_cut A room m read rest text last result is h = at_err (λ (r : Result CommandsEnd WriteError). Serves A room m read rest text last r) result is (λ why. h)
 
 pub lines-init : goal.lines-init
 lines-init g c = record {
   within = c.requires;
   same = refl;
   heard = λ left before said known held.
-      (left, [], known, said_pending _ before said c.args.writer.now.pending.items held, heard_none g.S.Responder.answers c.args.session.now (c.args.input.now.bytes ++ left) c.args.input.now.taken);
+      (left, [], known, written_pending _ before said c.args.writer.now.pending.items held, heard_none g.S.Responder.answers c.args.session.now (c.args.input.now.bytes ++ left) c.args.input.now.taken);
 }
 
 pub returns-in_err-read_line-clause-serves : goal.returns-in_err-read_line-clause-serves
@@ -39,7 +39,7 @@ returns-in_err-read_line-clause-serves g c = λ left before said known held.
       got.1,
       serves_cut _ _ _ _ _ _ _ c.from_residual-in_err-read_line.result c.from_residual-in_err-read_line.ensures.0
           (heard_cut heard part got.0 (omega (arith, got.2.counts, got.2.none_left, c.in_err-read_line.ensures.within))),
-      cut_here c.from_residual-in_err-read_line.result _ before (said ++ inv.1) _ c.from_residual-in_err-read_line.ensures.0 told,
+      truncated_here c.from_residual-in_err-read_line.result _ before (said ++ inv.1) _ c.from_residual-in_err-read_line.ensures.0 told,
     )
 
 pub returns-in_err-answer-in-Feed-clause-serves : goal.returns-in_err-answer-in-Feed-clause-serves
@@ -60,7 +60,7 @@ returns-in_err-answer-in-Feed-clause-serves g c = λ left before said known held
       got.1,
       serves_cut _ _ _ _ _ _ _ c.from_residual-in_err-answer-in-Feed.result c.from_residual-in_err-answer-in-Feed.ensures.0
           (heard_cut more c.read_line.new.input.bytes got.0 c.in_ok-read_line.ensures.within),
-      cut_here c.from_residual-in_err-answer-in-Feed.result _ before (said ++ (inv.1 ++ turn.0)) _ c.from_residual-in_err-answer-in-Feed.ensures.0
+      truncated_here c.from_residual-in_err-answer-in-Feed.result _ before (said ++ (inv.1 ++ turn.0)) _ c.from_residual-in_err-answer-in-Feed.ensures.0
           (cut_assoc _ before said inv.1 turn.0 turn.2),
     )
 
@@ -138,7 +138,7 @@ returns-in_err-answer-in-Last-clause-serves g c = λ left before said known held
       serves_cut _ _ _ _ _ _ _ c.from_residual-in_err-answer-in-Last.result c.from_residual-in_err-answer-in-Last.ensures.0
           (cut_short _ (16777216 - c.args.input.now.taken) c.args.session.now (read_to heard part) got.0 (inv.1 ++ turn.0) _ (Ok Ended)
           (heard_last heard part got.0 turn.0 c.answer-in-Last.new.self got.2.0.is_line.no_feed some got.2.1 (omega (arith, got.2.0.counts, got.2.0.none_left, c.in_ok-read_line.ensures.within)) answered.0 answered.1)),
-      cut_here c.from_residual-in_err-answer-in-Last.result _ before (said ++ (inv.1 ++ turn.0)) _ c.from_residual-in_err-answer-in-Last.ensures.0
+      truncated_here c.from_residual-in_err-answer-in-Last.result _ before (said ++ (inv.1 ++ turn.0)) _ c.from_residual-in_err-answer-in-Last.ensures.0
           (cut_assoc _ before said inv.1 turn.0 turn.2),
     )
 
@@ -179,8 +179,8 @@ returns-in-Answered-3-clause-serves g c = λ left before said known held.
       said_assoc _ before said inv.1 turn.0 _ turn.2,
     )
 
-pub returns-in_err-say-in-Past-clause-serves : goal.returns-in_err-say-in-Past-clause-serves
-returns-in_err-say-in-Past-clause-serves g c = λ left before said known held.
+pub returns-in_err-write_text-in-Past-clause-serves : goal.returns-in_err-write_text-in-Past-clause-serves
+returns-in_err-write_text-in-Past-clause-serves g c = λ left before said known held.
     let inv = c.lines.invariant.heard left before said known held in
     let got = rw c.in-Past.is at (c.in_ok-read_line.ensures.reads inv.0 inv.2) in
     let told = c.in_ok-read_line.ensures.said.1 before (said ++ inv.1) inv.3 in
@@ -191,11 +191,11 @@ returns-in_err-say-in-Past-clause-serves g c = λ left before said known held.
       inv.1 ++ no_input,
       split_over heard part got.2.byte got.0 got.2.takes.is_line.splits,
       got.1,
-      serves_cut _ _ _ _ _ _ _ c.from_residual-in_err-say-in-Past.result c.from_residual-in_err-say-in-Past.ensures.0
+      serves_cut _ _ _ _ _ _ _ c.from_residual-in_err-write_text-in-Past.result c.from_residual-in_err-write_text-in-Past.ensures.0
           (cut_short _ (16777216 - c.args.input.now.taken) c.args.session.now (read_over heard part got.2.byte) got.0 (inv.1 ++ no_input) _ (Ok Past)
           (heard_past heard part got.2.byte got.0 c.read_line.new.input.taken got.2.takes.is_line.no_feed got.2.takes.counts got.2.full)),
-      cut_here c.from_residual-in_err-say-in-Past.result _ before (said ++ (inv.1 ++ no_input)) _ c.from_residual-in_err-say-in-Past.ensures.0
-          (cut_assoc _ before said inv.1 no_input (c.in_err-say-in-Past.ensures.1 before (said ++ inv.1) told)),
+      truncated_here c.from_residual-in_err-write_text-in-Past.result _ before (said ++ (inv.1 ++ no_input)) _ c.from_residual-in_err-write_text-in-Past.ensures.0
+          (cut_assoc _ before said inv.1 no_input (c.in_err-write_text-in-Past.ensures.1 before (said ++ inv.1) told)),
     )
 
 pub returns-in-Past-clause-serves : goal.returns-in-Past-clause-serves
@@ -211,7 +211,7 @@ returns-in-Past-clause-serves g c = λ left before said known held.
       split_over heard part got.2.byte got.0 got.2.takes.is_line.splits,
       got.1,
       heard_past heard part got.2.byte got.0 c.read_line.new.input.taken got.2.takes.is_line.no_feed got.2.takes.counts got.2.full,
-      said_assoc _ before said inv.1 no_input _ (c.in_ok-say-in-Past.ensures.1 before (said ++ inv.1) told),
+      said_assoc _ before said inv.1 no_input _ (c.in_ok-write_text-in-Past.ensures.1 before (said ++ inv.1) told),
     )
 
 pub returns-in-ReadFailed-clause-serves : goal.returns-in-ReadFailed-clause-serves
@@ -245,7 +245,7 @@ returns-in_err-obey-in-Spelled-clause-serves g c = λ left before said known hel
       split_at more c.skip.new.self.bytes inv.0 refl,
       inv.2,
       serves_cut _ _ _ _ _ _ _ c.from_residual.result c.from_residual.ensures.0 (heard_cut more c.skip.new.self.bytes inv.0 c.skip.ensures.within),
-      cut_here c.from_residual.result _ before (said ++ (inv.1 ++ done.0)) _ c.from_residual.ensures.0 (cut_assoc _ before said inv.1 done.0 done.2),
+      truncated_here c.from_residual.result _ before (said ++ (inv.1 ++ done.0)) _ c.from_residual.ensures.0 (cut_assoc _ before said inv.1 done.0 done.2),
     )
 
 pub lines-preserved-in-Spelled : goal.lines-preserved-in-Spelled
@@ -286,7 +286,7 @@ returns-in_err-turn-in-Other-clause-serves g c = λ left before said known held.
       inv.2,
       serves_cut _ _ _ _ _ _ _ c.from_residual-in_err-turn-in-Other.result c.from_residual-in_err-turn-in-Other.ensures.0
           (heard_cut more next inv.0 (line_within bytes count c.lines.input.taken 16777216 ahead c.lines.invariant.within)),
-      cut_here c.from_residual-in_err-turn-in-Other.result _ before (said ++ (inv.1 ++ turn.0)) _ c.from_residual-in_err-turn-in-Other.ensures.0
+      truncated_here c.from_residual-in_err-turn-in-Other.result _ before (said ++ (inv.1 ++ turn.0)) _ c.from_residual-in_err-turn-in-Other.ensures.0
           (cut_assoc _ before said inv.1 turn.0 turn.2),
     )
 

@@ -12,6 +12,6 @@ returns g c = λ wording. (
       let by_limit = ap (counts_text (length c.args.lab.now.kept) c.args.lab.now.made) c.counts.ensures.limit in (
         counts_text c.counts.result.kept c.counts.result.made c.counts.result.limit,
         inl (replies _ _ c.args.lab.now c.args.lab.now (by_kept ∙ by_made ∙ by_limit) refl),
-        c.say_counts.ensures.1 before said h,
+        c.write_counts.ensures.1 before said h,
       ),
 )

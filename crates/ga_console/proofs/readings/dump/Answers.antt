@@ -8,7 +8,7 @@ returns-in-Ok g c = (
   λ before said h. (
     c.as_slice.result.now,
     dump_done c.args.wording c.args.lab.now _ c.in-Ok.image.items c.as_slice.result.now c.chip.ensures.value c.in-Ok.ensures.text c.as_slice.ensures.value,
-    c.say_blocks.ensures.1 before said h,
+    c.write_blocks.ensures.1 before said h,
   ),
 )
 
@@ -18,6 +18,6 @@ returns-in-Err g c = (
   λ before said h. (
     c.refusal.result.now,
     dump_refused c.args.wording c.args.lab.now c.refusal.result.now c.refusal.ensures.text,
-    c.say.ensures.1 before said h,
+    c.write_text.ensures.1 before said h,
   ),
 )

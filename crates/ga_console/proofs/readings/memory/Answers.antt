@@ -9,6 +9,6 @@ returns g c = λ wording. (
   λ before said h. (
     memory_text c.args.node c.args.address c.memory.result,
     inl (replies _ _ c.args.lab.now c.args.lab.now (ap (memory_text c.args.node c.args.address) c.memory.ensures) refl),
-    c.say_memory.ensures.1 before said h,
+    c.write_memory.ensures.1 before said h,
   ),
 )

@@ -10,6 +10,6 @@ returns g c = λ wording. (
   λ before said h. (
     node_text c.args.node (record_of c.node.result.now),
     inl (replies _ _ c.args.lab.now c.args.lab.now (ap (node_text c.args.node) c.node.ensures.value) refl),
-    c.say_node.ensures.1 before said h,
+    c.write_node.ensures.1 before said h,
   ),
 )

@@ -1,11 +1,11 @@
 use Rattle.std.proofs.Common.{rules, ℕ, ◌+◌, List, ◌++◌, length, drop, take, refl, ap, ◌∙◌, arith}
 use Rattle.std.specs.Prelude.{flat_map}
 use Rattle.ga_display.specs.Texts.{made_text, chain_text}
-use Rattle.ga_text.proofs.SaidLemmas.{cut_here, cut_within, cut_assoc, said_as, said_assoc, listed_none, listed_more, listed_front, listed_all}
+use Rattle.ga_text.proofs.WriteLemmas.{truncated_here, truncated_within, cut_assoc, written_as, said_assoc, listed_none, listed_more, listed_front, listed_all}
 use Rattle.ga_console.proofs.readings.say_chain.Goals as goal
 
-pub returns-in_err-say_chain_count : goal.returns-in_err-say_chain_count
-returns-in_err-say_chain_count g c = (
+pub returns-in_err-write_chain_head : goal.returns-in_err-write_chain_head
+returns-in_err-write_chain_head g c = (
   search rules,
   λ before said h.
       let events = c.args.events.now in
@@ -13,8 +13,8 @@ returns-in_err-say_chain_count g c = (
       let whole : List ℕ = head ++ flat_map made_text events in (
         whole,
         refl,
-        cut_here c.from_residual.result _ before (said ++ whole) _ c.from_residual.ensures.0
-            (cut_within _ before said head (flat_map made_text events) whole refl (c.in_err-say_chain_count.ensures.1 before said h)),
+        truncated_here c.from_residual.result _ before (said ++ whole) _ c.from_residual.ensures.0
+            (truncated_within _ before said head (flat_map made_text events) whole refl (c.in_err-write_chain_head.ensures.1 before said h)),
       ),
 )
 
@@ -24,11 +24,11 @@ events-init g c = (
   λ before said h.
       let events = c.args.events.now in
       let head : List ℕ = chain_text (length events) in
-      said_as _ before said head _ _ (listed_none made_text head events) (c.in_ok-say_chain_count.ensures.1 before said h),
+      written_as _ before said head _ _ (listed_none made_text head events) (c.in_ok-write_chain_head.ensures.1 before said h),
 )
 
-pub returns-in_err-say_made : goal.returns-in_err-say_made
-returns-in_err-say_made g c = (
+pub returns-in_err-write_event : goal.returns-in_err-write_event
+returns-in_err-write_event g c = (
   search rules,
   λ before said h.
       let events = c.args.events.now in
@@ -40,10 +40,10 @@ returns-in_err-say_made g c = (
       let more = listed_more made_text head events i c.made-item.result text (omega arith) (ap made_text c.made-item.is) in (
         whole,
         refl,
-        cut_here c.from_residual-in_err-say_made.result _ before (said ++ whole) _ c.from_residual-in_err-say_made.ensures.0
-            (cut_within _ before said (front ++ text) (flat_map made_text (drop (i + 1) events)) whole
+        truncated_here c.from_residual-in_err-write_event.result _ before (said ++ whole) _ c.from_residual-in_err-write_event.ensures.0
+            (truncated_within _ before said (front ++ text) (flat_map made_text (drop (i + 1) events)) whole
             (ap (λ (t : List ℕ). t ++ flat_map made_text (drop (i + 1) events)) more ∙ listed_front made_text head events (i + 1))
-            (cut_assoc _ before said front text (c.in_err-say_made.ensures.1 before (said ++ front) (c.events.invariant.1 before said h)))),
+            (cut_assoc _ before said front text (c.in_err-write_event.ensures.1 before (said ++ front) (c.events.invariant.1 before said h)))),
       ),
 )
 
@@ -56,8 +56,8 @@ events-preserved g c = (
       let i : ℕ = c.events.made-index in
       let front : List ℕ = head ++ flat_map made_text (take i events) in
       let text = made_text c.made-item.result in
-      said_as _ before said (front ++ text) _ _ (listed_more made_text head events i c.made-item.result text (omega arith) (ap made_text c.made-item.is))
-      (said_assoc _ before said front text _ (c.in_ok-say_made.ensures.1 before (said ++ front) (c.events.invariant.1 before said h))),
+      written_as _ before said (front ++ text) _ _ (listed_more made_text head events i c.made-item.result text (omega arith) (ap made_text c.made-item.is))
+      (said_assoc _ before said front text _ (c.in_ok-write_event.ensures.1 before (said ++ front) (c.events.invariant.1 before said h))),
 )
 
 pub returns : goal.returns
@@ -68,6 +68,6 @@ returns g c = (
       let head : List ℕ = chain_text (length events) in (
         head ++ flat_map made_text events,
         refl,
-        said_as _ before said _ _ _ (listed_all made_text head events c.events.made-index (omega arith)) (c.events.invariant.1 before said h),
+        written_as _ before said _ _ _ (listed_all made_text head events c.events.made-index (omega arith)) (c.events.invariant.1 before said h),
       ),
 )

@@ -16,6 +16,6 @@ returns-in-Err g c = (
   λ before said h. (
     c.refusal.result.now,
     trace_refused c.args.wording c.args.lab.now c.args.node c.in-Err.fault _ c.in-Err.ensures.err c.refusal.ensures.text,
-    c.say.ensures.1 before said h,
+    c.write_text.ensures.1 before said h,
   ),
 )

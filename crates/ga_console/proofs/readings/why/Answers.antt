@@ -8,7 +8,7 @@ returns-in-Ok-None g c = (
   search rules,
   λ before said h.
       let none = rw c.in-Ok-None.field-0-is at c.in-Ok-None.ensures.ok in
-      (independent, why_independent c.args.wording c.args.lab.now c.args.from.0 c.args.to.0 c.args.from.1 c.args.to.1 none, c.say.ensures.1 before said h),
+      (independent, why_independent c.args.wording c.args.lab.now c.args.from.0 c.args.to.0 c.args.from.1 c.args.to.1 none, c.write_text.ensures.1 before said h),
 )
 
 pub returns-in-Ok-Some : goal.returns-in-Ok-Some
@@ -29,6 +29,6 @@ returns-in-Err g c = (
   λ before said h. (
     c.refusal.result.now,
     why_refused c.args.wording c.args.lab.now c.args.from.0 c.args.to.0 c.args.from.1 c.args.to.1 c.in-Err.fault c.refusal.result.now c.in-Err.ensures.err c.refusal.ensures.text,
-    c.say-in-Err.ensures.1 before said h,
+    c.write_text-in-Err.ensures.1 before said h,
   ),
 )

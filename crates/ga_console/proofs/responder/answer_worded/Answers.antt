@@ -8,11 +8,11 @@ use Rattle.ga_display.specs.declared.wording.Wording.{Wording}
 use Rattle.ga_console.specs.Replies.{WordedAnswer, Does}
 use Rattle.ga_console.specs.Session.{Turns, AnswersLine}
 use Rattle.ga_console.specs.Replies.WordedAnswer.{long, command, syntax}
-use Rattle.ga_text.specs.declared.output.WriteFailed.{WriteFailed}
-use Rattle.ga_console.specs.declared.responder.Turn.{Turn}
+use Rattle.ga_text.specs.declared.output.WriteError.{WriteError}
+use Rattle.ga_console.specs.declared.responder.LineAction.{LineAction}
 use Rattle.ga_console.specs.declared.command.Command.{Command}
 use Rattle.ga_console.specs.declared.command.Command.TheVariants.{Quit}
-use Rattle.ga_text.proofs.SaidLemmas.{cut_here, said_pending}
+use Rattle.ga_text.proofs.WriteLemmas.{truncated_here, written_pending}
 use Rattle.ga_console.proofs.responder.answer_worded.Goals as goal
 
 too_long : (line part : List ℕ) → line ≡ take 201 part → 200 < length line → 200 < length part
@@ -22,7 +22,7 @@ whole : (line part : List ℕ) → line ≡ take 201 part → length line ≤ 20
 whole line part e h = sym (e ∙ take_all 201 part (omega (arith, ap length e, length-take 201 part)))
 
 -- a failed write changes nothing of what the answer is
-turns_err : (w : Wording) (s : State) (line answer : List ℕ) (new : State) (result : Result Turn WriteFailed) → IsErr result
+turns_err : (w : Wording) (s : State) (line answer : List ℕ) (new : State) (result : Result LineAction WriteError) → IsErr result
     → AnswersLine (WordedAnswer w) s line answer new → Turns (WordedAnswer w) s line new result answer
 turns_err w s line answer new (Ok turn) is h = absurd (search rules)
 turns_err w s line answer new (Err why) is h = h
@@ -43,14 +43,14 @@ answers_done w s line answer new d short spelled only not_quit does = λ part ke
     let same : part ≡ line = whole line part kept short in
     (command d (omega (arith, ap length same)) (subst (SpellsCommand d) (sym same) spelled) does, λ q. not_quit (sym (only Quit (sym same ∙ q))))
 
-pub returns-in_err-say : goal.returns-in_err-say
-returns-in_err-say g c = (
+pub returns-in_err-write_text : goal.returns-in_err-write_text
+returns-in_err-write_text g c = (
   search rules,
   λ before said h.
       let past : 200 < length c.args.line.now = omega (arith, c.if-line-gt-LINE_LIMIT.true) in (
         no_long,
         turns_err c.args.wording _ _ _ _ c.from_residual.result c.from_residual.ensures.0 (answers_long c.args.wording c.args.lab.now c.args.line.now past),
-        cut_here c.from_residual.result _ before (said ++ no_long) _ c.from_residual.ensures.0 (c.in_err-say.ensures.1 before said h),
+        truncated_here c.from_residual.result _ before (said ++ no_long) _ c.from_residual.ensures.0 (c.in_err-write_text.ensures.1 before said h),
       ),
 )
 
@@ -59,29 +59,29 @@ returns-then-line-gt-LINE_LIMIT g c = (
   search rules,
   λ before said h.
       let past : 200 < length c.args.line.now = omega (arith, c.if-line-gt-LINE_LIMIT.true) in
-      (no_long, answers_long c.args.wording c.args.lab.now c.args.line.now past, c.in_ok-say.ensures.1 before said h),
+      (no_long, answers_long c.args.wording c.args.lab.now c.args.line.now past, c.in_ok-write_text.ensures.1 before said h),
 )
 
-pub returns-in_err-say-in-None : goal.returns-in_err-say-in-None
-returns-in_err-say-in-None g c = (
+pub returns-in_err-write_text-in-None : goal.returns-in_err-write_text-in-None
+returns-in_err-write_text-in-None g c = (
   search rules,
   λ before said h.
       let short : length c.args.line.now ≤ 200 = omega (arith, c.if-line-gt-LINE_LIMIT.false) in (
         no_syntax,
-        turns_err c.args.wording _ _ _ _ c.from_residual-in_err-say-in-None.result c.from_residual-in_err-say-in-None.ensures.0
+        turns_err c.args.wording _ _ _ _ c.from_residual-in_err-write_text-in-None.result c.from_residual-in_err-write_text-in-None.ensures.0
             (answers_none c.args.wording c.args.lab.now c.args.line.now short c.in-None.ensures.none),
-        cut_here c.from_residual-in_err-say-in-None.result _ before (said ++ no_syntax) _ c.from_residual-in_err-say-in-None.ensures.0 (c.in_err-say-in-None.ensures.1 before said h),
+        truncated_here c.from_residual-in_err-write_text-in-None.result _ before (said ++ no_syntax) _ c.from_residual-in_err-write_text-in-None.ensures.0 (c.in_err-write_text-in-None.ensures.1 before said h),
       ),
 )
 
-pub returns-in_ok-say-in-None : goal.returns-in_ok-say-in-None
-returns-in_ok-say-in-None g c = (
+pub returns-in_ok-write_text-in-None : goal.returns-in_ok-write_text-in-None
+returns-in_ok-write_text-in-None g c = (
   search rules,
   λ before said h.
       let short : length c.args.line.now ≤ 200 = omega (arith, c.if-line-gt-LINE_LIMIT.false) in (
         no_syntax,
         answers_none c.args.wording c.args.lab.now c.args.line.now short c.in-None.ensures.none,
-        c.in_ok-say-in-None.ensures.1 before said h,
+        c.in_ok-write_text-in-None.ensures.1 before said h,
       ),
 )
 
@@ -95,7 +95,7 @@ returns-in_err-obey_worded-in_default g c = (
         turns_err c.args.wording _ _ _ _ c.from_residual-in_err-obey_worded-in_default.result c.from_residual-in_err-obey_worded-in_default.ensures.0
             (answers_done c.args.wording c.args.lab.now c.args.line.now done.0 c.obey_worded.new.lab c.in-Some.command short
             c.in-Some.ensures.some c.in-Some.ensures.only c.in_default.not-Quit done.1),
-        cut_here c.from_residual-in_err-obey_worded-in_default.result _ before (said ++ done.0) _ c.from_residual-in_err-obey_worded-in_default.ensures.0 done.2,
+        truncated_here c.from_residual-in_err-obey_worded-in_default.result _ before (said ++ done.0) _ c.from_residual-in_err-obey_worded-in_default.ensures.0 done.2,
       ),
 )
 
@@ -117,5 +117,5 @@ returns-in-Quit g c = (
   search rules,
   λ before said h.
       let spelled = rw c.in-Quit.is at c.in-Some.ensures.some in
-      ([], (spelled, refl, refl), said_pending _ before said _ h),
+      ([], (spelled, refl, refl), written_pending _ before said _ h),
 )

@@ -1,11 +1,11 @@
 use Rattle.std.proofs.Common.{rules, ap, ◌∙◌, inl, inr, refl}
 use Rattle.ga_text.specs.Output.{ready}
-use Rattle.ga_console.proofs.RunLemmas.{said_fresh, serves_from}
+use Rattle.ga_console.proofs.RunLemmas.{written_fresh, serves_from}
 use Rattle.ga_console.proofs.run.after_image.Goals as goal
 
 pub returns-in-Ok : goal.returns-in-Ok
 returns-in-Ok g c = λ left before known held.
-    let done = c.serve.ensures.serves left before ready known (said_fresh _ before ready _ (ap g.W.Write.contents c.ready-said.ensures.stream ∙ held) c.ready-said.ensures.said) in
+    let done = c.serve.ensures.serves left before ready known (written_fresh _ before ready _ (ap g.W.Write.contents c.ready-said.ensures.stream ∙ held) c.ready-said.ensures.said) in
     let there = done.6 in (
       done.0,
       done.1,

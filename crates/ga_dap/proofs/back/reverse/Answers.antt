@@ -15,25 +15,25 @@ pub returns : goal.returns
 returns c =
     let before = is_marked c.shown_nodes-before.result in
     let shown = shown_so c.args.program.now c.as_slice.result.now before c.as_slice.ensures.value c.shown_nodes-before.ensures.marks in
-    carries_so c.tell_back_twice.result _ _ _ _ _ _ c.tell_back_twice.ensures
+    carries_so c.emit_rollback_with_retry.result _ _ _ _ _ _ c.emit_rollback_with_retry.ensures
     (λ messages told. (
       Some c.in-Some.node,
       c.in-Some.ensures,
       (
-        c.reverse_node-gone.ensures.program
+        c.reverse_continue_node-gone.ensures.program
             ∙ ap (λ (z : List Breakpoint). reversed_by c.args.program.now c.in-Some.node z) c.as_slice-2.ensures.value,
         (
           before,
-          c.reverse_node-gone.result.before,
-          c.reverse_node-gone.result.removed,
+          c.reverse_continue_node-gone.result.before,
+          c.reverse_continue_node-gone.result.removed,
           shown,
-          c.reverse_node-gone.ensures.went,
-          subst (λ (r : Text). BackTold before c.reverse_node-gone.new.program c.args.request.now c.in-Some.node
-              (gone_words c.in-Some.node c.reverse_node-gone.result.before c.reverse_node-gone.result.removed c.reverse_node-gone.new.program.lab) r messages)
+          c.reverse_continue_node-gone.ensures.went,
+          subst (λ (r : Text). BackTold before c.reverse_continue_node-gone.new.program c.args.request.now c.in-Some.node
+              (gone_words c.in-Some.node c.reverse_continue_node-gone.result.before c.reverse_continue_node-gone.result.removed c.reverse_continue_node-gone.new.program.lab) r messages)
               c.reason_behind-reason.ensures
-              (subst (λ (n : NodeId). BackTold before c.reverse_node-gone.new.program c.args.request.now n
-              (gone_words n c.reverse_node-gone.result.before c.reverse_node-gone.result.removed c.reverse_node-gone.new.program.lab) c.reason_behind-reason.result.now messages)
-              c.reverse_node-gone.ensures.node told),
+              (subst (λ (n : NodeId). BackTold before c.reverse_continue_node-gone.new.program c.args.request.now n
+              (gone_words n c.reverse_continue_node-gone.result.before c.reverse_continue_node-gone.result.removed c.reverse_continue_node-gone.new.program.lab) c.reason_behind-reason.result.now messages)
+              c.reverse_continue_node-gone.ensures.node told),
         ),
       ),
     ))

@@ -13,21 +13,21 @@ pub returns : goal.returns
 returns c =
     let before = is_marked c.shown_nodes-before.result in
     let shown = shown_so c.args.program.now c.as_slice.result.now before c.as_slice.ensures.value c.shown_nodes-before.ensures.marks in
-    carries_so c.tell_back_twice.result _ _ _ _ _ _ c.tell_back_twice.ensures
+    carries_so c.emit_rollback_with_retry.result _ _ _ _ _ _ c.emit_rollback_with_retry.ensures
     (λ messages told. (
       Some c.in-Some.node,
       c.in-Some.ensures,
       (
-        c.step_node_back-gone.ensures.program,
+        c.step_back_node-gone.ensures.program,
         (
           before,
-          c.step_node_back-gone.result.before,
-          c.step_node_back-gone.result.removed,
+          c.step_back_node-gone.result.before,
+          c.step_back_node-gone.result.removed,
           shown,
-          c.step_node_back-gone.ensures.went,
-          subst (λ (n : NodeId). BackTold before c.step_node_back-gone.new.program c.args.request.now n
-              (gone_words n c.step_node_back-gone.result.before c.step_node_back-gone.result.removed c.step_node_back-gone.new.program.lab) (codes "step") messages)
-              c.step_node_back-gone.ensures.node told,
+          c.step_back_node-gone.ensures.went,
+          subst (λ (n : NodeId). BackTold before c.step_back_node-gone.new.program c.args.request.now n
+              (gone_words n c.step_back_node-gone.result.before c.step_back_node-gone.result.removed c.step_back_node-gone.new.program.lab) (codes "step") messages)
+              c.step_back_node-gone.ensures.node told,
         ),
       ),
     ))

@@ -6,9 +6,9 @@ use Rattle.ga_dap.proofs.changes.tell_end.Goals as goal
 
 pub returns-in-Some : goal.returns-in-Some
 returns-in-Some c =
-    ok_then c.tell_stop.result c.tell_stop.ensures.sent
+    ok_then c.emit_run_end.result c.emit_run_end.ensures.sent
     (λ told. (
       told.0 ∷ [],
       subst (λ (stop : Option StopReason). StopTold c.args.program.now c.args.settings.now stop (told.0 ∷ [])) (sym c.in-Some.is) (told.0, told.1, refl),
-      sent_one c.args.out.now told.0 c.tell_stop.new.out told.2,
+      sent_one c.args.out.now told.0 c.emit_run_end.new.out told.2,
     ))

@@ -8,5 +8,5 @@ pub returns : goal.returns
 returns c =
     carries_so c.evaluate_in.result _ _ _ _ _ _ c.evaluate_in.ensures
     (λ messages does. subst (λ (given : Option Text). EvaluatesGiven c.args.program.now c.args.request.now given messages c.evaluate_in.new.program) c.in-Some.ensures
-    (c.node_meant-node.result, c.trim_ascii.result.now, c.node_meant-node.ensures, c.trim_ascii.ensures.value, does))
+    (c.node_of_expression-node.result, c.trim_ascii.result.now, c.node_of_expression-node.ensures, c.trim_ascii.ensures.value, does))
     (λ stays. stays)

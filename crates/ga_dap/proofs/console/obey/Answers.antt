@@ -16,7 +16,7 @@ returns-in-Ok-Some c =
     c.has_moved-moved.ensures
     ∙ ap (λ (z : ℕ). not (z == length c.command_text.new.program.lab.kept) || not (c.counts-counts.result.made == c.command_text.new.program.lab.made)) c.counts-counts.ensures.kept
     ∙ ap (λ (z : ℕ). not (length c.args.program.now.lab.kept == length c.command_text.new.program.lab.kept) || not (z == c.command_text.new.program.lab.made)) c.counts-counts.ensures.made in
-    carries_so c.tell_command_twice.result _ _ _ _ _ _ c.tell_command_twice.ensures
+    carries_so c.emit_command_with_retry.result _ _ _ _ _ _ c.emit_command_with_retry.ensures
     (λ messages answered. (
       Some c.in-Ok-Some.answer.items,
       subst (λ (z : Text). Commands c.args.program.now z c.command_text.new.program (Some c.in-Ok-Some.answer.items)) c.as_bytes.ensures.value told,

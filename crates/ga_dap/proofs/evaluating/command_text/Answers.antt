@@ -1,17 +1,17 @@
 use Rattle.std.proofs.Common.{rules, ◌≡◌, ◌∙◌, ℕ, List, [], ◌++◌, Some, refl, sym, ap, subst}
 use Rattle.std.proofs.lemmas.List.{append-nil}
 use Rattle.ga_text.specs.Lines.{Text}
-use Rattle.ga_text.specs.Output.{IsSaid}
+use Rattle.ga_text.specs.Output.{IsWritten}
 use Rattle.ga_console.proofs.AheadLemmas.{quit_part}
 use Rattle.ga_explorer.specs.Answers.{Explores}
-use Rattle.ga_explorer.specs.Opening.{Exploring}
+use Rattle.ga_explorer.specs.Opening.{ExplorerState}
 use Rattle.ga_dap_queries.specs.declared.debuggee.Debuggee.{Debuggee}
 use Rattle.ga_dap.specs.Opening.{parts_explored}
 use Rattle.ga_dap.proofs.Unmoved.{unmoved}
 use Rattle.ga_dap.proofs.evaluating.command_text.Goals as goal
 
 -- nothing was said before
-nothing_said : (items output : List ℕ) → items ≡ [] → output ≡ [] → IsSaid (Some items) [] [] output
+nothing_said : (items output : List ℕ) → items ≡ [] → output ≡ [] → IsWritten (Some items) [] [] output
 nothing_said items output i o = record { sent = []; held = ap (λ (z : List ℕ). Some z) i; splits = sym o }
 
 pub returns-in-Ok-clause-told : goal.returns-in-Ok-clause-told
@@ -24,11 +24,11 @@ returns-in-Ok-clause-told c =
     let part = h.1 c.args.line.now c.front_of_line.ensures in
     let told = c.in-Ok.ensures.said.1 [] h.0 h.2 in
     let e : h.0 ≡ told.sent = told.splits ∙ ap (λ (z : List ℕ). told.sent ++ z) c.in-Ok.ensures.sent ∙ append-nil told.sent in
-    let whole : c.send.new.self.stream.now.items ≡ h.0 = cc in
+    let whole : c.flush.new.self.stream.now.items ≡ h.0 = cc in
     let begins = c.new-said.ensures.same in
     let goes_on = c.in-Ok-Answered.ensures.0 in
     let ends = c.in-Ok.ensures.said.0 in
-    let name : c.send.new.self.stream.ghost_name ≡ c.new-said.result.stream.ghost_name = ends ∙ goes_on in
+    let name : c.flush.new.self.stream.ghost_name ≡ c.new-said.result.stream.ghost_name = ends ∙ goes_on in
     let left = c.answer-in-Ok-Answered-1.given.1 (sym (name ∙ begins)) in (
       refl,
       subst (λ (z : Text). Explores (parts_explored c.args.program.now.lab c.args.program.now.source) c.args.line.now z (parts_explored c.answer_line.new.lab c.args.program.now.source))
@@ -36,15 +36,15 @@ returns-in-Ok-clause-told c =
       part.1,
     )
 
-pub returns-in-Err-send-clause-unmoved : goal.returns-in-Err-send-clause-unmoved
-returns-in-Err-send-clause-unmoved c = λ still.
+pub returns-in-Err-flush-clause-unmoved : goal.returns-in-Err-flush-clause-unmoved
+returns-in-Err-flush-clause-unmoved c = λ still.
     let stream = c.new-said.ensures.stream in
     let empty = c.reserve.ensures.items ∙ c.new-answer.ensures.items in
     let begun : c.new-said.result.stream.now.items ≡ [] = cc in
     let said = nothing_said c.new-said.result.stream.now.items c.new-said.result.pending.items begun c.new-said.ensures.nothing in
     let h = rw c.in-Ok-Answered.field-0-is at (c.in-Ok-Answered.ensures.1 [] [] said) in
     let part = h.1 c.args.line.now c.front_of_line.ensures in
-    unmoved c.args.program.now c.args.line.now h.0 c.answer_line.new.lab c.stands-is_replayed.ensures.caused part.0 still
+    unmoved c.args.program.now c.args.line.now h.0 c.answer_line.new.lab c.has_step-is_replayed.ensures.caused part.0 still
 
 pub returns-in-Ok-Quit-clause-told : goal.returns-in-Ok-Quit-clause-told
 returns-in-Ok-Quit-clause-told c =
@@ -53,7 +53,7 @@ returns-in-Ok-Quit-clause-told c =
     let begun : c.new-said.result.stream.now.items ≡ [] = cc in
     let said = nothing_said c.new-said.result.stream.now.items c.new-said.result.pending.items begun c.new-said.ensures.nothing in
     let h = rw c.in-Ok-Quit.field-0-is at (c.in-Ok-Quit.ensures.1 [] [] said) in (
-      ap (λ (z : Exploring). let d : Debuggee = record c.args.program.now { lab = z.lab } in d) h.1.1,
+      ap (λ (z : ExplorerState). let d : Debuggee = record c.args.program.now { lab = z.lab } in d) h.1.1,
       quit_part c.front_of_line.result.now c.args.line.now c.front_of_line.ensures h.1.0,
     )
 
@@ -65,4 +65,4 @@ returns-in-Err-clause-unmoved c = λ still.
     let said = nothing_said c.new-said.result.stream.now.items c.new-said.result.pending.items begun c.new-said.ensures.nothing in
     let h = c.in-Err.ensures.1 [] [] said in
     let part = h.1 c.args.line.now c.front_of_line.ensures in
-    unmoved c.args.program.now c.args.line.now h.0 c.answer_line.new.lab c.stands-is_replayed.ensures.caused part.0 still
+    unmoved c.args.program.now c.args.line.now h.0 c.answer_line.new.lab c.has_step-is_replayed.ensures.caused part.0 still

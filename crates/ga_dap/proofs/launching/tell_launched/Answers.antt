@@ -9,10 +9,10 @@ pub returns : goal.returns
 returns c =
     let first = acknowledged c.args.request.now in
     let warned = c.in_ok-tell_warnings.ensures in
-    ok_then c.tell_alone.result c.tell_alone.ensures.sent
+    ok_then c.add_bare_event.result c.add_bare_event.ensures.sent
     (λ sent. (
       warned.0,
       warned.1,
-      sent_next c.args.out.now (first ∷ warned.0) c.tell_warnings.new.out (event_alone (codes "initialized")) c.tell_alone.new.self
+      sent_next c.args.out.now (first ∷ warned.0) c.tell_warnings.new.out (event_alone (codes "initialized")) c.add_bare_event.new.self
           (sent_then c.args.out.now first c.acknowledge.new.self warned.0 c.tell_warnings.new.out c.in_ok-acknowledge.ensures.sent warned.2) sent,
     ))

@@ -6,4 +6,4 @@ use Rattle.ga_dap.proofs.launching.tell_warnings.Goals as goal
 pub returns-else-is_empty : goal.returns-else-is_empty
 returns-else-is_empty c =
     let told = output_told (codes "stderr") c.args.warnings.now in
-    ok_then c.tell_output.result c.tell_output.ensures.sent (λ sent. (told ∷ [], inr (c.args.warnings.now, refl), sent_one c.args.out.now told c.tell_output.new.out sent))
+    ok_then c.emit_output.result c.emit_output.ensures.sent (λ sent. (told ∷ [], inr (c.args.warnings.now, refl), sent_one c.args.out.now told c.emit_output.new.out sent))

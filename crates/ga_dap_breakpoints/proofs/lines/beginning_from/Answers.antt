@@ -1,7 +1,7 @@
 use Rattle.std.proofs.Common.{sym, ap, ◌∙◌, ◌-◌, arith}
-use Rattle.ga_lab.specs.Machine.{Standing}
-use Rattle.ga_provenance.proofs.Made.{stands_so}
-use Rattle.ga_dap_views.specs.Spots.{spot_behind}
+use Rattle.ga_lab.specs.Machine.{NodeAtStep}
+use Rattle.ga_provenance.proofs.Made.{has_step_so}
+use Rattle.ga_dap_views.specs.Spots.{slot_address_after}
 use Rattle.ga_dap_breakpoints.specs.Lines.{op_told, beginning_from}
 use Rattle.ga_dap_breakpoints.proofs.Beginnings.{began_here, began_before, began_at_load, none_looked_at}
 use Rattle.ga_dap_breakpoints.proofs.lines.beginning_from.Goals as goal
@@ -10,15 +10,15 @@ pub going-preserved : goal.going-preserved
 going-preserved c =
     let s = c.args.lab.now in
     let node = c.args.node in
-    let at = ap (λ (z : Standing). z.step) c.spot_back-there.ensures.walk in
+    let at = ap (λ (z : NodeAtStep). z.step) c.slot_address_at-there.ensures.walk in
     record {
-      walk = stands_so s node c.place_back-before.result c.spot_back-there.new.walk c.spot_back-there.ensures.walk;
+      walk = has_step_so s node c.place_back-before.result c.slot_address_at-there.new.walk c.slot_address_at-there.ensures.walk;
       order = omega (arith, at);
       within = omega (arith, c.place_back-before.ensures.within, c.going.invariant.within);
-      spot = c.spot_back-there.ensures.spot;
+      spot = c.slot_address_at-there.ensures.spot;
       same = c.going.invariant.same
-          ∙ began_before c.args.notes.now s node c.going.place c.going.left c.spot_back-there.result c.going.spot c.op_told-op.result c.comes_on.result (omega arith) (omega arith)
-          (c.spot_back-there.ensures.spot ∙ ap (spot_behind s node) c.place_back-before.ensures.value) c.going.invariant.spot (c.op_told-op.ensures ∙ ap op_told c.told-told.ensures) c.comes_on.ensures c.if-comes_on.false
+          ∙ began_before c.args.notes.now s node c.going.place c.going.left c.slot_address_at-there.result c.going.spot c.op_told-op.result c.comes_on.result (omega arith) (omega arith)
+          (c.slot_address_at-there.ensures.spot ∙ ap (slot_address_after s node) c.place_back-before.ensures.value) c.going.invariant.spot (c.op_told-op.ensures ∙ ap op_told c.made_by_step-made_by_step.ensures) c.comes_on.ensures c.if-comes_on.false
           ∙ ap (λ z. beginning_from c.args.notes.now s node z (c.going.left - 1)) (sym c.place_back-before.ensures.value);
     }
 
@@ -30,8 +30,8 @@ returns-then-comes_on c =
     let s = c.args.lab.now in
     let node = c.args.node in
     sym (c.going.invariant.same
-    ∙ began_here c.args.notes.now s node c.going.place c.going.left c.spot_back-there.result c.going.spot c.op_told-op.result c.comes_on.result (omega arith) (omega arith)
-    (c.spot_back-there.ensures.spot ∙ ap (spot_behind s node) c.place_back-before.ensures.value) c.going.invariant.spot (c.op_told-op.ensures ∙ ap op_told c.told-told.ensures) c.comes_on.ensures c.if-comes_on.true)
+    ∙ began_here c.args.notes.now s node c.going.place c.going.left c.slot_address_at-there.result c.going.spot c.op_told-op.result c.comes_on.result (omega arith) (omega arith)
+    (c.slot_address_at-there.ensures.spot ∙ ap (slot_address_after s node) c.place_back-before.ensures.value) c.going.invariant.spot (c.op_told-op.ensures ∙ ap op_told c.made_by_step-made_by_step.ensures) c.comes_on.ensures c.if-comes_on.true)
 
 pub returns : goal.returns
 returns c = sym (c.going.invariant.same ∙ none_looked_at c.args.notes.now c.args.lab.now c.args.node c.going.place c.going.left (omega arith))

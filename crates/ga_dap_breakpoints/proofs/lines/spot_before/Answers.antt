@@ -1,6 +1,6 @@
 use Rattle.std.proofs.Common.{ap, ◌∙◌}
 use Rattle.ga_node.specs.Record.{record_of}
-use Rattle.ga_lab.specs.Machine.{Standing}
+use Rattle.ga_lab.specs.Machine.{NodeAtStep}
 use Rattle.ga_provenance.proofs.Made.{stood_of}
 use Rattle.ga_dap_breakpoints.proofs.Following.{stood_here}
 use Rattle.ga_dap_breakpoints.proofs.lines.spot_before.Goals as goal
@@ -11,4 +11,4 @@ returns-then-before-place c =
     let node = c.args.node in
     let stands = record_of c.node.result.now in
     stood_here c.args.began s node c.args.place c.place_back-before.result c.args.word stands c.spot_by.result c.place_back-before.ensures.value c.if-before-place.true
-    (stood_of s node c.back_to.new.self c.args.place stands (c.back_to.ensures ∙ ap (λ (z : Standing). record z { step = c.args.place }) c.requires.walk) c.requires.within c.node.ensures) c.spot_by.ensures
+    (stood_of s node c.back_to.new.self c.args.place stands (c.back_to.ensures ∙ ap (λ (z : NodeAtStep). record z { step = c.args.place }) c.requires.walk) c.requires.within c.node.ensures) c.spot_by.ensures

@@ -1,11 +1,11 @@
 use Rattle.std.proofs.Common.{◌≡◌, ◌≤◌, ◌+◌}
-use Rattle.ga_lab.specs.Machine.{standing}
+use Rattle.ga_lab.specs.Machine.{node_at_step}
 use Rattle.ga_dap_breakpoints.specs.Reversing.{hits_among}
 use Rattle.ga_dap_breakpoints.proofs.reversing.hits_among.Given as goal
 
 abbrev pub invariant-going : goal.invariant-going
 invariant-going l = record {
-  walk : l.walk ≡ standing l.lab l.node l.walk.step;
+  walk : l.walk ≡ node_at_step l.lab l.node l.walk.step;
   order : l.step ≤ l.walk.step;
   within : l.number + l.step ≤ l.among;
   same : hits_among l.lab l.node l.one l.among ≡ l.number + hits_among l.lab l.node l.one l.step;

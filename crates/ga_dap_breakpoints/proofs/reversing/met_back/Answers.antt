@@ -1,6 +1,6 @@
 use Rattle.std.proofs.Common.{◌≡◌, ◌∙◌, ℕ, ap}
 use Rattle.ga_node.specs.Record.{NodeRecord, record_of}
-use Rattle.ga_lab.specs.Machine.{Standing, standing}
+use Rattle.ga_lab.specs.Machine.{NodeAtStep, node_at_step}
 use Rattle.ga_provenance.specs.Origins.{node_after}
 use Rattle.ga_dap_breakpoints.specs.Conditions.{meets_test}
 use Rattle.ga_dap_breakpoints.proofs.Reversals.{stands_so}
@@ -11,9 +11,9 @@ returns-clause-met c =
     let s = c.args.lab.now in
     let node = c.args.node in
     let step : ℕ = c.args.step in
-    let at : c.back_to.new.self ≡ standing s node step = c.back_to.ensures ∙ ap (λ (z : Standing). record z { step = step }) c.requires.walk in
+    let at : c.back_to.new.self ≡ node_at_step s node step = c.back_to.ensures ∙ ap (λ (z : NodeAtStep). record z { step = step }) c.requires.walk in
     let there : record_of c.node.result.now ≡ node_after s node.number step =
     stands_so s node c.back_to.new.self step c.step-reached.result (record_of c.node.result.now) at c.step-reached.ensures.value c.step-reached.ensures.within c.node.ensures in
     c.meets_test.ensures
-    ∙ ap (λ (z : ℕ). meets_test c.args.condition (record_of c.node.result.now) z) (c.step-reached.ensures.value ∙ ap (λ (z : Standing). z.step) at)
+    ∙ ap (λ (z : ℕ). meets_test c.args.condition (record_of c.node.result.now) z) (c.step-reached.ensures.value ∙ ap (λ (z : NodeAtStep). z.step) at)
     ∙ ap (λ (z : NodeRecord). meets_test c.args.condition z step) there

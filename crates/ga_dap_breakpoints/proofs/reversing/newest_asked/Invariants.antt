@@ -1,12 +1,12 @@
 use Rattle.std.proofs.Common.{◌≡◌, ◌≤◌, Some}
-use Rattle.ga_lab.specs.Machine.{standing}
+use Rattle.ga_lab.specs.Machine.{node_at_step}
 use Rattle.ga_dap_breakpoints.specs.declared.condition.HitCount.{HitCount}
 use Rattle.ga_dap_breakpoints.specs.Reversing.{hits_among, newest_asked}
 use Rattle.ga_dap_breakpoints.proofs.reversing.newest_asked.Given as goal
 
 abbrev pub invariant-going : goal.invariant-going
 invariant-going l = record {
-  walk : l.walk ≡ standing l.lab l.node l.walk.step;
+  walk : l.walk ≡ node_at_step l.lab l.node l.walk.step;
   order : l.step ≤ l.walk.step;
   within : l.step ≤ l.among;
   counted : (hits : HitCount) → l.one.hits ≡ Some hits → l.number ≡ hits_among l.lab l.node l.one l.step;

@@ -1,7 +1,7 @@
 use Rattle.std.proofs.Common.{◌∙◌, List, map, refl, ap}
 use Rattle.serde_json.specs.View.{view}
 use Rattle.ga_dap_queries.specs.Sending.{answered}
-use Rattle.ga_dap_control.specs.declared.configuration.SetBy.{SetBy}
+use Rattle.ga_dap_control.specs.declared.configuration.PlacedBreakpoint.{PlacedBreakpoint}
 use Rattle.ga_dap_control.proofs.breakpoints.set_placing.Goals as goal
 
 pub returns-clause-sent : goal.returns-clause-sent
@@ -10,7 +10,7 @@ returns-clause-sent c = (
   ap (answered c.args.request.now) c.in_ok-body.ensures,
   record {
     placed = refl;
-    points = c.in_ok-points.ensures ∙ ap (λ (z : List SetBy). map (λ (one : SetBy). one.breakpoint) z) c.as_slice.ensures.value;
+    points = c.in_ok-points.ensures ∙ ap (λ (z : List PlacedBreakpoint). map (λ (one : PlacedBreakpoint). one.breakpoint) z) c.as_slice.ensures.value;
     next = refl;
     others = refl;
   },

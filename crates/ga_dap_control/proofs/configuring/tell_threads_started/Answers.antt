@@ -7,10 +7,10 @@ use Rattle.ga_dap_control.proofs.Answered.{changed_alike}
 use Rattle.ga_dap_control.proofs.configuring.tell_threads_started.Goals as goal
 
 pub returns : goal.returns
-returns c = ok_then c.tell_changed.result c.tell_changed.ensures
+returns c = ok_then c.emit_thread_changes.result c.emit_thread_changes.ensures
     (λ sent. (
       c.acknowledge.new.self,
       c.in_ok-acknowledge.ensures.sent,
-      subst (λ (z : Messages). SendsAll c.acknowledge.new.self z c.tell_changed.new.out)
+      subst (λ (z : Messages). SendsAll c.acknowledge.new.self z c.emit_thread_changes.new.out)
           (changed_alike (is_marked (replicate 144 false)) (λ n. false) (is_marked c.args.now.now) (none_marked 144) 144) sent,
     ))

@@ -8,11 +8,11 @@ pub returns : goal.returns
 returns c =
     let r : Running = running c.args.program.now.lab c.args.execution.now.schedule in
     let counted = c.halts-halts.ensures.hits ∙ c.tally_begun-tally.ensures in (
-      c.go_on-went.ensures.state,
-      c.go_on-went.ensures.most,
-      hits_so None _ _ _ _ r c.go_on-went.result.events c.go_on-went.result.tally c.halts-halts.ensures.points counted c.go_on-went.ensures.hits,
-      gone_by _ _ _ _ _ _ r slice_limit c.go_on-went.result.events c.go_on-went.result.halt c.halts-halts.ensures.points counted c.halts-halts.ensures.stops
-          c.go_on-went.ensures.end,
+      c.continue_run-went.ensures.state,
+      c.continue_run-went.ensures.most,
+      hits_so None _ _ _ _ r c.continue_run-went.result.events c.continue_run-went.result.tally c.halts-halts.ensures.points counted c.continue_run-went.ensures.hits,
+      gone_by _ _ _ _ _ _ r slice_limit c.continue_run-went.result.events c.continue_run-went.result.halt c.halts-halts.ensures.points counted c.halts-halts.ensures.stops
+          c.continue_run-went.ensures.end,
       refl,
       refl,
     )

@@ -5,4 +5,4 @@ use Rattle.ga_dap_control.specs.Slices.{MarksStuck}
 use Rattle.ga_dap_control.proofs.execution.stuck_of.Goals as goal
 
 pub returns : goal.returns
-returns c = subst (λ (z : List NodeRecord). MarksStuck z (is_marked c.find_stuck.result)) c.chip.ensures.value (c.find_stuck.ensures.stuck, c.find_stuck.ensures.greatest)
+returns c = subst (λ (z : List NodeRecord). MarksStuck z (is_marked c.find_deadlocked.result)) c.chip.ensures.value (c.find_deadlocked.ensures.stuck, c.find_deadlocked.ensures.greatest)

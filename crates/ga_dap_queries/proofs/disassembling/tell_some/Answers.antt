@@ -1,6 +1,6 @@
 use Rattle.std.proofs.Common.{◌≡◌, ◌∙◌, ℕ, ap}
 use Rattle.serde_json.specs.View.{view}
-use Rattle.ga_debug_info.specs.declared.notes.Notes.{Notes}
+use Rattle.ga_debug_info.specs.declared.notes.DebugInfo.{DebugInfo}
 use Rattle.ga_dap_views.specs.Disassembly.{disassembled}
 use Rattle.ga_dap_queries.specs.Disassembling.{first_told, program_notes}
 use Rattle.ga_dap_queries.specs.Sending.{answered}
@@ -12,7 +12,7 @@ returns-clause-sent c =
     let e : view c.in_ok-body.body ≡ disassembled c.file.result (program_notes c.args.program.now) c.args.program.now.lab c.args.at.0
     (first_told (view c.args.request.now.arguments) c.args.at.1) c.args.count =
     c.in_ok-body.ensures
-    ∙ ap (λ (z : Notes). disassembled c.file.result z c.args.program.now.lab c.args.at.0 c.first_told-first.result c.args.count) c.notes-notes.ensures
+    ∙ ap (λ (z : DebugInfo). disassembled c.file.result z c.args.program.now.lab c.args.at.0 c.first_told-first.result c.args.count) c.notes-notes.ensures
     ∙ ap (λ (z : ℕ). disassembled c.file.result (program_notes c.args.program.now) c.args.program.now.lab c.args.at.0 z c.args.count) c.first_told-first.ensures.value in
     ok_then c.respond.result c.respond.ensures.sent
     (λ sent. (answered c.args.request.now (view c.in_ok-body.body), (c.file.result, (c.file.ensures.name, c.file.ensures.path), ap (answered c.args.request.now) e), sent))

@@ -18,8 +18,8 @@ returns-in_ok-body-in-Some-clause-sent c = ok_then c.respond.result c.respond.en
         Some c.in-Some.node,
         c.in-Some.ensures,
         (
-          c.is_stuck-stuck.result,
-          subst (λ (z : List NodeRecord). TellsStuck z c.in-Some.node.number c.is_stuck-stuck.result) c.chip.ensures.value c.is_stuck-stuck.ensures,
+          c.is_deadlocked-stuck.result,
+          subst (λ (z : List NodeRecord). TellsStuck z c.in-Some.node.number c.is_deadlocked-stuck.result) c.chip.ensures.value c.is_deadlocked-stuck.ensures,
           ap (answered c.args.request.now) c.in_ok-body-in-Some.ensures,
         ),
       ),

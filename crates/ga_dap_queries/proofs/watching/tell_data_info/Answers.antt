@@ -11,9 +11,9 @@ returns-clause-sent c = ok_then c.respond.result c.respond.ensures.sent
     (λ sent. (
       answered c.args.request.now (view c.in_ok-body.body),
       (
-        c.scope_asked-at.result,
-        c.scope_asked-at.ensures,
-        ap (answered c.args.request.now) (c.in_ok-body.ensures ∙ ap (λ (z : Option Text). watched_of_scope c.scope_asked-at.result z) c.text_at.ensures),
+        c.scope_argument-at.result,
+        c.scope_argument-at.ensures,
+        ap (answered c.args.request.now) (c.in_ok-body.ensures ∙ ap (λ (z : Option Text). watched_of_scope c.scope_argument-at.result z) c.text_at.ensures),
       ),
       sent,
     ))

@@ -1,8 +1,8 @@
 use Rattle.std.proofs.Common.{◌-◌, ◌++◌, ℕ, List, [], ◌∷◌, length, map, Option, sym, ap, ◌∙◌, append-nil, arith}
-use Rattle.ga_lab.specs.Machine.{Standing}
-use Rattle.ga_provenance.proofs.Made.{stands_so}
+use Rattle.ga_lab.specs.Machine.{NodeAtStep}
+use Rattle.ga_provenance.proofs.Made.{has_step_so}
 use Rattle.ga_dap_views.specs.declared.calls.OpenCall.{OpenCall}
-use Rattle.ga_dap_views.specs.declared.spots.Spot.{Spot}
+use Rattle.ga_dap_views.specs.declared.spots.SlotAddress.{SlotAddress}
 use Rattle.ga_dap_views.specs.Calls.{open_call}
 use Rattle.ga_dap_views.proofs.Windows.{put_none, put_one}
 use Rattle.ga_dap_views.proofs.calls.add_call.Goals as goal
@@ -19,16 +19,16 @@ returns-then-not-puts_call-clause-len c = omega (arith, ap length (put_none c.ar
 pub returns-clause-calls : goal.returns-clause-calls
 returns-clause-calls c =
     let items = c.args.calls.now.items in
-    let one : Option Spot → OpenCall = λ at. record { step = c.args.step; at = at } in
+    let one : Option SlotAddress → OpenCall = λ at. record { step = c.args.step; at = at } in
     c.push.ensures.items
-    ∙ ap (λ (z : Option Spot). items ++ one z ∷ []) c.spot_back-at.ensures.spot
+    ∙ ap (λ (z : Option SlotAddress). items ++ one z ∷ []) c.slot_address_at-at.ensures.spot
     ∙ sym (ap (λ (z : List ℕ). items ++ map (open_call c.args.lab.now c.args.node) z) (put_one c.args.shift c.args.window.place c.args.step (sym c.puts_call.ensures ∙ c.if-not-puts_call.false)))
 
 pub returns-clause-len : goal.returns-clause-len
 returns-clause-len c = omega (arith, c.push.ensures.len, ap length (put_one c.args.shift c.args.window.place 0 (sym c.puts_call.ensures ∙ c.if-not-puts_call.false)))
 
 pub returns-clause-walk : goal.returns-clause-walk
-returns-clause-walk c = stands_so c.args.lab.now c.args.node (c.args.step - 1) c.spot_back-at.new.walk c.spot_back-at.ensures.walk
+returns-clause-walk c = has_step_so c.args.lab.now c.args.node (c.args.step - 1) c.slot_address_at-at.new.walk c.slot_address_at-at.ensures.walk
 
 pub returns-clause-order : goal.returns-clause-order
-returns-clause-order c = let at = ap (λ (z : Standing). z.step) c.spot_back-at.ensures.walk in omega (arith, at)
+returns-clause-order c = let at = ap (λ (z : NodeAtStep). z.step) c.slot_address_at-at.ensures.walk in omega (arith, at)

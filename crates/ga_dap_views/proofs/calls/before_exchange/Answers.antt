@@ -1,5 +1,5 @@
 use Rattle.std.proofs.Common.{◌-◌, refl, arith}
-use Rattle.ga_dap_views.specs.declared.calls.Shift.TheVariants as shift
+use Rattle.ga_dap_views.specs.declared.calls.ReturnStackEffect.TheVariants as shift
 use Rattle.ga_dap_views.proofs.Windows.{first_new, all_before, kept_below}
 use Rattle.ga_dap_views.proofs.calls.before_exchange.Goals as goal
 

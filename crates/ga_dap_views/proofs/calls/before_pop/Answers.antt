@@ -1,5 +1,5 @@
 use Rattle.std.proofs.Common.{◌+◌, ◌-◌, refl, arith}
-use Rattle.ga_dap_views.specs.declared.calls.Shift.TheVariants as shift
+use Rattle.ga_dap_views.specs.declared.calls.ReturnStackEffect.TheVariants as shift
 use Rattle.ga_dap_views.proofs.Windows.{all_before, last_copy, popped_up}
 use Rattle.ga_dap_views.proofs.calls.before_pop.Goals as goal
 

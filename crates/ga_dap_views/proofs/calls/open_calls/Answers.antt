@@ -11,8 +11,8 @@ going-preserved c =
       order = c.add_call.ensures.order;
       within = c.window_before-window.ensures.within;
       room = omega (arith, c.going.invariant.room, c.window_before-window.ensures.room, c.add_call.ensures.len);
-      same = call_on c.args.lab.now c.args.node c.going.step c.shift_by-shift.result window c.window_before-window.result (open_calls c.args.lab.now c.args.node)
-          c.going.calls.items c.add_call.new.calls.items (omega arith) c.shift_by-shift.ensures.shift c.window_before-window.ensures.before c.going.invariant.same c.add_call.ensures.calls;
+      same = call_on c.args.lab.now c.args.node c.going.step c.return_stack_effect-shift.result window c.window_before-window.result (open_calls c.args.lab.now c.args.node)
+          c.going.calls.items c.add_call.new.calls.items (omega arith) c.return_stack_effect-shift.ensures.shift c.window_before-window.ensures.before c.going.invariant.same c.add_call.ensures.calls;
     }
 
 pub returns-then-window-eq0 : goal.returns-then-window-eq0

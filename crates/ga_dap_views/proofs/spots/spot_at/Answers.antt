@@ -4,7 +4,7 @@ use Rattle.ga_node.specs.Record.{record_of}
 use Rattle.ga_provenance.specs.Origins.{node_after}
 use Rattle.ga_provenance.specs.Fetched.{fetched_cell}
 use Rattle.ga_provenance.proofs.Made.{then_of}
-use Rattle.ga_dap_views.specs.Spots.{spot}
+use Rattle.ga_dap_views.specs.Spots.{slot_address}
 use Rattle.ga_dap_views.proofs.Standings.{due_so, running_so}
 use Rattle.ga_dap_views.proofs.spots.spot_at.Goals as goal
 
@@ -24,7 +24,7 @@ returns-in-Some c =
     let node = c.args.node in
     let walk = c.args.walk.now in
     let there = then_of s node walk (record_of c.node.result.now) c.requires (omega (arith, c.step-step.ensures.value, c.step-step.ensures.within)) c.node.ensures in
-    ap (option_map (spot c.slot_and_p-slot.result.0)) (c.in-Some.ensures ∙ ap (fetched_cell s node) c.step-step.ensures.value)
+    ap (option_map (slot_address c.slot_and_p-slot.result.0)) (c.in-Some.ensures ∙ ap (fetched_cell s node) c.step-step.ensures.value)
     ∙ running_so (record_of c.node.result.now) (node_after s node.number walk.step) c.slot_and_p-slot.result.0 (fetched_cell s node walk.step) there c.slot_and_p-slot.ensures.slot c.if-slot-eq4.false
 
 pub returns-in-None : goal.returns-in-None
@@ -33,5 +33,5 @@ returns-in-None c =
     let node = c.args.node in
     let walk = c.args.walk.now in
     let there = then_of s node walk (record_of c.node.result.now) c.requires (omega (arith, c.step-step.ensures.value, c.step-step.ensures.within)) c.node.ensures in
-    ap (option_map (spot c.slot_and_p-slot.result.0)) (c.in-None.ensures ∙ ap (fetched_cell s node) c.step-step.ensures.value)
+    ap (option_map (slot_address c.slot_and_p-slot.result.0)) (c.in-None.ensures ∙ ap (fetched_cell s node) c.step-step.ensures.value)
     ∙ running_so (record_of c.node.result.now) (node_after s node.number walk.step) c.slot_and_p-slot.result.0 (fetched_cell s node walk.step) there c.slot_and_p-slot.ensures.slot c.if-slot-eq4.false

@@ -1,7 +1,7 @@
 use Rattle.std.proofs.Common.{ℕ, List, ◌∙◌, ◌++◌, ap, arith, refl}
 use Rattle.std.specs.Prelude.{slice_index}
 use Rattle.ga_debug_info.specs.inner.{shown_byte}
-use Rattle.ga_text.proofs.SaidLemmas.{listed_none, listed_more, listed_all}
+use Rattle.ga_text.proofs.WriteLemmas.{listed_none, listed_more, listed_all}
 use Rattle.ga_debug_info.proofs.faults.push_shown.Goals as goal
 
 pub loop-byte-init : goal.loop-byte-init

@@ -1,6 +1,6 @@
 use Rattle.std.proofs.Common.{List, subst}
 use Rattle.ga_parser.specs.declared.scan.Token.{Token}
-use Rattle.ga_source.specs.Mending.{with_numbers, IsAssembledOf}
+use Rattle.ga_source.specs.Recovery.{with_numbers, IsAssembledOf}
 use Rattle.ga_debug_info.proofs.wording.slot_words.Goals as goal
 
 pub returns : goal.returns

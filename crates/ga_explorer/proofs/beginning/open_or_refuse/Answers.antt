@@ -1,6 +1,6 @@
 use Rattle.std.proofs.Common.{[], Some, refl, sym, ap, ◌∙◌}
 use Rattle.std.proofs.lemmas.List.{append-nil}
-use Rattle.ga_explorer.specs.declared.opening.Unopened.TheVariants.{Image, Source}
+use Rattle.ga_explorer.specs.declared.opening.OpenError.TheVariants.{Image, Source}
 use Rattle.ga_explorer.proofs.beginning.open_or_refuse.Goals as goal
 
 pub returns-in-Ok : goal.returns-in-Ok

@@ -1,18 +1,18 @@
 use Rattle.std.proofs.Common.{rules, ◌++◌}
-use Rattle.ga_text.proofs.SaidLemmas.{cut_here}
+use Rattle.ga_text.proofs.WriteLemmas.{truncated_here}
 use Rattle.ga_explorer.proofs.LineAnswers.{other_turn, unread_line, unread_err}
 use Rattle.ga_explorer.proofs.explorer.answer_other.Goals as goal
 
-pub returns-in_err-say_no_command : goal.returns-in_err-say_no_command
-returns-in_err-say_no_command g c = (
+pub returns-in_err-write_syntax_error : goal.returns-in_err-write_syntax_error
+returns-in_err-write_syntax_error g c = (
   search rules,
   λ before said h.
       let line = c.args.line.now in
-      let done = c.in_err-say_no_command.ensures.1 before said h in
+      let done = c.in_err-write_syntax_error.ensures.1 before said h in
       let is = c.is_no_command.ensures.none c.if-is_no_command.true in (
         done.0,
         unread_err c.args.lab.now line c.from_residual.result done.0 c.from_residual.ensures.0 (unread_line c.args.lab.now line done.0 is.0 is.1 done.1),
-        cut_here c.from_residual.result _ before (said ++ done.0) _ c.from_residual.ensures.0 done.2,
+        truncated_here c.from_residual.result _ before (said ++ done.0) _ c.from_residual.ensures.0 done.2,
       ),
 )
 
@@ -21,7 +21,7 @@ returns-then-is_no_command g c = (
   search rules,
   λ before said h.
       let line = c.args.line.now in
-      let done = c.in_ok-say_no_command.ensures.1 before said h in
+      let done = c.in_ok-write_syntax_error.ensures.1 before said h in
       let is = c.is_no_command.ensures.none c.if-is_no_command.true in (
         done.0,
         unread_line c.args.lab.now line done.0 is.0 is.1 done.1,

@@ -1,8 +1,8 @@
 use Rattle.std.proofs.Common.{rules, ◌++◌, refl}
-use Rattle.ga_text.proofs.SaidLemmas.{cut_here, cut_within}
+use Rattle.ga_text.proofs.WriteLemmas.{truncated_here, truncated_within}
 use Rattle.ga_explorer.specs.Forms.{form_row_text, about_text}
 use Rattle.ga_explorer.specs.inner.{entry_of}
-use Rattle.ga_explorer_text.proofs.Saying.{joined_said}
+use Rattle.ga_explorer_text.proofs.Saying.{joined_written}
 use Rattle.ga_explorer.proofs.forms.say_about.Goals as goal
 
 pub returns-in_err-say_row : goal.returns-in_err-say_row
@@ -11,8 +11,8 @@ returns-in_err-say_row g c = (
   λ before said h.
       let row = c.args.row.now in
       let whole = about_text (entry_of row) in
-      cut_here c.from_residual.result _ before (said ++ whole) _ c.from_residual.ensures.0
-      (cut_within _ before said (form_row_text (entry_of row)) row.more.now whole refl (c.in_err-say_row.ensures.1 before said h)),
+      truncated_here c.from_residual.result _ before (said ++ whole) _ c.from_residual.ensures.0
+      (truncated_within _ before said (form_row_text (entry_of row)) row.more.now whole refl (c.in_err-say_row.ensures.1 before said h)),
 )
 
 pub returns : goal.returns
@@ -20,6 +20,6 @@ returns g c = (
   search rules,
   λ before said h.
       let row = c.args.row.now in
-      joined_said c.say_blocks.result _ before said (form_row_text (entry_of row)) row.more.now _
-      (c.say_blocks.ensures.1 before (said ++ form_row_text (entry_of row)) (c.in_ok-say_row.ensures.1 before said h)),
+      joined_written c.write_blocks.result _ before said (form_row_text (entry_of row)) row.more.now _
+      (c.write_blocks.ensures.1 before (said ++ form_row_text (entry_of row)) (c.in_ok-say_row.ensures.1 before said h)),
 )

@@ -1,11 +1,11 @@
 use Rattle.std.proofs.Common.{rules, ◌≡◌, ◌∙◌, [], List, Some, None, refl, sym, ap}
 use Rattle.std.specs.Prelude.{option_map, slice_get}
 use Rattle.std.proofs.lemmas.Option.{slice_get-map}
-use Rattle.ga_text.proofs.SaidLemmas.{said_as, said_pending}
+use Rattle.ga_text.proofs.WriteLemmas.{written_as, written_pending}
 use Rattle.ga_explorer.specs.Forms.{CommandForm, about_text, about_found}
-use Rattle.ga_explorer.specs.Commands.{rows, command_text}
+use Rattle.ga_explorer.specs.Commands.{command_table, command_text}
 use Rattle.ga_explorer.specs.inner.{entry_of}
-use Rattle.ga_explorer_text.proofs.Saying.{told_as}
+use Rattle.ga_explorer_text.proofs.Saying.{text_as}
 use Rattle.ga_explorer.proofs.forms.say_command.Goals as goal
 
 pub returns-in-Some : goal.returns-in-Some
@@ -13,12 +13,12 @@ returns-in-Some g c = (
   search rules,
   λ before said h.
       let row = c.in-Some.row.now in
-      let found : Some row ≡ slice_get c.rows.result.now c.args.place = c.in-Some.ensures in
-      let entry : Some (entry_of row) ≡ slice_get rows c.args.place =
-      ap (option_map entry_of) found ∙ sym (slice_get-map entry_of c.rows.result.now c.args.place) ∙ ap (λ (z : List CommandForm). slice_get z c.args.place) c.rows.ensures in (
+      let found : Some row ≡ slice_get c.command_table.result.now c.args.place = c.in-Some.ensures in
+      let entry : Some (entry_of row) ≡ slice_get command_table c.args.place =
+      ap (option_map entry_of) found ∙ sym (slice_get-map entry_of c.command_table.result.now c.args.place) ∙ ap (λ (z : List CommandForm). slice_get z c.args.place) c.command_table.ensures in (
         command_text c.args.place,
         refl,
-        told_as c.say_about.result _ before said (about_text (entry_of row)) (command_text c.args.place) _ (ap about_found entry) (c.say_about.ensures.1 before said h),
+        text_as c.say_about.result _ before said (about_text (entry_of row)) (command_text c.args.place) _ (ap about_found entry) (c.say_about.ensures.1 before said h),
       ),
 )
 
@@ -26,11 +26,11 @@ pub returns-in-None : goal.returns-in-None
 returns-in-None g c = (
   search rules,
   λ before said h.
-      let found : None ≡ slice_get c.rows.result.now c.args.place = c.in-None.ensures in
-      let entry : None ≡ slice_get rows c.args.place =
-      ap (option_map entry_of) found ∙ sym (slice_get-map entry_of c.rows.result.now c.args.place) ∙ ap (λ (z : List CommandForm). slice_get z c.args.place) c.rows.ensures in (
+      let found : None ≡ slice_get c.command_table.result.now c.args.place = c.in-None.ensures in
+      let entry : None ≡ slice_get command_table c.args.place =
+      ap (option_map entry_of) found ∙ sym (slice_get-map entry_of c.command_table.result.now c.args.place) ∙ ap (λ (z : List CommandForm). slice_get z c.args.place) c.command_table.ensures in (
         command_text c.args.place,
         refl,
-        said_as _ before said [] (command_text c.args.place) _ (ap about_found entry) (said_pending _ before said _ h),
+        written_as _ before said [] (command_text c.args.place) _ (ap about_found entry) (written_pending _ before said _ h),
       ),
 )

@@ -7,5 +7,5 @@ returns g c = (
   search rules,
   λ before said h.
       let done = c.say_rows.ensures.1 before said h in
-      (done.0, done.1 ∙ ap form_rows_text c.rows.ensures, done.2),
+      (done.0, done.1 ∙ ap form_rows_text c.command_table.ensures, done.2),
 )

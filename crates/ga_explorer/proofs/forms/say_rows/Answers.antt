@@ -1,14 +1,14 @@
 use Rattle.std.proofs.Common.{rules, ℕ, List, ◌++◌, [], refl, arith}
 use Rattle.std.specs.Prelude.{map}
-use Rattle.ga_text.proofs.SaidLemmas.{cut_here, said_pending}
+use Rattle.ga_text.proofs.WriteLemmas.{truncated_here, written_pending}
 use Rattle.ga_explorer.specs.Forms.{form_rows_text}
 use Rattle.ga_explorer.specs.inner.{entry_of}
 use Rattle.ga_explorer.proofs.Finding.{next_row, no_row}
-use Rattle.ga_explorer_text.proofs.Saying.{line_said, line_cut, all_said}
+use Rattle.ga_explorer_text.proofs.Saying.{line_written, line_truncated, all_said}
 use Rattle.ga_explorer.proofs.forms.say_rows.Goals as goal
 
 pub rows-init : goal.rows-init
-rows-init g c = (search rules, λ before said h. record { front = []; splits = refl; is_said = said_pending _ before said _ h })
+rows-init g c = (search rules, λ before said h. record { front = []; splits = refl; is_said = written_pending _ before said _ h })
 
 pub returns-in_err-say_row : goal.returns-in_err-say_row
 returns-in_err-say_row g c = (
@@ -19,8 +19,8 @@ returns-in_err-say_row g c = (
       let done = c.rows.invariant.1 before said h in (
         whole,
         refl,
-        cut_here c.from_residual.result _ before (said ++ whole) _ c.from_residual.ensures.0
-            (line_cut _ before said whole _ _ _ done.front
+        truncated_here c.from_residual.result _ before (said ++ whole) _ c.from_residual.ensures.0
+            (line_truncated _ before said whole _ _ _ done.front
             (next_row rows c.rows.row-index _ (omega arith)) done.splits
             (c.in_err-say_row.ensures.1 before (said ++ done.front) done.is_said)),
       ),
@@ -32,7 +32,7 @@ rows-preserved g c = (
   λ before said h.
       let rows = c.args.rows.now in
       let done = c.rows.invariant.1 before said h in
-      line_said _ before said (form_rows_text (map entry_of rows)) _ _ _ done.front _
+      line_written _ before said (form_rows_text (map entry_of rows)) _ _ _ done.front _
       (next_row rows c.rows.row-index _ (omega arith)) done.splits
       (c.in_ok-say_row.ensures.1 before (said ++ done.front) done.is_said),
 )

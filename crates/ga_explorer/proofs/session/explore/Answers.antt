@@ -2,10 +2,10 @@ use Rattle.std.proofs.Common.{rules, ℕ, ◌-◌, List, ◌++◌, refl, Some, s
 use Rattle.std.proofs.lemmas.List.{append-nil}
 use Rattle.ga_text.specs.Output.{ready}
 use Rattle.ga_console.specs.Session.{Serves}
-use Rattle.ga_console.proofs.RunLemmas.{said_fresh}
+use Rattle.ga_console.proofs.RunLemmas.{written_fresh}
 use Rattle.ga_explorer.specs.Answers.{Explores}
 use Rattle.ga_explorer.specs.Opening.{IsFront}
-use Rattle.ga_explorer.specs.Session.RunsExploring.{served, unbegun}
+use Rattle.ga_explorer.specs.Session.RunsExplorer.{served, unbegun}
 use Rattle.ga_explorer.proofs.session.explore.Goals as goal
 
 pub returns-in-Ok : goal.returns-in-Ok
@@ -13,7 +13,7 @@ returns-in-Ok g c = λ left before known held.
     let begun = c.in-Ok.ensures.begun left before known held in
     let text : List ℕ = begun.4.1 in
     let silent = begun.3 ∙ ap Some (ap (λ (t : List ℕ). before ++ t) begun.4.0 ∙ append-nil before) in
-    let done = c.serve.ensures.serves begun.0 before ready begun.2 (said_fresh _ before ready _ (ap g.W.Write.contents c.ready-said.ensures.stream ∙ silent) c.ready-said.ensures.said) in
+    let done = c.serve.ensures.serves begun.0 before ready begun.2 (written_fresh _ before ready _ (ap g.W.Write.contents c.ready-said.ensures.stream ∙ silent) c.ready-said.ensures.said) in
     let there = done.6 in
     let P : ℕ → Type 0 = λ n. Serves Explores (16777216 - n) c.in-Ok.begun done.0 done.1 done.2 c.serve.new.session c.serve.result in (
       text ++ done.0,

@@ -1,10 +1,10 @@
 use Rattle.std.proofs.Common.{rules, ℕ, ◌+◌, List, length, ◌++◌, refl, ap, ◌∙◌}
 use Rattle.std.specs.Prelude.{flat_map}
-use Rattle.ga_text.proofs.SaidLemmas.{cut_here, cut_within}
+use Rattle.ga_text.proofs.WriteLemmas.{truncated_here, truncated_within}
 use Rattle.ga_race_detector.specs.declared.races.Race.{Race}
-use Rattle.ga_race_detector.specs.declared.readings.Reading.{Reading}
+use Rattle.ga_race_detector.specs.declared.readings.LookRace.{LookRace}
 use Rattle.ga_explorer_text.specs.Races.{race_lines_text, reading_text, last_line, listed_text}
-use Rattle.ga_explorer_text.proofs.Saying.{joined_said}
+use Rattle.ga_explorer_text.proofs.Saying.{joined_written}
 use Rattle.ga_explorer_text.proofs.races_text.say_found.Goals as goal
 
 pub returns-in_err-say_list : goal.returns-in_err-say_list
@@ -17,10 +17,10 @@ returns-in_err-say_list g c = (
       let last : List ℕ = flat_map reading_text races.readings.items ++ last_line c.args.only races.list.items races.looks races.quiet in (
         lines ++ last,
         refl,
-        cut_here c.from_residual.result _ before (said ++ (lines ++ last)) _ c.from_residual.ensures.0
-            (cut_within _ before said done.0 last (lines ++ last)
+        truncated_here c.from_residual.result _ before (said ++ (lines ++ last)) _ c.from_residual.ensures.0
+            (truncated_within _ before said done.0 last (lines ++ last)
             (ap (λ (z : List ℕ). z ++ last) (done.1 ∙ ap (λ (z : List Race). race_lines_text z (length z + length c.as_slice-readings.result.now)) c.as_slice-list.ensures.value
-            ∙ ap (λ (z : List Reading). race_lines_text races.list.items (length races.list.items + length z)) c.as_slice-readings.ensures.value)) done.2),
+            ∙ ap (λ (z : List LookRace). race_lines_text races.list.items (length races.list.items + length z)) c.as_slice-readings.ensures.value)) done.2),
       ),
 )
 
@@ -33,11 +33,11 @@ returns g c = (
       let races = c.args.races.now in (
         done.0 ++ rest.0,
         ap (λ (z : List ℕ). z ++ rest.0) (done.1 ∙ ap (λ (z : List Race). race_lines_text z (length z + length c.as_slice-readings.result.now)) c.as_slice-list.ensures.value
-            ∙ ap (λ (z : List Reading). race_lines_text races.list.items (length races.list.items + length z)) c.as_slice-readings.ensures.value)
+            ∙ ap (λ (z : List LookRace). race_lines_text races.list.items (length races.list.items + length z)) c.as_slice-readings.ensures.value)
             ∙ ap (λ (z : List ℕ). race_lines_text races.list.items (length races.list.items + length races.readings.items) ++ z)
-            (rest.1 ∙ ap (λ (z : List Reading). flat_map reading_text z ++ c.last_line-last.result.now) c.as_slice-readings.ensures.value
+            (rest.1 ∙ ap (λ (z : List LookRace). flat_map reading_text z ++ c.last_line-last.result.now) c.as_slice-readings.ensures.value
             ∙ ap (λ (z : List ℕ). flat_map reading_text races.readings.items ++ z)
             (c.last_line-last.ensures ∙ ap (λ (z : List Race). last_line c.args.only z races.looks races.quiet) c.as_slice-list.ensures.value)),
-        joined_said c.say_rest.result _ before said done.0 rest.0 _ rest.2,
+        joined_written c.say_rest.result _ before said done.0 rest.0 _ rest.2,
       ),
 )

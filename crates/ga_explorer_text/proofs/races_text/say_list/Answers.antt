@@ -1,21 +1,21 @@
 use Rattle.std.proofs.Common.{rules, ℕ, List, ◌++◌, refl, ap, ◌∙◌, arith}
 use Rattle.std.specs.Prelude.{flat_map}
-use Rattle.ga_text.proofs.SaidLemmas.{cut_here, cut_within}
+use Rattle.ga_text.proofs.WriteLemmas.{truncated_here, truncated_within}
 use Rattle.ga_explorer_text.specs.Races.{race_text, race_lines_text}
-use Rattle.ga_explorer_text.proofs.Saying.{line_said, line_cut, all_said, rest_lines, no_lines}
+use Rattle.ga_explorer_text.proofs.Saying.{line_written, line_truncated, all_said, rest_lines, no_lines}
 use Rattle.ga_explorer_text.proofs.races_text.say_list.Goals as goal
 
-pub returns-in_err-say_blocks : goal.returns-in_err-say_blocks
-returns-in_err-say_blocks g c = (
+pub returns-in_err-write_blocks : goal.returns-in_err-write_blocks
+returns-in_err-write_blocks g c = (
   search rules,
   λ before said h.
       let races = c.args.races.now in
       let whole : List ℕ = race_lines_text races c.args.count in (
         whole,
         refl,
-        cut_here c.from_residual.result _ before (said ++ whole) _ c.from_residual.ensures.0
-            (cut_within _ before said c.as_slice.result.now (flat_map race_text races) whole
-            (ap (λ (z : List ℕ). z ++ flat_map race_text races) (c.as_slice.ensures.value ∙ c.head_line.ensures)) (c.in_err-say_blocks.ensures.1 before said h)),
+        truncated_here c.from_residual.result _ before (said ++ whole) _ c.from_residual.ensures.0
+            (truncated_within _ before said c.as_slice.result.now (flat_map race_text races) whole
+            (ap (λ (z : List ℕ). z ++ flat_map race_text races) (c.as_slice.ensures.value ∙ c.head_line.ensures)) (c.in_err-write_blocks.ensures.1 before said h)),
       ),
 )
 
@@ -26,7 +26,7 @@ races-init g c = (
       let races = c.args.races.now in record {
         front = c.as_slice.result.now;
         splits = ap (λ (z : List ℕ). z ++ flat_map race_text races) (c.as_slice.ensures.value ∙ c.head_line.ensures);
-        is_said = c.in_ok-say_blocks.ensures.1 before said h;
+        is_said = c.in_ok-write_blocks.ensures.1 before said h;
       },
 )
 
@@ -42,8 +42,8 @@ returns-in_err-say_race g c = (
       let more = rest_lines race_text races i c.race-item.result text (omega arith) (ap race_text c.race-item.is) in (
         whole,
         refl,
-        cut_here c.from_residual-in_err-say_race.result _ before (said ++ whole) _ c.from_residual-in_err-say_race.ensures.0
-            (line_cut _ before said whole _ text _ done.front more done.splits (c.in_err-say_race.ensures.1 before (said ++ done.front) done.is_said)),
+        truncated_here c.from_residual-in_err-say_race.result _ before (said ++ whole) _ c.from_residual-in_err-say_race.ensures.0
+            (line_truncated _ before said whole _ text _ done.front more done.splits (c.in_err-say_race.ensures.1 before (said ++ done.front) done.is_said)),
       ),
 )
 
@@ -56,7 +56,7 @@ races-preserved g c = (
       let done = c.races.invariant.1 before said h in
       let text = race_text c.race-item.result in
       let more = rest_lines race_text races i c.race-item.result text (omega arith) (ap race_text c.race-item.is) in
-      line_said _ before said (race_lines_text races c.args.count) _ text _ done.front _ more done.splits
+      line_written _ before said (race_lines_text races c.args.count) _ text _ done.front _ more done.splits
       (c.in_ok-say_race.ensures.1 before (said ++ done.front) done.is_said),
 )
 

@@ -1,12 +1,12 @@
 use Rattle.std.proofs.Common.{rules, ℕ, List, [], ◌++◌, refl, ap, sym, ◌∙◌, arith}
 use Rattle.std.specs.Prelude.{flat_map}
-use Rattle.ga_text.proofs.SaidLemmas.{cut_here, cut_within, said_pending}
+use Rattle.ga_text.proofs.WriteLemmas.{truncated_here, truncated_within, written_pending}
 use Rattle.ga_explorer_text.specs.Races.{reading_text}
-use Rattle.ga_explorer_text.proofs.Saying.{line_said, line_cut, all_said, rest_lines, no_lines, joined_said}
+use Rattle.ga_explorer_text.proofs.Saying.{line_written, line_truncated, all_said, rest_lines, no_lines, joined_written}
 use Rattle.ga_explorer_text.proofs.races_text.say_rest.Goals as goal
 
 pub readings-init : goal.readings-init
-readings-init g c = (search rules, λ before said h. record { front = []; splits = refl; is_said = said_pending _ before said _ h })
+readings-init g c = (search rules, λ before said h. record { front = []; splits = refl; is_said = written_pending _ before said _ h })
 
 pub returns-in_err-say_reading : goal.returns-in_err-say_reading
 returns-in_err-say_reading g c = (
@@ -21,9 +21,9 @@ returns-in_err-say_reading g c = (
       let more = rest_lines reading_text readings i c.reading-item.result text (omega arith) (ap reading_text c.reading-item.is) in (
         whole,
         refl,
-        cut_here c.from_residual.result _ before (said ++ whole) _ c.from_residual.ensures.0
-            (cut_within _ before said lines c.args.last.now whole refl
-            (line_cut _ before said lines _ text _ done.front more done.splits (c.in_err-say_reading.ensures.1 before (said ++ done.front) done.is_said))),
+        truncated_here c.from_residual.result _ before (said ++ whole) _ c.from_residual.ensures.0
+            (truncated_within _ before said lines c.args.last.now whole refl
+            (line_truncated _ before said lines _ text _ done.front more done.splits (c.in_err-say_reading.ensures.1 before (said ++ done.front) done.is_said))),
       ),
 )
 
@@ -36,7 +36,7 @@ readings-preserved g c = (
       let done = c.readings.invariant.1 before said h in
       let text = reading_text c.reading-item.result in
       let more = rest_lines reading_text readings i c.reading-item.result text (omega arith) (ap reading_text c.reading-item.is) in
-      line_said _ before said (flat_map reading_text readings) _ text _ done.front _ more done.splits
+      line_written _ before said (flat_map reading_text readings) _ text _ done.front _ more done.splits
       (c.in_ok-say_reading.ensures.1 before (said ++ done.front) done.is_said),
 )
 
@@ -48,7 +48,7 @@ returns g c = (
       let lines : List ℕ = flat_map reading_text readings in (
         lines ++ c.args.last.now,
         refl,
-        joined_said c.say_blocks.result _ before said lines c.args.last.now _
-            (c.say_blocks.ensures.1 before (said ++ lines) (all_said _ before said lines _ _ (no_lines reading_text readings c.readings.reading-index (omega arith)) (c.readings.invariant.1 before said h))),
+        joined_written c.write_blocks.result _ before said lines c.args.last.now _
+            (c.write_blocks.ensures.1 before (said ++ lines) (all_said _ before said lines _ _ (no_lines reading_text readings c.readings.reading-index (omega arith)) (c.readings.invariant.1 before said h))),
       ),
 )

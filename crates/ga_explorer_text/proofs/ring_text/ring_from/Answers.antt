@@ -2,7 +2,7 @@ use Rattle.std.proofs.Common.{◌≡◌, ◌-◌, ◌+◌, ◌++◌, ap, ◌∙�
 use Rattle.arrayvec.specs.ArrayVec.{array_vec_len}
 use Rattle.ga_grid.specs.Grid.{number_where_any}
 use Rattle.ga_grid.specs.Chip.{records_of}
-use Rattle.ga_explorer_text.specs.Waiting.{name_text, sole_awaited, ring_names, ring_line}
+use Rattle.ga_explorer_text.specs.Waiting.{name_text, only_awaited, ring_names, ring_line}
 use Rattle.ga_explorer_text.proofs.Rings.{closed, begun, not_closed, none_left, back, lower, goes_on}
 use Rattle.ga_explorer_text.proofs.ring_text.ring_from.Goals as goal
 
@@ -12,7 +12,7 @@ ring-init c =
     let chip = records_of c.args.chip.now in
     let first = c.args.first.number in record {
       len = omega (arith, empty, c.push_text.ensures.len, c.push_node.ensures.len);
-      text = rw (c.push_node.ensures.text, c.push_text.ensures.text, c.new-out.ensures, c.sole_awaited-next.ensures) (begun first (ring_names chip first 144 (sole_awaited chip first)));
+      text = rw (c.push_node.ensures.text, c.push_text.ensures.text, c.new-out.ensures, c.only_awaited-next.ensures) (begun first (ring_names chip first 144 (only_awaited chip first)));
     }
 
 pub returns-in_default : goal.returns-in_default
@@ -37,7 +37,7 @@ ring-preserved c =
     let was = rw (ap number_where_any c.in-Some.is) at c.ring.invariant.text in record {
       len = omega (arith, c.ring.invariant.len, c.push_text-in-ring.ensures.len, c.push_node-in-ring.ensures.len);
       text = goes_on (records_of c.args.chip.now) c.args.first.number (144 - c.ring.counter) (144 - (c.ring.counter + 1)) c.in-Some.node.number _ c.ring.out.items _ _
-          (omega arith) c.if-node-first.false (omega arith) c.sole_awaited-next-in-ring.ensures
+          (omega arith) c.if-node-first.false (omega arith) c.only_awaited-next-in-ring.ensures
           (c.push_node-in-ring.ensures.text ∙ ap (λ z. z ++ name_text c.in-Some.node.number) c.push_text-in-ring.ensures.text) was;
     }
 

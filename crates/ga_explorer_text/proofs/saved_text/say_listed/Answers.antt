@@ -1,12 +1,12 @@
 use Rattle.std.proofs.Common.{rules, ℕ, List, ◌++◌, [], refl, ap, arith}
 use Rattle.std.specs.Prelude.{flat_map}
-use Rattle.ga_text.proofs.SaidLemmas.{cut_here, said_pending}
+use Rattle.ga_text.proofs.WriteLemmas.{truncated_here, written_pending}
 use Rattle.ga_explorer_text.specs.inner.{cause_line}
-use Rattle.ga_explorer_text.proofs.Saying.{line_said, line_cut, all_said, rest_lines, no_lines}
+use Rattle.ga_explorer_text.proofs.Saying.{line_written, line_truncated, all_said, rest_lines, no_lines}
 use Rattle.ga_explorer_text.proofs.saved_text.say_listed.Goals as goal
 
 pub causes-init : goal.causes-init
-causes-init g c = (search rules, λ before said h. record { front = []; splits = refl; is_said = said_pending _ before said _ h })
+causes-init g c = (search rules, λ before said h. record { front = []; splits = refl; is_said = written_pending _ before said _ h })
 
 pub returns-in_err-say_event : goal.returns-in_err-say_event
 returns-in_err-say_event g c = (
@@ -19,8 +19,8 @@ returns-in_err-say_event g c = (
       let more = rest_lines cause_line causes c.causes.cause-index c.cause-item.result text (omega arith) (ap cause_line c.cause-item.is) in (
         whole,
         refl,
-        cut_here c.from_residual.result _ before (said ++ whole) _ c.from_residual.ensures.0
-            (line_cut _ before said whole _ text _ done.front more done.splits (c.in_err-say_event.ensures.1 before (said ++ done.front) done.is_said)),
+        truncated_here c.from_residual.result _ before (said ++ whole) _ c.from_residual.ensures.0
+            (line_truncated _ before said whole _ text _ done.front more done.splits (c.in_err-say_event.ensures.1 before (said ++ done.front) done.is_said)),
       ),
 )
 
@@ -32,7 +32,7 @@ causes-preserved g c = (
       let done = c.causes.invariant.1 before said h in
       let text = cause_line c.cause-item.result in
       let more = rest_lines cause_line causes c.causes.cause-index c.cause-item.result text (omega arith) (ap cause_line c.cause-item.is) in
-      line_said _ before said (flat_map cause_line causes) _ text _ done.front _ more done.splits
+      line_written _ before said (flat_map cause_line causes) _ text _ done.front _ more done.splits
       (c.in_ok-say_event.ensures.1 before (said ++ done.front) done.is_said),
 )
 

@@ -1,6 +1,6 @@
 use Rattle.std.proofs.Common.{rules, ap, ◌∙◌, [], refl}
 use Rattle.std.specs.Prelude.{is_some}
-use Rattle.ga_text.proofs.SaidLemmas.{said_pending}
+use Rattle.ga_text.proofs.WriteLemmas.{written_pending}
 use Rattle.ga_explorer_text.proofs.Saving.{saved_at, none_at}
 use Rattle.ga_explorer_text.proofs.saved_text.say_step.Goals as goal
 
@@ -11,9 +11,9 @@ returns-in-Some g c = (
     c.as_slice.result.now,
     c.as_slice.ensures.value ∙ c.step_line.ensures ∙ saved_at c.args.lab.now c.args.place c.in-Some.made c.actor.result (ap is_some c.chip-chip.ensures.replays)
         c.in-Some.ensures.value c.actor.ensures,
-    c.say_blocks.ensures.1 before said h,
+    c.write_blocks.ensures.1 before said h,
   ),
 )
 
 pub returns-in-None : goal.returns-in-None
-returns-in-None g c = (search rules, λ before said h. ([], none_at c.args.lab.now c.args.place (c.in-None.ensures.past.0 refl), said_pending _ before said _ h))
+returns-in-None g c = (search rules, λ before said h. ([], none_at c.args.lab.now c.args.place (c.in-None.ensures.past.0 refl), written_pending _ before said _ h))

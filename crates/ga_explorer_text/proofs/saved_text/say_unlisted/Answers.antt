@@ -1,12 +1,12 @@
 use Rattle.std.proofs.Common.{rules, ℕ, List, ◌++◌, [], refl, arith}
-use Rattle.ga_text.proofs.SaidLemmas.{cut_here, said_pending}
+use Rattle.ga_text.proofs.WriteLemmas.{truncated_here, written_pending}
 use Rattle.ga_explorer_text.specs.Saved.{saved_text}
-use Rattle.ga_explorer_text.proofs.Saying.{line_said, line_cut, all_said}
+use Rattle.ga_explorer_text.proofs.Saying.{line_written, line_truncated, all_said}
 use Rattle.ga_explorer_text.proofs.Saving.{next_saved, all_saved}
 use Rattle.ga_explorer_text.proofs.saved_text.say_unlisted.Goals as goal
 
 pub places-init : goal.places-init
-places-init g c = (search rules, λ before said h. record { front = []; splits = refl; is_said = said_pending _ before said _ h })
+places-init g c = (search rules, λ before said h. record { front = []; splits = refl; is_said = written_pending _ before said _ h })
 
 pub returns-in_err-say_step : goal.returns-in_err-say_step
 returns-in_err-say_step g c = (
@@ -18,8 +18,8 @@ returns-in_err-say_step g c = (
       let done = c.in_err-say_step.ensures.1 before (said ++ front.front) front.is_said in (
         whole,
         refl,
-        cut_here c.from_residual.result _ before (said ++ whole) _ c.from_residual.ensures.0
-            (line_cut _ before said whole _ done.0 _ front.front (next_saved s c.places.place done.0 done.1) front.splits done.2),
+        truncated_here c.from_residual.result _ before (said ++ whole) _ c.from_residual.ensures.0
+            (line_truncated _ before said whole _ done.0 _ front.front (next_saved s c.places.place done.0 done.1) front.splits done.2),
       ),
 )
 
@@ -30,7 +30,7 @@ places-preserved g c = (
       let s = c.args.lab.now in
       let front = c.places.invariant.1 before said h in
       let done = c.in_ok-say_step.ensures.1 before (said ++ front.front) front.is_said in
-      line_said _ before said (saved_text s) _ done.0 _ front.front _ (next_saved s c.places.place done.0 done.1) front.splits done.2,
+      line_written _ before said (saved_text s) _ done.0 _ front.front _ (next_saved s c.places.place done.0 done.1) front.splits done.2,
 )
 
 pub returns : goal.returns

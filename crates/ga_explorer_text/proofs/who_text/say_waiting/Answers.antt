@@ -1,13 +1,13 @@
 use Rattle.std.proofs.Common.{rules, ℕ, List, ◌++◌, [], refl, arith}
 use Rattle.ga_grid.specs.Chip.{records_of}
 use Rattle.ga_causal.specs.Dependence.{is_marked}
-use Rattle.ga_text.proofs.SaidLemmas.{cut_here, said_pending}
+use Rattle.ga_text.proofs.WriteLemmas.{truncated_here, written_pending}
 use Rattle.ga_explorer_text.specs.Waiting.{busy_text, all_waiting}
-use Rattle.ga_explorer_text.proofs.Saying.{line_said, line_cut, all_said, next_node, all_told}
+use Rattle.ga_explorer_text.proofs.Saying.{line_written, line_truncated, all_said, next_node, all_told}
 use Rattle.ga_explorer_text.proofs.who_text.say_waiting.Goals as goal
 
 pub nodes-init : goal.nodes-init
-nodes-init g c = (search rules, λ before said h. record { front = []; splits = refl; is_said = said_pending _ before said _ h })
+nodes-init g c = (search rules, λ before said h. record { front = []; splits = refl; is_said = written_pending _ before said _ h })
 
 pub returns-in_err-say_node : goal.returns-in_err-say_node
 returns-in_err-say_node g c = (
@@ -19,8 +19,8 @@ returns-in_err-say_node g c = (
       let done = c.nodes.invariant.1 before said h in (
         whole,
         refl,
-        cut_here c.from_residual.result _ before (said ++ whole) _ c.from_residual.ensures.0
-            (line_cut _ before said whole _ (busy_text chip idle c.new.result.number) _ done.front
+        truncated_here c.from_residual.result _ before (said ++ whole) _ c.from_residual.ensures.0
+            (line_truncated _ before said whole _ (busy_text chip idle c.new.result.number) _ done.front
             (next_node (busy_text chip idle) c.nodes.number c.new.result.number (omega arith) c.new.ensures) done.splits
             (c.in_err-say_node.ensures.1 before (said ++ done.front) done.is_said)),
       ),
@@ -33,7 +33,7 @@ nodes-preserved g c = (
       let chip = records_of c.args.chip.now in
       let idle = is_marked c.args.idle.now in
       let done = c.nodes.invariant.1 before said h in
-      line_said _ before said (all_waiting chip idle) _ (busy_text chip idle c.new.result.number) _ done.front _
+      line_written _ before said (all_waiting chip idle) _ (busy_text chip idle c.new.result.number) _ done.front _
       (next_node (busy_text chip idle) c.nodes.number c.new.result.number (omega arith) c.new.ensures) done.splits
       (c.in_ok-say_node.ensures.1 before (said ++ done.front) done.is_said),
 )

@@ -1,13 +1,13 @@
 use Rattle.std.proofs.Common.{rules, ◌≡◌, ℕ, List, ◌++◌, length, refl, sym, ap, ◌∙◌, arith}
 use Rattle.std.specs.Prelude.{flat_map}
-use Rattle.ga_text.proofs.SaidLemmas.{cut_here, cut_within}
+use Rattle.ga_text.proofs.WriteLemmas.{truncated_here, truncated_within}
 use Rattle.ga_scheduler.specs.Words.{words_of, words_left}
 use Rattle.ga_explorer_text.specs.Texts.{sent_text, words_head, linked_text}
-use Rattle.ga_explorer_text.proofs.Saying.{line_said, line_cut, all_said, none_left}
+use Rattle.ga_explorer_text.proofs.Saying.{line_written, line_truncated, all_said, none_left}
 use Rattle.ga_explorer_text.proofs.words_text.say_linked.Goals as goal
 
-pub returns-in_err-say_blocks : goal.returns-in_err-say_blocks
-returns-in_err-say_blocks g c = (
+pub returns-in_err-write_blocks : goal.returns-in_err-write_blocks
+returns-in_err-write_blocks g c = (
   search rules,
   λ before said h.
       let s = c.args.lab.now in
@@ -15,10 +15,10 @@ returns-in_err-say_blocks g c = (
       let whole : List ℕ = linked_text s c.args.from c.args.to in (
         whole,
         refl,
-        cut_here c.from_residual.result _ before (said ++ whole) _ c.from_residual.ensures.0
-            (cut_within _ before said c.as_slice.result.now lines whole
-            (ap (λ (z : List ℕ). z ++ lines) (c.as_slice.ensures.value ∙ c.head_line.ensures ∙ ap (words_head c.args.from c.args.to) c.count_words-count.ensures))
-            (c.in_err-say_blocks.ensures.1 before said h)),
+        truncated_here c.from_residual.result _ before (said ++ whole) _ c.from_residual.ensures.0
+            (truncated_within _ before said c.as_slice.result.now lines whole
+            (ap (λ (z : List ℕ). z ++ lines) (c.as_slice.ensures.value ∙ c.head_line.ensures ∙ ap (words_head c.args.from c.args.to) c.count_transfers-count.ensures))
+            (c.in_err-write_blocks.ensures.1 before said h)),
       ),
 )
 
@@ -30,11 +30,11 @@ telling-init g c =
       up_to = λ before said h. record {
         front = c.as_slice.result.now;
         splits = ap (λ (z : List ℕ). z ++ flat_map line (words_left s c.new-words.result))
-            (c.as_slice.ensures.value ∙ c.head_line.ensures ∙ ap (words_head c.args.from c.args.to) c.count_words-count.ensures)
+            (c.as_slice.ensures.value ∙ c.head_line.ensures ∙ ap (words_head c.args.from c.args.to) c.count_transfers-count.ensures)
             ∙ ap (λ z. words_head c.args.from c.args.to (length (words_of s c.args.from.number c.args.to.number)) ++ flat_map line z) (c.new-words.ensures s);
-        is_said = c.in_ok-say_blocks.ensures.1 before said h;
+        is_said = c.in_ok-write_blocks.ensures.1 before said h;
       };
-      left = let all : length (words_left s c.new-words.result) ≡ c.count_words-count.result = ap length (c.new-words.ensures s) ∙ sym c.count_words-count.ensures in omega (arith, all);
+      left = let all : length (words_left s c.new-words.result) ≡ c.count_transfers-count.result = ap length (c.new-words.ensures s) ∙ sym c.count_transfers-count.ensures in omega (arith, all);
     }
 
 pub returns-in_default : goal.returns-in_default
@@ -59,8 +59,8 @@ returns-in_err-say_sent g c = (
       let done = c.telling.invariant.up_to before said h in (
         whole,
         refl,
-        cut_here c.from_residual-in_err-say_sent.result _ before (said ++ whole) _ c.from_residual-in_err-say_sent.ensures.0
-            (line_cut _ before said whole _ (line c.in-Some.sent) _ done.front (ap (flat_map line) c.in-Some.ensures.word) done.splits
+        truncated_here c.from_residual-in_err-say_sent.result _ before (said ++ whole) _ c.from_residual-in_err-say_sent.ensures.0
+            (line_truncated _ before said whole _ (line c.in-Some.sent) _ done.front (ap (flat_map line) c.in-Some.ensures.word) done.splits
             (c.in_err-say_sent.ensures.1 before (said ++ done.front) done.is_said)),
       ),
 )
@@ -71,7 +71,7 @@ telling-preserved g c =
       same = search rules;
       up_to = λ before said h.
           let done = c.telling.invariant.up_to before said h in
-          line_said _ before said (linked_text c.args.lab.now c.args.from c.args.to) _ (line c.in-Some.sent) _ done.front _ (ap (flat_map line) c.in-Some.ensures.word) done.splits
+          line_written _ before said (linked_text c.args.lab.now c.args.from c.args.to) _ (line c.in-Some.sent) _ done.front _ (ap (flat_map line) c.in-Some.ensures.word) done.splits
           (c.in_ok-say_sent.ensures.1 before (said ++ done.front) done.is_said);
       left = omega (arith, c.telling.invariant.left, ap length c.in-Some.ensures.word);
     }

@@ -1,5 +1,5 @@
 use Rattle.std.proofs.Common.{◌-◌, ◌∙◌, ap, inl}
-use Rattle.ga_causal.specs.Dependence.{place_of}
+use Rattle.ga_causal.specs.Dependence.{position_of_step}
 use Rattle.ga_lab.proofs.Explaining.{tail_is, before_none, there, nowhere}
 use Rattle.ga_lab.proofs.why.chain_since.Goals as goal
 
@@ -10,10 +10,10 @@ returns-then-to-since c all n k s =
 pub returns-in-Some : goal.returns-in-Some
 returns-in-Some c all n k s =
     there all n k c.args.to.0.number c.args.to.1 c.args.since.now.causes.items c.args.since.now.before c.args.since.now.steps c.in-Some.effect c.chain.result s c.if-to-since.false
-    (c.in-Some.ensures.value ∙ ap (λ z. place_of z c.args.to.0.number (c.args.to.1 - c.args.since.now.steps)) c.deref.ensures.value)
+    (c.in-Some.ensures.value ∙ ap (λ z. position_of_step z c.args.to.0.number (c.args.to.1 - c.args.since.now.steps)) c.deref.ensures.value)
     (c.chain.ensures all (tail_is all n k c.args.to.0.number c.args.since.now.causes.items c.args.since.now.before c.args.since.now.steps s))
 
 pub returns-in-None : goal.returns-in-None
 returns-in-None c all n k s =
     inl (nowhere all n k c.args.to.0.number c.args.to.1 c.args.since.now.causes.items c.args.since.now.before c.args.since.now.steps s c.if-to-since.false
-    (c.in-None.ensures.value ∙ ap (λ z. place_of z c.args.to.0.number (c.args.to.1 - c.args.since.now.steps)) c.deref.ensures.value))
+    (c.in-None.ensures.value ∙ ap (λ z. position_of_step z c.args.to.0.number (c.args.to.1 - c.args.since.now.steps)) c.deref.ensures.value))

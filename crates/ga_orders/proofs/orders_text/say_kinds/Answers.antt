@@ -1,22 +1,22 @@
 use Rattle.std.proofs.Common.{rules, ℕ, List, ◌++◌, refl, ap, ◌∙◌, arith}
 use Rattle.std.specs.Prelude.{flat_map}
-use Rattle.ga_text.proofs.SaidLemmas.{cut_here, cut_within}
+use Rattle.ga_text.proofs.WriteLemmas.{truncated_here, truncated_within}
 use Rattle.ga_orders.specs.OrderTexts.{end_kind_text, orders_with}
-use Rattle.ga_explorer_text.proofs.Saying.{line_said, line_cut, all_said, no_lines}
+use Rattle.ga_explorer_text.proofs.Saying.{line_written, line_truncated, all_said, no_lines}
 use Rattle.ga_orders.proofs.OrdersOut.{next_kind}
 use Rattle.ga_orders.proofs.orders_text.say_kinds.Goals as goal
 
-pub returns-in_err-say_blocks : goal.returns-in_err-say_blocks
-returns-in_err-say_blocks g c = (
+pub returns-in_err-write_blocks : goal.returns-in_err-write_blocks
+returns-in_err-write_blocks g c = (
   search rules,
   λ before said h.
       let kinds = c.args.kinds.now in
       let whole : List ℕ = orders_with c.args.tally.now kinds in (
         whole,
         refl,
-        cut_here c.from_residual.result _ before (said ++ whole) _ c.from_residual.ensures.0
-            (cut_within _ before said c.as_slice.result.now (flat_map end_kind_text kinds) whole
-            (ap (λ (z : List ℕ). z ++ flat_map end_kind_text kinds) (c.as_slice.ensures.value ∙ c.head_line.ensures)) (c.in_err-say_blocks.ensures.1 before said h)),
+        truncated_here c.from_residual.result _ before (said ++ whole) _ c.from_residual.ensures.0
+            (truncated_within _ before said c.as_slice.result.now (flat_map end_kind_text kinds) whole
+            (ap (λ (z : List ℕ). z ++ flat_map end_kind_text kinds) (c.as_slice.ensures.value ∙ c.head_line.ensures)) (c.in_err-write_blocks.ensures.1 before said h)),
       ),
 )
 
@@ -27,7 +27,7 @@ kinds-init g c = (
       let kinds = c.args.kinds.now in record {
         front = c.as_slice.result.now;
         splits = ap (λ (z : List ℕ). z ++ flat_map end_kind_text kinds) (c.as_slice.ensures.value ∙ c.head_line.ensures);
-        is_said = c.in_ok-say_blocks.ensures.1 before said h;
+        is_said = c.in_ok-write_blocks.ensures.1 before said h;
       },
 )
 
@@ -40,8 +40,8 @@ returns-in_err-say_kind g c = (
       let done = c.kinds.invariant.1 before said h in (
         whole,
         refl,
-        cut_here c.from_residual-in_err-say_kind.result _ before (said ++ whole) _ c.from_residual-in_err-say_kind.ensures.0
-            (line_cut _ before said whole _ _ _ done.front (next_kind kinds c.kinds.kind-index _ (omega arith)) done.splits
+        truncated_here c.from_residual-in_err-say_kind.result _ before (said ++ whole) _ c.from_residual-in_err-say_kind.ensures.0
+            (line_truncated _ before said whole _ _ _ done.front (next_kind kinds c.kinds.kind-index _ (omega arith)) done.splits
             (c.in_err-say_kind.ensures.1 before (said ++ done.front) done.is_said)),
       ),
 )
@@ -52,7 +52,7 @@ kinds-preserved g c = (
   λ before said h.
       let kinds = c.args.kinds.now in
       let done = c.kinds.invariant.1 before said h in
-      line_said _ before said (orders_with c.args.tally.now kinds) _ _ _ done.front _ (next_kind kinds c.kinds.kind-index _ (omega arith)) done.splits
+      line_written _ before said (orders_with c.args.tally.now kinds) _ _ _ done.front _ (next_kind kinds c.kinds.kind-index _ (omega arith)) done.splits
       (c.in_ok-say_kind.ensures.1 before (said ++ done.front) done.is_said),
 )
 

@@ -1,6 +1,6 @@
 use Rattle.std.proofs.Common.{ℕ, ◌∙◌, ◌+◌, ◌-◌, ◌++◌, ◌∷◌, sym, ap, arith, refl, Bool, false, not, [], length, append-nil}
 use Rattle.std.proofs.lemmas.Bool.{eqb-true, eqb-false}
-use Rattle.ga_parser.specs.Saying.{parted, is_blank, source_words, spoken, all_said, columns_spoken, columns_of}
+use Rattle.ga_parser.specs.Saying.{parted, is_blank, source_words, spoken, token_contents, columns_spoken, columns_of}
 use Rattle.ga_parser.proofs.Scanning.{hear_open, hear_remark, hear_opening, hear_nothing, hear_word, told_same, told_word, none_left, open_left, line_told, line_whole, columns_same, columns_more, columns_open, columns_remark, columns_opening, columns_nothing, columns_word, columns_none, columns_left_open, columns_line}
 use Rattle.ga_parser.proofs.scan.scan_line.Goals as goal
 
@@ -9,15 +9,15 @@ returns-then-eq-clause-says c =
     let same = rw c.as_slice.ensures at c.eq.ensures in
     let left = ap (λ (o : Bool). spoken c.args.line o (source_words c.loop-rest.rest.now)) c.if-is_open.false
     ∙ hear_remark c.args.line c.loop-rest.rest.now c.first_part.result.0.now c.first_part.result.1.now c.first_part.ensures.splits (sym same ∙ c.if-eq.true) in
-    line_told c.args.line c.args.text.now (all_said c.args.tokens.now.items) (all_said c.loop-rest.tokens.items) (all_said c.loop-rest.tokens.items) []
-    c.loop-rest.is_open c.loop-rest.rest.now (omega arith) c.loop-rest.invariant.told left (sym (append-nil (all_said c.loop-rest.tokens.items)))
+    line_told c.args.line c.args.text.now (token_contents c.args.tokens.now.items) (token_contents c.loop-rest.tokens.items) (token_contents c.loop-rest.tokens.items) []
+    c.loop-rest.is_open c.loop-rest.rest.now (omega arith) c.loop-rest.invariant.told left (sym (append-nil (token_contents c.loop-rest.tokens.items)))
 
 pub returns-then-eq-clause-whole : goal.returns-then-eq-clause-whole
 returns-then-eq-clause-whole c =
     let same = rw c.as_slice.ensures at c.eq.ensures in
     let left = ap (λ (o : Bool). spoken c.args.line o (source_words c.loop-rest.rest.now)) c.if-is_open.false
     ∙ hear_remark c.args.line c.loop-rest.rest.now c.first_part.result.0.now c.first_part.result.1.now c.first_part.ensures.splits (sym same ∙ c.if-eq.true) in
-    line_whole c.args.line c.args.text.now (all_said c.args.tokens.now.items) (all_said c.loop-rest.tokens.items) [] c.loop-rest.is_open
+    line_whole c.args.line c.args.text.now (token_contents c.args.tokens.now.items) (token_contents c.loop-rest.tokens.items) [] c.loop-rest.is_open
     c.loop-rest.rest.now (omega arith) c.loop-rest.invariant.told left
 
 pub loop-rest-preserved-then-is_open : goal.loop-rest-preserved-then-is_open
@@ -75,28 +75,28 @@ pub returns-then-is_open-2-clause-says : goal.returns-then-is_open-2-clause-says
 returns-then-is_open-2-clause-says c =
     let none = eqb-true _ _ (sym c.is_empty.ensures ∙ c.loop-rest-test.false) in
     let left = ap (λ (o : Bool). spoken c.args.line o (source_words c.loop-rest.rest.now)) c.if-is_open-2.true ∙ open_left c.args.line c.loop-rest.rest.now none in
-    line_told c.args.line c.args.text.now (all_said c.args.tokens.now.items) (all_said c.loop-rest.tokens.items) _ _
+    line_told c.args.line c.args.text.now (token_contents c.args.tokens.now.items) (token_contents c.loop-rest.tokens.items) _ _
     c.loop-rest.is_open c.loop-rest.rest.now (omega arith) c.loop-rest.invariant.told left c.in_ok-push-3.ensures.says
 
 pub returns-then-is_open-2-clause-whole : goal.returns-then-is_open-2-clause-whole
 returns-then-is_open-2-clause-whole c =
     let none = eqb-true _ _ (sym c.is_empty.ensures ∙ c.loop-rest-test.false) in
     let left = ap (λ (o : Bool). spoken c.args.line o (source_words c.loop-rest.rest.now)) c.if-is_open-2.true ∙ open_left c.args.line c.loop-rest.rest.now none in
-    line_whole c.args.line c.args.text.now (all_said c.args.tokens.now.items) (all_said c.loop-rest.tokens.items) _ c.loop-rest.is_open
+    line_whole c.args.line c.args.text.now (token_contents c.args.tokens.now.items) (token_contents c.loop-rest.tokens.items) _ c.loop-rest.is_open
     c.loop-rest.rest.now (omega arith) c.loop-rest.invariant.told left
 
 pub returns-clause-says : goal.returns-clause-says
 returns-clause-says c =
     let none = eqb-true _ _ (sym c.is_empty.ensures ∙ c.loop-rest-test.false) in
     let left = ap (λ (o : Bool). spoken c.args.line o (source_words c.loop-rest.rest.now)) c.if-is_open-2.false ∙ none_left c.args.line c.loop-rest.rest.now none in
-    line_told c.args.line c.args.text.now (all_said c.args.tokens.now.items) (all_said c.loop-rest.tokens.items) (all_said c.loop-rest.tokens.items) []
-    c.loop-rest.is_open c.loop-rest.rest.now (omega arith) c.loop-rest.invariant.told left (sym (append-nil (all_said c.loop-rest.tokens.items)))
+    line_told c.args.line c.args.text.now (token_contents c.args.tokens.now.items) (token_contents c.loop-rest.tokens.items) (token_contents c.loop-rest.tokens.items) []
+    c.loop-rest.is_open c.loop-rest.rest.now (omega arith) c.loop-rest.invariant.told left (sym (append-nil (token_contents c.loop-rest.tokens.items)))
 
 pub returns-clause-whole : goal.returns-clause-whole
 returns-clause-whole c =
     let none = eqb-true _ _ (sym c.is_empty.ensures ∙ c.loop-rest-test.false) in
     let left = ap (λ (o : Bool). spoken c.args.line o (source_words c.loop-rest.rest.now)) c.if-is_open-2.false ∙ none_left c.args.line c.loop-rest.rest.now none in
-    line_whole c.args.line c.args.text.now (all_said c.args.tokens.now.items) (all_said c.loop-rest.tokens.items) [] c.loop-rest.is_open
+    line_whole c.args.line c.args.text.now (token_contents c.args.tokens.now.items) (token_contents c.loop-rest.tokens.items) [] c.loop-rest.is_open
     c.loop-rest.rest.now (omega arith) c.loop-rest.invariant.told left
 
 pub loop-rest-init : goal.loop-rest-init

@@ -1,10 +1,10 @@
 use Rattle.std.proofs.Common.{◌≡◌, ◌++◌, length}
-use Rattle.ga_parser.specs.Saying.{source_lines, said_from, all_in, all_said, columns_from, columns_in, columns_of}
+use Rattle.ga_parser.specs.Saying.{source_lines, said_from, all_in, token_contents, columns_from, columns_in, columns_of}
 use Rattle.ga_parser.proofs.scan.source_words.Given as goal
 
 abbrev pub invariant-loop-rest : goal.invariant-loop-rest
 invariant-loop-rest l = record {
-  says : all_said l.words.items ++ said_from l.line (source_lines l.rest) ≡ all_in l.source;
+  says : token_contents l.words.items ++ said_from l.line (source_lines l.rest) ≡ all_in l.source;
   columns : columns_of l.words.items ++ columns_from l.line (source_lines l.rest) ≡ columns_in l.source;
 }
 

@@ -1,11 +1,11 @@
 use Rattle.std.proofs.Common.{rules, [], ◌++◌, Some, sym, ap, ◌∙◌, append_assoc}
-use Rattle.ga_console.proofs.RunLemmas.{said_fresh}
+use Rattle.ga_console.proofs.RunLemmas.{written_fresh}
 use Rattle.ga_picture.proofs.Following.{goes_ended, goes_broken, stream_fault}
 use Rattle.ga_picture.proofs.follow.follow.Goals as goal
 
 pub returns-in-Done : goal.returns-in-Done
 returns-in-Done g c = λ left before known held.
-    let served = c.serve-ending.ensures.serves left before [] known (said_fresh _ before [] _ (ap g.W.Write.contents c.new-said.ensures.stream ∙ held) c.new-said.ensures.nothing) in
+    let served = c.serve-ending.ensures.serves left before [] known (written_fresh _ before [] _ (ap g.W.Write.contents c.new-said.ensures.stream ∙ held) c.new-said.ensures.nothing) in
     let there = served.6 in
     let done = sym c.status_of.ensures ∙ c.in-Done.is in
     let last = c.reached.ensures (before ++ served.3) (search rules) in (
@@ -20,7 +20,7 @@ returns-in-Done g c = λ left before known held.
 
 pub returns-in_default : goal.returns-in_default
 returns-in_default g c = λ left before known held.
-    let served = c.serve-ending.ensures.serves left before [] known (said_fresh _ before [] _ (ap g.W.Write.contents c.new-said.ensures.stream ∙ held) c.new-said.ensures.nothing) in
+    let served = c.serve-ending.ensures.serves left before [] known (written_fresh _ before [] _ (ap g.W.Write.contents c.new-said.ensures.stream ∙ held) c.new-said.ensures.nothing) in
     let there = served.6 in
     let fault = stream_fault c.serve-ending.result (λ e. c.in_default.not-Done (c.status_of.ensures ∙ e)) in (
       served.0,

@@ -1,7 +1,7 @@
 use Rattle.std.proofs.Common.{[], ◌∷◌, inr}
 use Rattle.std.proofs.lemmas.List.Elements.{All-nil, All-cons}
 use Rattle.ga_causal.specs.Dependence.{itself}
-use Rattle.ga_provenance.specs.declared.listing.Row.{Row}
+use Rattle.ga_provenance.specs.declared.listing.ProvenanceRow.{ProvenanceRow}
 use Rattle.ga_provenance.specs.Rows.{row_at, IsNamedFor}
 use Rattle.ga_provenance.proofs.Causes.{rows_named}
 use Rattle.ga_provenance.proofs.laws.named_steps_are_causes.Goals as goal
@@ -9,6 +9,6 @@ use Rattle.ga_provenance.proofs.laws.named_steps_are_causes.Goals as goal
 pub returns : goal.returns
 returns c s value place rows whole is told =
     rows_named s value [] (row_at 0 value ∷ []) rows whole told
-    (All-cons (λ (row : Row). IsNamedFor s value row.value) (row_at 0 value) []
+    (All-cons (λ (row : ProvenanceRow). IsNamedFor s value row.value) (row_at 0 value) []
     (inr (record { cause = place; effect = place; cause_place = is; effect_place = is; depends = itself }))
-    (All-nil (λ (row : Row). IsNamedFor s value row.value)))
+    (All-nil (λ (row : ProvenanceRow). IsNamedFor s value row.value)))

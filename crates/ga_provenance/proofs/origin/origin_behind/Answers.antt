@@ -1,7 +1,7 @@
 use Rattle.std.proofs.Common.{◌≡◌, ℕ, suc, ◌-◌, ap, ◌∙◌, refl, arith}
 use Rattle.ga_event.specs.Flow.{Flow, flow_of}
 use Rattle.ga_provenance.specs.Origins.{moved_from, value_of_step, origin_from}
-use Rattle.ga_lab.specs.Machine.{Standing}
+use Rattle.ga_lab.specs.Machine.{NodeAtStep}
 use Rattle.ga_provenance.proofs.Made.{back_on, back_end, told_so, stays_so}
 use Rattle.ga_provenance.proofs.origin.origin_behind.Goals as goal
 
@@ -11,14 +11,14 @@ steps-preserved c =
     let node = c.args.node in
     let value = c.steps.value in
     let k : ℕ = value.step - 1 in
-    let told = c.told_back-value-in-Some in
+    let told = c.trace_by_records-value-in-Some in
     let made = origin_from s node c.args.step c.args.part in
     let is : suc k ≡ value.step = omega (arith, c.steps-test.true) in
     record {
       node = told.ensures.followed.node;
       part = told.ensures.followed.part;
       trail = stays_so s node c.flow_by_trail-flow.new.trail told.new.self c.flow_by_trail-flow.ensures.trail told.ensures.trail;
-      order = (let same = ap (λ (z : Standing). z.step) told.ensures.trail in omega (arith, told.ensures.followed.within, c.flow_by_trail-flow.ensures.order, same));
+      order = (let same = ap (λ (z : NodeAtStep). z.step) told.ensures.trail in omega (arith, told.ensures.followed.within, c.flow_by_trail-flow.ensures.order, same));
       back = omega (arith, told.ensures.followed.within, c.steps.invariant.back);
       same = told_so s node (value_of_step node k c.in-Some.from) told.result made refl told.ensures.followed.node told.ensures.followed.same
           (back_on s node value.step k value.part c.in-Some.from made is (c.in-Some.ensures.value ∙ ap (λ (z : Flow). moved_from z value.part) c.flow_by_trail-flow.ensures.value) c.steps.invariant.same);

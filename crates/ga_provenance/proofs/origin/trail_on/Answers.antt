@@ -1,11 +1,11 @@
 use Rattle.std.proofs.Common.{rules, ◌≡◌, ◌∙◌, ap}
 use Rattle.ga_grid.specs.declared.node_id.NodeId.{NodeId}
 use Rattle.ga_grid.proofs.NodeIds.{NodeId-same}
-use Rattle.ga_lab.specs.Machine.{standing}
+use Rattle.ga_lab.specs.Machine.{node_at_step}
 use Rattle.ga_provenance.proofs.origin.trail_on.Goals as goal
 
 pub returns-then-step-clause-stands : goal.returns-then-step-clause-stands
 returns-then-step-clause-stands c =
     let number : c.args.last.value.node.number ≡ c.args.node.number = search rules in
     let same : c.args.last.value.node ≡ c.args.node = NodeId-same c.args.last.value.node c.args.node number in
-    c.requires.last ∙ ap (λ (n : NodeId). standing c.args.lab.now n c.args.last.trail.step) same
+    c.requires.last ∙ ap (λ (n : NodeId). node_at_step c.args.lab.now n c.args.last.trail.step) same

@@ -9,9 +9,9 @@ going-preserved c =
     let is : suc (c.going.step - 1) ≡ c.going.step = omega (arith, c.going-test.true) in
     record {
       registers = c.registers_before-registers.ensures;
-      word = c.word_behind-word.ensures.value;
-      fits = c.word_behind-word.ensures.fits;
+      word = c.value_after-word.ensures.value;
+      fits = c.value_after-word.ensures.fits;
       within = omega (arith, c.going.invariant.within);
       same = wrote_before s n c.args.cell c.going.step (c.going.step - 1) is
-          (none_written s n c.args.cell (c.going.step - 1) c.told-told.result c.told-told.ensures (sym c.ran_store.ensures ∙ c.if-ran_store.false)) ∙ c.going.invariant.same;
+          (none_written s n c.args.cell (c.going.step - 1) c.made_by_step-made_by_step.result c.made_by_step-made_by_step.ensures (sym c.ran_store.ensures ∙ c.if-ran_store.false)) ∙ c.going.invariant.same;
     }

@@ -1,7 +1,7 @@
 use Rattle.std.proofs.Common.{◌∙◌, sym, ap, arith}
 use Rattle.std.specs.Prelude.{is_none, is_ok}
 use Rattle.ga_grid.specs.Chip.{records_of}
-use Rattle.ga_races.specs.Orders.{can_go}
+use Rattle.ga_races.specs.Orders.{has_event}
 use Rattle.ga_races.proofs.Ready.{first_none}
 use Rattle.ga_race_detector.proofs.Racing.{ready_some, idle_more}
 use Rattle.ga_race_detector.proofs.races.is_quiet.Goals as goal
@@ -15,4 +15,4 @@ nodes-preserved c =
     (sym (ap is_ok c.next_event.ensures) ∙ sym c.is_ok.ensures.value ∙ c.if-is_ok.false) c.nodes.invariant
 
 pub returns : goal.returns
-returns c = sym (ap is_none (first_none (can_go (records_of c.args.chip.now)) 0 144 (λ m l. c.nodes.invariant m (omega (arith, l)))))
+returns c = sym (ap is_none (first_none (has_event (records_of c.args.chip.now)) 0 144 (λ m l. c.nodes.invariant m (omega (arith, l)))))

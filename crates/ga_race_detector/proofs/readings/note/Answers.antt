@@ -8,12 +8,12 @@ use Rattle.ga_race_detector.proofs.readings.note.Goals as goal
 pub at-around-requires : goal.at-around-requires
 at-around-requires c = subst (λ (z : NodeId × ℕ). 0 < z.1) (sym c.taken-step.ensures) c.requires.first
 
-pub returns-then-hangs_with-clause-known : goal.returns-then-hangs_with-clause-known
-returns-then-hangs_with-clause-known c = λ causes glances lists step l is known.
+pub returns-then-is_related-clause-known : goal.returns-then-is_related-clause-known
+returns-then-is_related-clause-known c = λ causes glances lists step l is known.
     let other = c.args.other.now in
     let taken : c.taken-step.result ≡ taken_of other = c.taken-step.ensures in
     let within : c.taken-step.result.1 ≤ touching (taken_of other).0.number causes = subst (λ (z : NodeId × ℕ). z.1 ≤ touching (taken_of other).0.number causes) (sym taken) step.within in
     let here : IsAroundOf causes other c.at-around.result =
     subst (λ (z : NodeId × ℕ). IsAround causes (taken_of other).0.number z.1 other.node.number c.at-around.result) taken
-    (c.at-around.ensures causes (taken_of other).0.number other.node.number (hang_around causes other c.args.of.now c.args.lists.now (c.hangs_with.ensures c.if-hangs_with.true) lists) within) in
+    (c.at-around.ensures causes (taken_of other).0.number other.node.number (hang_around causes other c.args.of.now c.args.lists.now (c.is_related.ensures c.if-is_related.true) lists) within) in
     known_next causes glances c.args.known.now.items c.args.at other c.at-around.result c.requires.within l is here known

@@ -10,7 +10,7 @@ returns-in_err-other-clause-found c = λ near reading g o a.
     let glance = c.args.glance.now in
     let said = said_of s near glance reading c.node-stands.ensures.replays g o a in
     let again = read_again s near reading glance.node glance.step glance.neighbour glance.change glance.early (kept_caused s (ap is_some c.node-stands.ensures.replays)) said o a in
-    absurd (no_some c.other_word.result c.in_err-other.was (c.other_word.ensures.some again.step))
+    absurd (no_some c.other_io_word.result c.in_err-other.was (c.other_io_word.ensures.some again.step))
 
 pub returns-then-get-clause-found : goal.returns-then-get-clause-found
 returns-then-get-clause-found c = λ near reading g o a.

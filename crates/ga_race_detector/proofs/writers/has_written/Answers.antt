@@ -2,7 +2,7 @@ use Rattle.std.proofs.Common.{◌∙◌, ◌+◌, ◌≡◌, ap, sym, arith}
 use Rattle.std.specs.Prelude.{is_some}
 use Rattle.ga_node.specs.Record.{record_of}
 use Rattle.ga_event.specs.Apply.{writes_to}
-use Rattle.ga_lab.specs.Machine.{Standing, standing}
+use Rattle.ga_lab.specs.Machine.{NodeAtStep, node_at_step}
 use Rattle.ga_race_detector.proofs.Silent.{silent, at_walk, silent_here, silent_last, silent_more, walked}
 use Rattle.ga_race_detector.proofs.writers.has_written.Goals as goal
 
@@ -10,9 +10,9 @@ pub back-init : goal.back-init
 back-init c =
     let s = c.args.lab.now in
     let node = c.args.node in
-    let w : Standing = c.walk-walk.result in
-    let step : w.step ≡ c.steps.result = ap (λ (z : Standing). z.step) c.walk-walk.ensures in
-    let is : w ≡ standing s node w.step = c.walk-walk.ensures ∙ ap (standing s node) (sym step) in
+    let w : NodeAtStep = c.walk-walk.result in
+    let step : w.step ≡ c.steps.result = ap (λ (z : NodeAtStep). z.step) c.walk-walk.ensures in
+    let is : w ≡ node_at_step s node w.step = c.walk-walk.ensures ∙ ap (node_at_step s node) (sym step) in
     let held = record_of c.node.result.now in
     record {
       walk = is;
@@ -25,10 +25,10 @@ pub back-preserved : goal.back-preserved
 back-preserved c =
     let s = c.args.lab.now in
     let node = c.args.node in
-    let old : Standing = c.back.walk in
-    let new : Standing = c.back-in-back.new.self in
-    let is : new ≡ standing s node new.step = walked old new s node c.back.invariant.walk c.back-in-back.ensures in
-    let step : new.step + 1 ≡ old.step = (let e = ap (λ (z : Standing). z.step) c.back-in-back.ensures in omega (arith, e, c.if-step-gt0.true, c.step.ensures.value)) in
+    let old : NodeAtStep = c.back.walk in
+    let new : NodeAtStep = c.back-in-back.new.self in
+    let is : new ≡ node_at_step s node new.step = walked old new s node c.back.invariant.walk c.back-in-back.ensures in
+    let step : new.step + 1 ≡ old.step = (let e = ap (λ (z : NodeAtStep). z.step) c.back-in-back.ensures in omega (arith, e, c.if-step-gt0.true, c.step.ensures.value)) in
     let held = record_of c.node-in-back.result.now in
     record {
       walk = is;

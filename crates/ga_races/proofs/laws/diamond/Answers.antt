@@ -1,5 +1,5 @@
 use Rattle.ga_races.proofs.Orders.{diamond_order}
-use Rattle.ga_races.proofs.Rivals.{common_node}
+use Rattle.ga_races.proofs.Conflicts.{common_node}
 use Rattle.ga_races.proofs.laws.diamond.Goals as goal
 
 pub returns-clause-order : goal.returns-clause-order

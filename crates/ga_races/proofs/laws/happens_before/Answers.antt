@@ -1,5 +1,5 @@
 use Rattle.ga_races.proofs.Bound.{free_exact}
-use Rattle.ga_races.proofs.Before.{every_order, other_order, exact, step_named, stands, causes_of_run}
+use Rattle.ga_races.proofs.Before.{every_order, other_order, no_race_if_confluent, step_named, stands, causes_of_run}
 use Rattle.ga_races.proofs.laws.happens_before.Goals as goal
 
 pub returns-clause-free : goal.returns-clause-free
@@ -21,4 +21,4 @@ pub returns-clause-some : goal.returns-clause-some
 returns-clause-some c = other_order
 
 pub returns-clause-exact : goal.returns-clause-exact
-returns-clause-exact c = exact
+returns-clause-exact c = no_race_if_confluent

@@ -1,7 +1,7 @@
 use Rattle.std.proofs.Common.{refl, inl, inr, ⊎_elim, ◌≡◌, ◌<◌, ap, length, arith}
-use Rattle.ga_journal.specs.Histories.{Book}
+use Rattle.ga_journal.specs.Histories.{JournalState}
 use Rattle.ga_journal.specs.Events.{kept_of}
-use Rattle.ga_journal.specs.Marks.{mark_of, going_of}
+use Rattle.ga_journal.specs.Marks.{mark_of, entries_to_remove}
 use Rattle.ga_rollback.specs.inner.{counted_of}
 use Rattle.ga_rollback.proofs.Rewinding.{back_fits}
 use Rattle.ga_rollback.proofs.Foretold.{counted_all, would_go, as_before, forecast_ticks, steps_whole}
@@ -9,7 +9,7 @@ use Rattle.ga_rollback.proofs.forecast.would_rewind.Goals as goal
 
 pub release-events-requires-clause-few : goal.release-events-requires-clause-few
 release-events-requires-clause-few c =
-    let same : counted_of c.mark.new.journal.histories ≡ counted_of c.args.journal.now.histories = ap (λ (b : Book). counted_of b.histories) c.mark.ensures.others in
+    let same : counted_of c.mark.new.journal.histories ≡ counted_of c.args.journal.now.histories = ap (λ (b : JournalState). counted_of b.histories) c.mark.ensures.others in
     let all : counted_of c.args.journal.now.histories ≡ length (kept_of c.args.journal.now) = counted_all c.args.journal.now c.requires.whole in
     let kept : c.kept-kept.result ≡ length (kept_of c.args.journal.now) = c.kept-kept.ensures.value in
     let r : c.kept-kept.result < 4294967296 = c.kept-kept.type_inv in
@@ -24,7 +24,7 @@ release-events-requires-clause-fits c =
 pub returns-clause-ok : goal.returns-clause-ok
 returns-clause-ok c =
     let steps : c.mark_of-steps.result ≡ mark_of c.args.journal.now c.args.node.number = c.mark_of-steps.ensures.value in
-    let none : going_of c.args.journal.now c.args.node.number ≡ 0 = c.requires.rest.settled c.args.node.number in
+    let none : entries_to_remove c.args.journal.now c.args.node.number ≡ 0 = c.requires.rest.settled c.args.node.number in
     would_go c.args.journal.now c.mark.new.journal c.release-events.new.journal c.args.node.number c.args.step c.release-events.result c.mark.new.visited
     c.requires.whole (let a = c.if-step-eq0.false in omega arith) (let a = c.if-steps-step.false in omega arith)
     c.mark.ensures.others c.mark.ensures.marked c.mark.ensures.unseen c.release-events.ensures.done c.release-events.ensures.none c.mark.ensures.value

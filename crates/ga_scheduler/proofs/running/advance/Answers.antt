@@ -1,7 +1,7 @@
 use Rattle.std.proofs.Common.{◌≡◌, ◌∙◌, Some, None, refl, sym, ap}
 use Rattle.std.specs.Prelude.{is_some}
 use Rattle.ga_lab.specs.Machine.{chip_of}
-use Rattle.ga_scheduler.specs.Running.{Running, running, chosen, told, run_moved}
+use Rattle.ga_scheduler.specs.Running.{Running, running, node_to_run, next_made, run_moved}
 use Rattle.ga_scheduler.proofs.WordCounts.{all_counted_on}
 use Rattle.ga_scheduler.proofs.Stepping.{choice_is, nothing_past, quiet_is}
 use Rattle.ga_scheduler.proofs.Events.{told_is, moved_is, held_is, stayed}
@@ -15,39 +15,39 @@ first_held-requires-clause-counted c = all_counted_on c.args.until.now c.args.la
 
 pub returns-in-Some-first_held-clause-over : goal.returns-in-Some-first_held-clause-over
 returns-in-Some-first_held-clause-over c =
-    let who : chosen (running c.args.lab.now c.args.schedule.now) ≡ Some c.in-Some.node =
+    let who : node_to_run (running c.args.lab.now c.args.schedule.now) ≡ Some c.in-Some.node =
     sym (choice_is (chip_of c.args.lab.now) c.args.ready.now c.args.schedule.now.turn.number c.requires.ready) ∙ sym c.in-Some.ensures.first in
     let here : Running = running c.args.lab.now c.args.schedule.now in
     let next : Running = running c.make.new.lab c.make.new.schedule in
-    let is : told here ≡ Some c.in-Ok.made = told_is c.args.lab.now c.args.schedule.now c.in-Some.node c.in-Ok.made who c.in-Ok.ensures.ok in
+    let is : next_made here ≡ Some c.in-Ok.made = told_is c.args.lab.now c.args.schedule.now c.in-Some.node c.in-Ok.made who c.in-Ok.ensures.ok in
     let on : next ≡ run_moved here = moved_is c.args.lab.now c.make.new.lab c.args.schedule.now c.make.new.schedule c.in-Some.node who c.in-Ok.ensures.state c.in-Ok.ensures.schedule in
     (is, held_is c.args.until.now here next c.in-Ok.made (Some c.in-Some-first_held.which) is on c.in-Some-first_held.ensures.first, on)
 
 pub returns-in_default-clause-made : goal.returns-in_default-clause-made
 returns-in_default-clause-made c =
-    let who : chosen (running c.args.lab.now c.args.schedule.now) ≡ Some c.in-Some.node =
+    let who : node_to_run (running c.args.lab.now c.args.schedule.now) ≡ Some c.in-Some.node =
     sym (choice_is (chip_of c.args.lab.now) c.args.ready.now c.args.schedule.now.turn.number c.requires.ready) ∙ sym c.in-Some.ensures.first in
     ap is_some (told_is c.args.lab.now c.args.schedule.now c.in-Some.node c.in-Ok.made who c.in-Ok.ensures.ok)
 
 pub returns-in_default-clause-unmet : goal.returns-in_default-clause-unmet
 returns-in_default-clause-unmet c =
-    let who : chosen (running c.args.lab.now c.args.schedule.now) ≡ Some c.in-Some.node =
+    let who : node_to_run (running c.args.lab.now c.args.schedule.now) ≡ Some c.in-Some.node =
     sym (choice_is (chip_of c.args.lab.now) c.args.ready.now c.args.schedule.now.turn.number c.requires.ready) ∙ sym c.in-Some.ensures.first in
     let here : Running = running c.args.lab.now c.args.schedule.now in
     let next : Running = running c.make.new.lab c.make.new.schedule in
-    let is : told here ≡ Some c.in-Ok.made = told_is c.args.lab.now c.args.schedule.now c.in-Some.node c.in-Ok.made who c.in-Ok.ensures.ok in
+    let is : next_made here ≡ Some c.in-Ok.made = told_is c.args.lab.now c.args.schedule.now c.in-Some.node c.in-Ok.made who c.in-Ok.ensures.ok in
     let on : next ≡ run_moved here = moved_is c.args.lab.now c.make.new.lab c.args.schedule.now c.make.new.schedule c.in-Some.node who c.in-Ok.ensures.state c.in-Ok.ensures.schedule in
     held_is c.args.until.now here next c.in-Ok.made None is on c.in_default.ensures.first
 
 pub returns-in_default-clause-moved : goal.returns-in_default-clause-moved
 returns-in_default-clause-moved c =
-    let who : chosen (running c.args.lab.now c.args.schedule.now) ≡ Some c.in-Some.node =
+    let who : node_to_run (running c.args.lab.now c.args.schedule.now) ≡ Some c.in-Some.node =
     sym (choice_is (chip_of c.args.lab.now) c.args.ready.now c.args.schedule.now.turn.number c.requires.ready) ∙ sym c.in-Some.ensures.first in
     moved_is c.args.lab.now c.make.new.lab c.args.schedule.now c.make.new.schedule c.in-Some.node who c.in-Ok.ensures.state c.in-Ok.ensures.schedule
 
 pub returns-in-Err-clause-over : goal.returns-in-Err-clause-over
 returns-in-Err-clause-over c =
-    let who : chosen (running c.args.lab.now c.args.schedule.now) ≡ Some c.in-Some.node =
+    let who : node_to_run (running c.args.lab.now c.args.schedule.now) ≡ Some c.in-Some.node =
     sym (choice_is (chip_of c.args.lab.now) c.args.ready.now c.args.schedule.now.turn.number c.requires.ready) ∙ sym c.in-Some.ensures.first in
     ((c.in-Some.node, who, c.in-Err.ensures.refused), stayed c.args.lab.now c.make.new.lab c.args.schedule.now c.make.new.schedule c.in-Err.ensures.same c.in-Err.ensures.stays)
 
@@ -56,39 +56,39 @@ first_held-requires-in-Ok-make-clause-counted c = all_counted_on c.args.until.no
 
 pub returns-in-Some-first_held-2-clause-over : goal.returns-in-Some-first_held-2-clause-over
 returns-in-Some-first_held-2-clause-over c =
-    let who : chosen (running c.args.lab.now c.args.schedule.now) ≡ Some c.in-Some.node =
+    let who : node_to_run (running c.args.lab.now c.args.schedule.now) ≡ Some c.in-Some.node =
     sym (choice_is (chip_of c.args.lab.now) c.args.ready.now c.args.schedule.now.turn.number c.requires.ready) ∙ sym c.in-Some.ensures.first in
     let here : Running = running c.args.lab.now c.args.schedule.now in
     let next : Running = running c.make-else-is_none.new.lab c.make-else-is_none.new.schedule in
-    let is : told here ≡ Some c.in-Ok-make.made = told_is c.args.lab.now c.args.schedule.now c.in-Some.node c.in-Ok-make.made who c.in-Ok-make.ensures.ok in
+    let is : next_made here ≡ Some c.in-Ok-make.made = told_is c.args.lab.now c.args.schedule.now c.in-Some.node c.in-Ok-make.made who c.in-Ok-make.ensures.ok in
     let on : next ≡ run_moved here = moved_is c.args.lab.now c.make-else-is_none.new.lab c.args.schedule.now c.make-else-is_none.new.schedule c.in-Some.node who c.in-Ok-make.ensures.state c.in-Ok-make.ensures.schedule in
     (is, held_is c.args.until.now here next c.in-Ok-make.made (Some c.in-Some-first_held-2.which) is on c.in-Some-first_held-2.ensures.first, on)
 
 pub returns-in_default-first_held-clause-made : goal.returns-in_default-first_held-clause-made
 returns-in_default-first_held-clause-made c =
-    let who : chosen (running c.args.lab.now c.args.schedule.now) ≡ Some c.in-Some.node =
+    let who : node_to_run (running c.args.lab.now c.args.schedule.now) ≡ Some c.in-Some.node =
     sym (choice_is (chip_of c.args.lab.now) c.args.ready.now c.args.schedule.now.turn.number c.requires.ready) ∙ sym c.in-Some.ensures.first in
     ap is_some (told_is c.args.lab.now c.args.schedule.now c.in-Some.node c.in-Ok-make.made who c.in-Ok-make.ensures.ok)
 
 pub returns-in_default-first_held-clause-unmet : goal.returns-in_default-first_held-clause-unmet
 returns-in_default-first_held-clause-unmet c =
-    let who : chosen (running c.args.lab.now c.args.schedule.now) ≡ Some c.in-Some.node =
+    let who : node_to_run (running c.args.lab.now c.args.schedule.now) ≡ Some c.in-Some.node =
     sym (choice_is (chip_of c.args.lab.now) c.args.ready.now c.args.schedule.now.turn.number c.requires.ready) ∙ sym c.in-Some.ensures.first in
     let here : Running = running c.args.lab.now c.args.schedule.now in
     let next : Running = running c.make-else-is_none.new.lab c.make-else-is_none.new.schedule in
-    let is : told here ≡ Some c.in-Ok-make.made = told_is c.args.lab.now c.args.schedule.now c.in-Some.node c.in-Ok-make.made who c.in-Ok-make.ensures.ok in
+    let is : next_made here ≡ Some c.in-Ok-make.made = told_is c.args.lab.now c.args.schedule.now c.in-Some.node c.in-Ok-make.made who c.in-Ok-make.ensures.ok in
     let on : next ≡ run_moved here = moved_is c.args.lab.now c.make-else-is_none.new.lab c.args.schedule.now c.make-else-is_none.new.schedule c.in-Some.node who c.in-Ok-make.ensures.state c.in-Ok-make.ensures.schedule in
     held_is c.args.until.now here next c.in-Ok-make.made None is on c.in_default-first_held.ensures.first
 
 pub returns-in_default-first_held-clause-moved : goal.returns-in_default-first_held-clause-moved
 returns-in_default-first_held-clause-moved c =
-    let who : chosen (running c.args.lab.now c.args.schedule.now) ≡ Some c.in-Some.node =
+    let who : node_to_run (running c.args.lab.now c.args.schedule.now) ≡ Some c.in-Some.node =
     sym (choice_is (chip_of c.args.lab.now) c.args.ready.now c.args.schedule.now.turn.number c.requires.ready) ∙ sym c.in-Some.ensures.first in
     moved_is c.args.lab.now c.make-else-is_none.new.lab c.args.schedule.now c.make-else-is_none.new.schedule c.in-Some.node who c.in-Ok-make.ensures.state c.in-Ok-make.ensures.schedule
 
 pub returns-in-Err-make-clause-over : goal.returns-in-Err-make-clause-over
 returns-in-Err-make-clause-over c =
-    let who : chosen (running c.args.lab.now c.args.schedule.now) ≡ Some c.in-Some.node =
+    let who : node_to_run (running c.args.lab.now c.args.schedule.now) ≡ Some c.in-Some.node =
     sym (choice_is (chip_of c.args.lab.now) c.args.ready.now c.args.schedule.now.turn.number c.requires.ready) ∙ sym c.in-Some.ensures.first in
     ((c.in-Some.node, who, c.in-Err-make.ensures.refused), stayed c.args.lab.now c.make-else-is_none.new.lab c.args.schedule.now c.make-else-is_none.new.schedule c.in-Err-make.ensures.same c.in-Err-make.ensures.stays)
 

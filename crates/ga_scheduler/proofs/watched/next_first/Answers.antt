@@ -1,7 +1,7 @@
 use Rattle.std.proofs.Common.{◌≡◌, ◌∙◌, true, false, Option, ap, sym, arith}
 use Rattle.ga_grid.specs.declared.node_id.NodeId.{NodeId}
 use Rattle.ga_lab.specs.Machine.{chip_of}
-use Rattle.ga_races.specs.Orders.{can_go}
+use Rattle.ga_races.specs.Orders.{has_event}
 use Rattle.ga_scheduler.specs.Running.{Running, running}
 use Rattle.ga_scheduler.specs.Watched.{chosen_first}
 use Rattle.ga_scheduler.proofs.Stepping.{choice_is, nothing_past}
@@ -15,7 +15,7 @@ pub returns-then-has-clause-chosen : goal.returns-then-has-clause-chosen
 returns-then-has-clause-chosen c =
     let r : Running = running c.args.lab.now c.args.schedule.now in
     let node : NodeId = c.in-Some.node in
-    let can : can_go (chip_of c.args.lab.now) node.number ≡ true =
+    let can : has_event (chip_of c.args.lab.now) node.number ≡ true =
     sym (c.requires.ready node.number (let l = node.in_range in omega arith)) ∙ sym c.has.ensures ∙ c.if-has.true in
     sym (ap (λ (f : Option NodeId). chosen_first f r) c.in-Some.is ∙ chosen_ready node r can)
 
@@ -23,7 +23,7 @@ pub returns-else-has-clause-chosen : goal.returns-else-has-clause-chosen
 returns-else-has-clause-chosen c =
     let r : Running = running c.args.lab.now c.args.schedule.now in
     let node : NodeId = c.in-Some.node in
-    let can : can_go (chip_of c.args.lab.now) node.number ≡ false =
+    let can : has_event (chip_of c.args.lab.now) node.number ≡ false =
     sym (c.requires.ready node.number (let l = node.in_range in omega arith)) ∙ sym c.has.ensures ∙ c.if-has.false in
     c.next_from.ensures.first
     ∙ choice_is (chip_of c.args.lab.now) c.args.ready.now c.args.schedule.now.turn.number c.requires.ready

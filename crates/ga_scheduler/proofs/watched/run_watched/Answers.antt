@@ -9,7 +9,7 @@ use Rattle.ga_scheduler.proofs.watched.run_watched.Goals as goal
 pub loop-events-preserved : goal.loop-events-preserved
 loop-events-preserved g c =
     let i = c.loop-events.invariant in
-    let by = watching c.args.first g.W.Watch.ends g.W.Watch.seen in
+    let by = watching c.args.first g.W.StopCondition.ends g.W.StopCondition.seen in
     let start : Running = running c.args.lab.now c.args.schedule in
     let here : Running = running c.loop-events.lab c.loop-events.schedule in
     let next : Running = running c.go.new.lab c.go.new.schedule in
@@ -52,13 +52,13 @@ returns-then-sees-clause-made g c =
 pub returns-then-sees-clause-watch : goal.returns-then-sees-clause-watch
 returns-then-sees-clause-watch g c =
     let i = c.loop-events.invariant in
-    seen_more (watching c.args.first g.W.Watch.ends g.W.Watch.seen) c.args.watch.now c.loop-events.watch c.sees.new.self (running c.args.lab.now c.args.schedule)
+    seen_more (watching c.args.first g.W.StopCondition.ends g.W.StopCondition.seen) c.args.watch.now c.loop-events.watch c.sees.new.self (running c.args.lab.now c.args.schedule)
     (running c.loop-events.lab c.loop-events.schedule) (running c.go.new.lab c.go.new.schedule) c.loop-events.events c.in-Ok.made i.watch i.at c.in-Ok.ensures.told c.in-Ok.ensures.moved c.sees.ensures.behind
 
 pub returns-then-sees-clause-end : goal.returns-then-sees-clause-end
 returns-then-sees-clause-end g c =
     let i = c.loop-events.invariant in
-    let by = watching c.args.first g.W.Watch.ends g.W.Watch.seen in
+    let by = watching c.args.first g.W.StopCondition.ends g.W.StopCondition.seen in
     let start : Running = running c.args.lab.now c.args.schedule in
     let here : Running = running c.loop-events.lab c.loop-events.schedule in
     let next : Running = running c.go.new.lab c.go.new.schedule in
@@ -73,7 +73,7 @@ returns-in-Err-clause-state g c =
 
 pub returns-in-Err-clause-end : goal.returns-in-Err-clause-end
 returns-in-Err-clause-end g c =
-    ended_halted_first (watching c.args.first g.W.Watch.ends g.W.Watch.seen) c.args.watch.now (running c.args.lab.now c.args.schedule) (running c.loop-events.lab c.loop-events.schedule)
+    ended_halted_first (watching c.args.first g.W.StopCondition.ends g.W.StopCondition.seen) c.args.watch.now (running c.args.lab.now c.args.schedule) (running c.loop-events.lab c.loop-events.schedule)
     c.args.most c.loop-events.events c.in-Err.end c.loop-events.invariant.at c.loop-events-test.true c.loop-events.invariant.never c.in-Err.ensures.halted
 
 pub returns-clause-state : goal.returns-clause-state

@@ -11,8 +11,8 @@ abbrev pub invariant-loop-events : goal.invariant-loop-events
 invariant-loop-events g l = record {
   at : running l.lab l.schedule ≡ after_first l.first (running l.initial.lab l.initial.schedule) l.events;
   made : AreMadeFirst l.first (running l.initial.lab l.initial.schedule) l.events;
-  watch : l.watch ≡ watch_after (watching l.first g.W.Watch.ends g.W.Watch.seen) l.initial.watch (running l.initial.lab l.initial.schedule) l.events;
-  never : NeverEnds (watching l.first g.W.Watch.ends g.W.Watch.seen) l.initial.watch (running l.initial.lab l.initial.schedule) l.events;
+  watch : l.watch ≡ watch_after (watching l.first g.W.StopCondition.ends g.W.StopCondition.seen) l.initial.watch (running l.initial.lab l.initial.schedule) l.events;
+  never : NeverEnds (watching l.first g.W.StopCondition.ends g.W.StopCondition.seen) l.initial.watch (running l.initial.lab l.initial.schedule) l.events;
   ready : HoldsReady (chip_of l.lab) l.ready;
   alone : IfSome l.alone (IsAlone l.ready);
   replays : IsSome (replay l.lab.load l.lab.kept);

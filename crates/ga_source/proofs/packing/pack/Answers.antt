@@ -2,7 +2,7 @@ use Rattle.std.proofs.Common.{rules, ◌≡◌, List, arith, ◌<◌, length, ta
 use Rattle.std.specs.Prelude.{Err}
 use Rattle.std.proofs.lemmas.List.{take_all, take_more, map-append}
 use Rattle.ga_source.specs.inner.{IsWalked, IsGrouped, requests_of, IsPackedPlain}
-use Rattle.ga_parser.specs.declared.item.Asked.{Asked}
+use Rattle.ga_parser.specs.declared.item.LocatedRequest.{LocatedRequest}
 use Rattle.ga_source.proofs.CellGroups.{none_packed, one_plain}
 use Rattle.ga_source.proofs.Marking.{walked_none, laid_out}
 use Rattle.ga_source.proofs.Grouped.{grouped_none, grouped}
@@ -19,7 +19,7 @@ loop-one-preserved c =
       walked = subst (IsWalked c.take.new.self) (sym (take_more c.args.asked.now c.loop-one.one-index _ l)) (c.in_ok-take.ensures.taken.walked (take c.loop-one.one-index c.args.asked.now) c.loop-one.invariant.walked);
       grouped = subst (IsGrouped c.take.new.self) (sym (take_more c.args.asked.now c.loop-one.one-index _ l)) (c.in_ok-take.ensures.taken.grouped (take c.loop-one.one-index c.args.asked.now) c.loop-one.invariant.walked c.loop-one.invariant.grouped);
       packed = λ plain.
-          subst (λ (list : List Asked). IsPackedPlain c.take.new.self (requests_of list)) (sym (take_more c.args.asked.now c.loop-one.one-index _ l))
+          subst (λ (list : List LocatedRequest). IsPackedPlain c.take.new.self (requests_of list)) (sym (take_more c.args.asked.now c.loop-one.one-index _ l))
           (subst (IsPackedPlain c.take.new.self) (sym (map-append (λ one. one.request) (take c.loop-one.one-index c.args.asked.now) _))
           (c.in_ok-take.ensures.packed (requests_of (take c.loop-one.one-index c.args.asked.now)) (one_plain c.args.asked.now c.loop-one.one-index _ l plain) (c.loop-one.invariant.packed plain)));
     }

@@ -1,6 +1,6 @@
 use Rattle.std.specs.Prelude.{Err}
 use Rattle.std.proofs.Common.{inl, inr, refl, rules, ◌≡◌, ◌∙◌, sym, ap, subst, List}
-use Rattle.ga_parser.specs.declared.item.Asked.{Asked}
+use Rattle.ga_parser.specs.declared.item.LocatedRequest.{LocatedRequest}
 use Rattle.ga_parser.specs.declared.item.Request.{Request}
 use Rattle.ga_parser.specs.declared.item.Registers.{Registers}
 use Rattle.ga_parser.specs.Plain.{Plain, value_in}
@@ -37,7 +37,7 @@ pub returns-in_err-packed-clause-refused : goal.returns-in_err-packed-clause-ref
 returns-in_err-packed-clause-refused c =
     let e : c.from_residual-in_err-packed.result ≡ Err c.in_err-packed.field-0.0 = search rules in
     rw e (λ plain kinds is free.
-    c.in_err-packed.ensures.refused (subst (λ (list : List Asked). ArePlain (requests_of list)) (sym c.as_slice.ensures.value)
+    c.in_err-packed.ensures.refused (subst (λ (list : List LocatedRequest). ArePlain (requests_of list)) (sym c.as_slice.ensures.value)
     (plain_requests (texts_of c.args.tokens.now) plain c.in_ok-asked.field-0.asked.items c.in_ok-asked.field-0.registers is (plain_told c.args.line c.args.tokens.now plain is c.in_ok-asked.field-0 c.in_ok-asked.ensures.asked).0)))
 
 pub returns-in_err-set_registers-clause-refused : goal.returns-in_err-set_registers-clause-refused
@@ -54,7 +54,7 @@ returns-in_err-load-clause-refused c =
     rw e (λ plain kinds is free.
     let asks = (plain_told c.args.line c.args.tokens.now plain is c.in_ok-asked.field-0 c.in_ok-asked.ensures.asked).0 in
     let same : plain.requests ≡ requests_of c.as_slice.result.now = ap (λ (p : Plain). p.requests) (sym asks) ∙ ap requests_of (sym c.as_slice.ensures.value) in
-    let are : ArePlain (requests_of c.as_slice.result.now) = subst (λ (list : List Asked). ArePlain (requests_of list)) (sym c.as_slice.ensures.value)
+    let are : ArePlain (requests_of c.as_slice.result.now) = subst (λ (list : List LocatedRequest). ArePlain (requests_of list)) (sym c.as_slice.ensures.value)
     (plain_requests (texts_of c.args.tokens.now) plain c.in_ok-asked.field-0.asked.items c.in_ok-asked.field-0.registers is asks) in
     absurd (c.in_err-load.ensures.refused (cells_from 0 (requests_of c.as_slice.result.now)) (c.in_ok-packed.ensures.cells are)
     (plain_words 0 (requests_of c.as_slice.result.now) are) (subst (λ (list : List Request). AreDistinctCells (cells_from 0 list)) same free)))

@@ -1,5 +1,5 @@
 use Rattle.std.proofs.Common.{ℕ, List, [], ◌++◌, ◌≡◌, take, drop, sym, ap, ◌∙◌, take-append-drop}
-use Rattle.ga_text.proofs.SaidLemmas.{said_cut, said_kept, said_written, said_same}
+use Rattle.ga_text.proofs.WriteLemmas.{said_cut, said_kept, said_written, said_same}
 use Rattle.ga_text.proofs.Taking.{no_bytes}
 use Rattle.ga_text.proofs.output.write_all.Goals as goal
 

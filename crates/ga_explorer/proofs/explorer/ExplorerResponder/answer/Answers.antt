@@ -1,18 +1,18 @@
 use Rattle.std.proofs.Common.{rules, subst}
 use Rattle.ga_console.specs.Session.{Turns}
 use Rattle.ga_explorer.specs.Answers.{Explores}
-use Rattle.ga_explorer.specs.Opening.{Exploring}
-use Rattle.ga_explorer.specs.inner.{exploring}
+use Rattle.ga_explorer.specs.Opening.{ExplorerState}
+use Rattle.ga_explorer.specs.inner.{explorer_state}
 use Rattle.ga_explorer.proofs.explorer.ExplorerResponder.answer.Goals as goal
 
 pub returns : goal.returns
 returns g c = (
   search rules,
   λ before said h.
-      let new = exploring c.answer_line.new.lab c.self.inside.notes in
+      let new = explorer_state c.answer_line.new.lab c.self.inside.notes in
       let done = c.answer_line.ensures.1 before said h in (
         done.0,
-        subst (λ (s : Exploring). Turns Explores s c.args.line.now new c.answer_line.result done.0) c.self.view_is done.1,
+        subst (λ (s : ExplorerState). Turns Explores s c.args.line.now new c.answer_line.result done.0) c.self.view_is done.1,
         done.2,
       ),
 )

@@ -5,8 +5,8 @@ use Rattle.ga_journal.proofs.Storing.{ended, pasts_own, last_is_below, last_coun
 use Rattle.ga_journal.proofs.Looking.{one_less}
 use Rattle.ga_journal.proofs.history.History.go_back.Goals as goal
 
-pub restore-requires : goal.restore-requires
-restore-requires c =
+pub undo_node-requires : goal.undo_node-requires
+undo_node-requires c =
     let es = c.self.inside.entries.items in
     let ps = c.self.inside.passes.items in
     let some : 0 < bound_of (map (past_in ps) es) = subst (λ (h : Held). 0 < bound_of h.items) (sym c.self.view_is) c.requires.some in
@@ -61,5 +61,5 @@ returns c =
           ∙ dropped_pasts (take (vec_len c.self.inside.entries - 1) es) c.index-entry.result.now ps c.drop_pass.new.passes.items whole.1.numbered c.drop_pass.ensures
           ∙ ap (λ z. map (past_in c.drop_pass.new.passes.items) z ++ past_in ps c.index-entry.result.now ∷ []) (sym c.pop.ensures.rest);
       part = sym c.act_of-act.ensures;
-      node = c.restore.ensures;
+      node = c.undo_node.ensures;
     }

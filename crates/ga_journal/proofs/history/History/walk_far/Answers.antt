@@ -5,10 +5,10 @@ use Rattle.ga_node.specs.Record.{NodeState}
 use Rattle.ga_node.specs.State.{restored, AreFit, IsApart}
 use Rattle.ga_event.specs.Undo.{CanRestore}
 use Rattle.ga_journal.specs.declared.entry.Entry.{Entry}
-use Rattle.ga_journal.specs.Histories.{Past}
+use Rattle.ga_journal.specs.Histories.{EntryRecord}
 use Rattle.ga_journal.specs.inner.Histories.{Held}
 use Rattle.ga_journal.specs.inner.Stored.{past_in}
-use Rattle.ga_journal.specs.Walked.{walked}
+use Rattle.ga_journal.specs.Walked.{walked_back}
 use Rattle.ga_journal.proofs.Storing.{slice_length, longer, left_before, read_last_left}
 use Rattle.ga_journal.proofs.Walks.{walked_one, can_one, can_later, walked_apart}
 use Rattle.ga_journal.proofs.history.History.walk_far.Goals.{After-into_iter-entry-iterator, In-Some, In-None}
@@ -35,7 +35,7 @@ loop-entry-init c =
     let some : length slice ≡ c.args.from - c.args.to = slice_length c.self.inside.passes.items c.self.inside.entries.items slice c.args.self.now.items c.args.from c.args.to (sym (ap (λ (held : Held). held.items) c.self.view_is)) c.requires.within (slice_is c) in
     record {
       rest = sym (take_all (length slice) slice (omega arith));
-      back = λ n. ap (restored n) c.new-gathered.ensures ∙ sym (ap (walked n) (drop_all (c.args.to + length slice) (take c.args.from c.args.self.now.items) (let long = length-take c.args.from c.args.self.now.items in omega (arith, long, some, c.requires.order))));
+      back = λ n. ap (restored n) c.new-gathered.ensures ∙ sym (ap (walked_back n) (drop_all (c.args.to + length slice) (take c.args.from c.args.self.now.items) (let long = length-take c.args.from c.args.self.now.items in omega (arith, long, some, c.requires.order))));
       fit = rw c.new-gathered.ensures tt;
     }
 
@@ -46,23 +46,23 @@ loop-entry-preserved c =
     let left : List Entry = c.loop-entry.entry-iterator.iter.rest.now in
     let rest : List Entry = c.next.new.self.iter.rest.now in
     let at : ℕ = c.args.to + length rest in
-    let e : Past = past_in c.self.inside.passes.items c.in-Some.entry.now in
+    let e : EntryRecord = past_in c.self.inside.passes.items c.in-Some.entry.now in
     let long : length left ≡ length rest + 1 = longer left rest c.in-Some.entry.now c.in-Some.ensures.steps in
     let one = found (goal.at.loop-entry-preserved c).In-Some in
     let next : c.args.to + length left ≡ at + 1 = omega (arith, long) in
-    let can : CanRestore (walked c.args.node.now (drop (at + 1) h)) e.saved = can_one c.args.node.now h at e one (can_later c.args.node.now h c.args.to at (omega arith) c.requires.can) in
+    let can : CanRestore (walked_back c.args.node.now (drop (at + 1) h)) e.saved = can_one c.args.node.now h at e one (can_later c.args.node.now h c.args.to at (omega arith) c.requires.can) in
     record {
       rest = left_before slice left rest c.in-Some.entry.now c.loop-entry.invariant.rest c.in-Some.ensures.steps;
-      back = λ n. c.add.ensures.back n ∙ ap (λ (z : NodeState). restored z e.saved) (c.loop-entry.invariant.back n ∙ ap (λ k. walked n (drop k h)) next) ∙ sym (walked_one n h at e one);
+      back = λ n. c.add.ensures.back n ∙ ap (λ (z : NodeState). restored z e.saved) (c.loop-entry.invariant.back n ∙ ap (λ k. walked_back n (drop k h)) next) ∙ sym (walked_one n h at e one);
       fit = c.add.ensures.fit c.loop-entry.invariant.fit can.fit;
     }
 
-pub take_back-requires-clause-apart : goal.take_back-requires-clause-apart
-take_back-requires-clause-apart c =
+pub resume_status-requires-clause-apart : goal.resume_status-requires-clause-apart
+resume_status-requires-clause-apart c =
     let none = c.in-None.ensures.steps.0 in
     let h = take c.args.from c.args.self.now.items in
     let end : c.args.to + length c.loop-entry.entry-iterator.iter.rest.now ≡ c.args.to = omega (arith, none) in
     subst IsApart (sym (c.write_back.ensures.back
-    ∙ ap (λ (n : NodeState). restored n c.loop-entry.gathered) c.set_aside-aside.ensures.same
-    ∙ c.loop-entry.invariant.back c.args.node.now ∙ ap (λ k. walked c.args.node.now (drop k h)) end))
-    (walked_apart c.args.node.now (drop c.args.to h) c.set_aside-aside.ensures.apart c.requires.can)
+    ∙ ap (λ (n : NodeState). restored n c.loop-entry.gathered) c.suspend_status-aside.ensures.same
+    ∙ c.loop-entry.invariant.back c.args.node.now ∙ ap (λ k. walked_back c.args.node.now (drop k h)) end))
+    (walked_apart c.args.node.now (drop c.args.to h) c.suspend_status-aside.ensures.apart c.requires.can)

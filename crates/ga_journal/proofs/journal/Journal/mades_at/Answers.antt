@@ -1,6 +1,6 @@
 use Rattle.std.proofs.Common.{◌≡◌, ◌∙◌, ◌<◌, ℕ, length, map, Some, All, IfOk, ap, sym, subst}
 use Rattle.ga_event.specs.Told.{made_in}
-use Rattle.ga_journal.specs.Histories.{Book}
+use Rattle.ga_journal.specs.Histories.{JournalState}
 use Rattle.ga_journal.specs.inner.Histories.{lists_of}
 use Rattle.ga_journal.specs.Events.{kept_of}
 use Rattle.ga_journal.specs.Logs.{IsWhole}
@@ -14,15 +14,15 @@ recall_all-requires-clause-fits c n = fits c.self.inside.histories c.self.inside
 
 pub recall_all-requires-clause-walk : goal.recall_all-requires-clause-walk
 recall_all-requires-clause-walk c =
-    let whole : IsWhole (lists_of c.self.inside.histories) c.self.inside.made = subst (λ (b : Book). IsWhole b.histories b.made) (sym c.self.view_is) c.requires.whole in
+    let whole : IsWhole (lists_of c.self.inside.histories) c.self.inside.made = subst (λ (b : JournalState). IsWhole b.histories b.made) (sym c.self.view_is) c.requires.whole in
     let w : WalkOf c.self.inside.histories c.self.inside.top c.self.inside.made c.self.inside.kept = walk_of c.self.inside.histories c.self.inside.top c.self.inside.made c.self.inside.kept c.self.inside.limit c.self.invariant.keeps whole in
     (w.log, w.long, w.below)
 
 pub returns-clause-ok : goal.returns-clause-ok
 returns-clause-ok c =
-    let whole : IsWhole (lists_of c.self.inside.histories) c.self.inside.made = subst (λ (b : Book). IsWhole b.histories b.made) (sym c.self.view_is) c.requires.whole in
+    let whole : IsWhole (lists_of c.self.inside.histories) c.self.inside.made = subst (λ (b : JournalState). IsWhole b.histories b.made) (sym c.self.view_is) c.requires.whole in
     let w : WalkOf c.self.inside.histories c.self.inside.top c.self.inside.made c.self.inside.kept = walk_of c.self.inside.histories c.self.inside.top c.self.inside.made c.self.inside.kept c.self.inside.limit c.self.invariant.keeps whole in
-    let count : length (kept_of c.args.self.now) ≡ c.self.inside.kept = ap (λ (b : Book). length (kept_of b)) (sym c.self.view_is) ∙ sym c.self.invariant.keeps.count in
-    subst (λ (b : Book). IfOk c.recall_all.result (λ list. map Some list.items ≡ map (made_in (kept_of b)) c.args.places.now)) c.self.view_is
+    let count : length (kept_of c.args.self.now) ≡ c.self.inside.kept = ap (λ (b : JournalState). length (kept_of b)) (sym c.self.view_is) ∙ sym c.self.invariant.keeps.count in
+    subst (λ (b : JournalState). IfOk c.recall_all.result (λ list. map Some list.items ≡ map (made_in (kept_of b)) c.args.places.now)) c.self.view_is
     (placed c.recall_all.result c.self.inside.histories c.self.inside.top c.self.inside.made c.self.inside.kept c.args.places.now w
     (subst (λ (n : ℕ). All (λ (place : ℕ). place < n) c.args.places.now) count c.requires.within) c.recall_all.ensures.ok)

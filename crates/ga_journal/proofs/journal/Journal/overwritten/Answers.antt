@@ -1,5 +1,5 @@
 use Rattle.std.proofs.Common.{◌∙◌, List, ap}
-use Rattle.ga_journal.specs.Histories.{Book, Past, history}
+use Rattle.ga_journal.specs.Histories.{JournalState, EntryRecord, history}
 use Rattle.ga_journal.specs.Walked.{overwritten}
 use Rattle.ga_journal.proofs.Cutting.{history_read}
 use Rattle.ga_journal.proofs.journal.Journal.overwritten.Goals as goal
@@ -8,5 +8,5 @@ pub returns : goal.returns
 returns c =
     let read = history_read _ c.args.node.number c.at.result.now (rw c.at.ensures.size c.args.node.in_range) c.at.ensures.value in
     c.overwritten.ensures
-    ∙ ap (λ (h : List Past). overwritten h c.args.at c.args.what) read
-    ∙ ap (λ (b : Book). overwritten (history b.histories c.args.node.number) c.args.at c.args.what) c.self.view_is
+    ∙ ap (λ (h : List EntryRecord). overwritten h c.args.at c.args.what) read
+    ∙ ap (λ (b : JournalState). overwritten (history b.histories c.args.node.number) c.args.at c.args.what) c.self.view_is

@@ -1,5 +1,5 @@
 use Rattle.std.proofs.Common.{◌≡◌, ℕ, get_or, sym, ap, subst, []}
-use Rattle.ga_journal.specs.Histories.{Book}
+use Rattle.ga_journal.specs.Histories.{JournalState}
 use Rattle.ga_journal.specs.inner.Histories.{lists_of, room_of, IsTopmost}
 use Rattle.ga_journal.specs.Events.{kept_of}
 use Rattle.ga_journal.specs.Logs.{Records, IsWhole}
@@ -11,17 +11,17 @@ use Rattle.ga_journal.proofs.journal.Journal.undo.Goals as goal
 
 pub returns-then-self-eq0-clause-none : goal.returns-then-self-eq0-clause-none
 returns-then-self-eq0-clause-none c =
-    subst (λ (b : Book). kept_of b ≡ []) c.self.view_is (none_kept c.self.inside.histories c.self.inside.top c.self.inside.made c.self.inside.kept c.self.inside.limit c.self.invariant.keeps c.if-self-eq0.true)
+    subst (λ (b : JournalState). kept_of b ≡ []) c.self.view_is (none_kept c.self.inside.histories c.self.inside.top c.self.inside.made c.self.inside.kept c.self.inside.limit c.self.invariant.keeps c.if-self-eq0.true)
 
 pub last_stamp-stamp-requires : goal.last_stamp-stamp-requires
 last_stamp-stamp-requires c =
-    let back : TakesBack c.args.chip.now (lists_of c.self.inside.histories) c.self.inside.made = subst (λ (b : Book). TakesBack c.args.chip.now b.histories b.made) (sym c.self.view_is) c.requires.back in
+    let back : TakesBack c.args.chip.now (lists_of c.self.inside.histories) c.self.inside.made = subst (λ (b : JournalState). TakesBack c.args.chip.now b.histories b.made) (sym c.self.view_is) c.requires.back in
     (topmost_kept c.self.inside.histories c.self.inside.top c.self.inside.made c.self.inside.kept c.self.inside.limit c.newest-node.result.number c.self.invariant.keeps (record { log = back.log; records = back.records }) c.if-self-eq0.false c.newest-node.ensures).some
 
 pub invariant_of-self : goal.invariant_of-self
 invariant_of-self c =
-    let back : TakesBack c.args.chip.now (lists_of c.self.inside.histories) c.self.inside.made = subst (λ (b : Book). TakesBack c.args.chip.now b.histories b.made) (sym c.self.view_is) c.requires.back in
-    let settled : (n : ℕ) → get_or c.self.inside.going n 0 ≡ 0 = subst (λ (b : Book). (n : ℕ) → get_or b.going n 0 ≡ 0) (sym c.self.view_is) c.requires.rest.settled in
+    let back : TakesBack c.args.chip.now (lists_of c.self.inside.histories) c.self.inside.made = subst (λ (b : JournalState). TakesBack c.args.chip.now b.histories b.made) (sym c.self.view_is) c.requires.back in
+    let settled : (n : ℕ) → get_or c.self.inside.going n 0 ≡ 0 = subst (λ (b : JournalState). (n : ℕ) → get_or b.going n 0 ≡ 0) (sym c.self.view_is) c.requires.rest.settled in
     let out = c.undo_event.ensures.undone in
     let top : IsTopmost (lists_of c.self.inside.histories) c.newest-node.result.number = topmost_kept c.self.inside.histories c.self.inside.top c.self.inside.made c.self.inside.kept c.self.inside.limit c.newest-node.result.number c.self.invariant.keeps (record { log = back.log; records = back.records }) c.if-self-eq0.false c.newest-node.ensures in
     let newest = out.newest back.log c.self.inside.made back.records in
@@ -43,14 +43,14 @@ returns-clause-some c =
     record {
       effect = out.effect;
       popped = popped_by c.args.self.now _ c.undo_event.result out.effect whole
-          (λ log made r. out.newest log made (subst (λ (b : Book). Records log b.histories made) (sym c.self.view_is) r))
-          (ap (λ (b : Book). let n : Book = record { histories = lists_of c.undo_event.new.self; limit = b.limit; made = b.made; ready = room_of c.undo_event.new.self; going = b.going; waiting = b.waiting; ticks = b.ticks } in n) c.self.view_is);
+          (λ log made r. out.newest log made (subst (λ (b : JournalState). Records log b.histories made) (sym c.self.view_is) r))
+          (ap (λ (b : JournalState). let n : JournalState = record { histories = lists_of c.undo_event.new.self; limit = b.limit; made = b.made; ready = room_of c.undo_event.new.self; going = b.going; waiting = b.waiting; ticks = b.ticks } in n) c.self.view_is);
       chip_is = out.chip_is;
     }
 
 pub returns-clause-whole : goal.returns-clause-whole
 returns-clause-whole c =
-    let back : TakesBack c.args.chip.now (lists_of c.self.inside.histories) c.self.inside.made = subst (λ (b : Book). TakesBack c.args.chip.now b.histories b.made) (sym c.self.view_is) c.requires.back in
+    let back : TakesBack c.args.chip.now (lists_of c.self.inside.histories) c.self.inside.made = subst (λ (b : JournalState). TakesBack c.args.chip.now b.histories b.made) (sym c.self.view_is) c.requires.back in
     let out = c.undo_event.ensures.undone in
     whole_less back.log (lists_of c.self.inside.histories) (lists_of c.undo_event.new.self) c.self.inside.made c.undo_event.result out.effect
     back.records (out.newest back.log c.self.inside.made back.records)

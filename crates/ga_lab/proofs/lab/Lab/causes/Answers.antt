@@ -3,7 +3,7 @@ use Rattle.std.proofs.lemmas.List.{length-map}
 use Rattle.ga_event.specs.declared.event.Cause.{Cause}
 use Rattle.ga_lab.specs.Machine.{State, causes_of}
 use Rattle.ga_lab.proofs.Replays.{IsReplayed, causes_tied, replayed_tied}
-use Rattle.ga_lab.proofs.Explaining.{stands_place}
+use Rattle.ga_lab.proofs.Explaining.{step_has_position}
 use Rattle.ga_lab.proofs.lab.Lab.causes.Goals as goal
 
 pub returns-in-Ok-clause-ok : goal.returns-in-Ok-clause-ok
@@ -23,8 +23,8 @@ returns-in-Err-clause-size c =
 
 pub returns-in-Ok-clause-places : goal.returns-in-Ok-clause-places
 returns-in-Ok-clause-places c n k =
-    stands_place c.args.self.now n k (subst IsReplayed c.self.view_is (replayed_tied c.self.inside.chip c.self.inside.chronicle.journal c.self.invariant.tied))
+    step_has_position c.args.self.now n k (subst IsReplayed c.self.view_is (replayed_tied c.self.inside.chip c.self.inside.chronicle.journal c.self.invariant.tied))
 
 pub returns-in-Err-clause-places : goal.returns-in-Err-clause-places
 returns-in-Err-clause-places c n k =
-    stands_place c.args.self.now n k (subst IsReplayed c.self.view_is (replayed_tied c.self.inside.chip c.self.inside.chronicle.journal c.self.invariant.tied))
+    step_has_position c.args.self.now n k (subst IsReplayed c.self.view_is (replayed_tied c.self.inside.chip c.self.inside.chronicle.journal c.self.invariant.tied))

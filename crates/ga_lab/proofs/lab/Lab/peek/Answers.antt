@@ -7,9 +7,9 @@ use Rattle.ga_grid.specs.Chip.{record_at}
 use Rattle.ga_event.specs.Apply.{replay}
 use Rattle.ga_journal.specs.Histories.{history}
 use Rattle.ga_event.specs.Told.{steps_of}
-use Rattle.ga_journal.specs.Walked.{walked, CanWalk}
+use Rattle.ga_journal.specs.Walked.{walked_back, CanWalk}
 use Rattle.ga_lab.specs.Machine.{State, chip_of, earlier}
-use Rattle.ga_lab.specs.inner.Tied.{state_of}
+use Rattle.ga_lab.specs.inner.LabInvariant.{state_of}
 use Rattle.ga_lab.proofs.Stepping.{whole_of}
 use Rattle.ga_lab.proofs.Replays.{can_peek, replays_earlier, peeked, kept_steps, none_past, some_within}
 use Rattle.ga_lab.proofs.lab.Lab.peek.Goals as goal
@@ -25,8 +25,8 @@ returns-clause-value c =
     subst (λ (s : State). (place : ℕ) → steps_of c.args.node.number (take place s.kept) ≡ c.args.step → record_of c.walk_back.new.now ≡ record_at (chip_of (earlier s place)) c.args.node.number) c.self.view_is
     (λ place so_many. peeked c.self.inside.chip c.self.inside.chronicle.journal c.args.node.number place c.args.step c.walk_back.new.now c.self.invariant.tied so_many
     (c.walk_back.ensures
-    ∙ ap (λ h. walked c.copy-then.result (drop c.args.step h)) (take_all c.steps_of-steps.result (history c.self.inside.chronicle.journal.histories c.args.node.number) (omega (arith, c.steps_of-steps.ensures.value)))
-    ∙ ap (λ (z : NodeState). walked z (drop c.args.step (history c.self.inside.chronicle.journal.histories c.args.node.number))) (c.copy-then.ensures ∙ c.node.ensures.value)))
+    ∙ ap (λ h. walked_back c.copy-then.result (drop c.args.step h)) (take_all c.steps_of-steps.result (history c.self.inside.chronicle.journal.histories c.args.node.number) (omega (arith, c.steps_of-steps.ensures.value)))
+    ∙ ap (λ (z : NodeState). walked_back z (drop c.args.step (history c.self.inside.chronicle.journal.histories c.args.node.number))) (c.copy-then.ensures ∙ c.node.ensures.value)))
 
 pub returns-clause-replays : goal.returns-clause-replays
 returns-clause-replays c =

@@ -1,6 +1,6 @@
 use Rattle.std.proofs.Common.{sym, ◌∙◌, ap, subst}
 use Rattle.ga_journal.specs.Logs.{IsSince}
-use Rattle.ga_lab.specs.Machine.{State, stands, causes_of}
+use Rattle.ga_lab.specs.Machine.{State, has_step, causes_of}
 use Rattle.ga_lab.proofs.Explaining.{stands_counted, stands_kept}
 use Rattle.ga_lab.proofs.Replays.{causes_tied}
 use Rattle.ga_lab.proofs.lab.Lab.since.Goals as goal
@@ -11,7 +11,7 @@ causes_since-requires-clause-counted c = stands_counted c.args.self.now c.args.f
 pub causes_since-requires-clause-stands : goal.causes_since-requires-clause-stands
 causes_since-requires-clause-stands c =
     stands_kept c.self.inside.chip c.self.inside.chronicle.journal c.args.from.0.number c.args.from.1
-    (ap (λ (s : State). stands s c.args.from.0.number c.args.from.1) c.self.view_is ∙ c.requires)
+    (ap (λ (s : State). has_step s c.args.from.0.number c.args.from.1) c.self.view_is ∙ c.requires)
 
 pub returns-in-Ok-clause-ok : goal.returns-in-Ok-clause-ok
 returns-in-Ok-clause-ok c =

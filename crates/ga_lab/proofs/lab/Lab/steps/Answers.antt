@@ -3,7 +3,7 @@ use Rattle.ga_event.specs.Told.{steps_of, mades_of}
 use Rattle.ga_journal.specs.Histories.{history}
 use Rattle.ga_journal.proofs.Telling.{mades_log, entries_long}
 use Rattle.ga_lab.specs.Machine.{State, history_of}
-use Rattle.ga_lab.specs.inner.Tied.{state_of}
+use Rattle.ga_lab.specs.inner.LabInvariant.{state_of}
 use Rattle.ga_lab.proofs.Stepping.{whole_of}
 use Rattle.ga_lab.proofs.Replays.{kept_steps, told_tied}
 use Rattle.ga_lab.proofs.lab.Lab.steps.Goals as goal

@@ -4,8 +4,8 @@ use Rattle.std.specs.Prelude.{drop}
 use Rattle.ga_node.specs.Record.{NodeState}
 use Rattle.ga_event.specs.Told.{steps_of}
 use Rattle.ga_journal.specs.Histories.{history}
-use Rattle.ga_journal.specs.Walked.{walked, CanWalk}
-use Rattle.ga_lab.specs.Machine.{State, standing}
+use Rattle.ga_journal.specs.Walked.{walked_back, CanWalk}
+use Rattle.ga_lab.specs.Machine.{State, node_at_step}
 use Rattle.ga_lab.proofs.Stepping.{whole_of}
 use Rattle.ga_lab.proofs.Replays.{can_peek, kept_steps}
 use Rattle.ga_lab.proofs.lab.Lab.walk.Goals as goal
@@ -34,9 +34,9 @@ invariant_of-result c =
       lab = c.self.invariant;
       within = omega (arith, many, c.requires, c.steps_of-steps.ensures.value);
       walked_to = c.walk_back.ensures
-          ∙ ap (λ h. walked c.copy-copy.result (drop c.args.step h)) (take_all c.steps_of-steps.result (history book.histories c.args.node.number) (omega (arith, c.steps_of-steps.ensures.value)))
-          ∙ ap (λ (z : NodeState). walked z (drop c.args.step (history book.histories c.args.node.number))) (c.copy-copy.ensures ∙ c.node.ensures.value);
+          ∙ ap (λ h. walked_back c.copy-copy.result (drop c.args.step h)) (take_all c.steps_of-steps.result (history book.histories c.args.node.number) (omega (arith, c.steps_of-steps.ensures.value)))
+          ∙ ap (λ (z : NodeState). walked_back z (drop c.args.step (history book.histories c.args.node.number))) (c.copy-copy.ensures ∙ c.node.ensures.value);
     }
 
 pub returns : goal.returns
-returns c = ap (λ (s : State). standing s c.args.node c.args.step) c.self.view_is
+returns c = ap (λ (s : State). node_at_step s c.args.node c.args.step) c.self.view_is

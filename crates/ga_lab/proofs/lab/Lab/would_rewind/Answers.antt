@@ -1,14 +1,14 @@
 use Rattle.std.proofs.Common.{◌≡◌, ℕ, ◌+◌, ◌<◌, length, Ok, Err, sym, ◌∙◌, ap, arith, subst}
 use Rattle.std.proofs.lemmas.Bool.{both_ways}
 use Rattle.std.specs.Prelude.{Result, slice_index}
-use Rattle.ga_journal.specs.Histories.{Book}
+use Rattle.ga_journal.specs.Histories.{JournalState}
 use Rattle.ga_journal.specs.Events.{kept_of}
 use Rattle.ga_event.specs.Told.{steps_of}
 use Rattle.ga_rollback.specs.declared.rollback.RollbackFault.{RollbackFault}
-use Rattle.ga_rollback.specs.declared.forecast.Going.{Going}
+use Rattle.ga_rollback.specs.declared.forecast.RollbackForecast.{RollbackForecast}
 use Rattle.ga_lab.specs.declared.fault.LabFault.{LabFault}
 use Rattle.ga_lab.specs.declared.fault.LabFault.TheVariants.{NoStep}
-use Rattle.ga_lab.specs.Machine.{State, stands, rewound, rewind_answer}
+use Rattle.ga_lab.specs.Machine.{State, has_step, rewound, rewind_answer}
 use Rattle.ga_lab.proofs.Rewinding.{only_fault, stands_yes, stands_no, entries_fit, answer_refused, lab_anew, state_anew, answer_foretold, steps_foretold, state_ticked, if_ok, if_err, ok_if, err_if}
 use Rattle.ga_lab.proofs.lab.Lab.would_rewind.Goals.{in-Ok, in-Err-NoStep}
 use Rattle.ga_lab.proofs.lab.Lab.would_rewind.Goals as goal
@@ -18,8 +18,8 @@ would_rewind-requires-clause-fits c =
     let book = c.count_anew.new.self.journal in
     let lab = lab_anew c.self.inside.chip c.self.inside.chronicle.journal book c.count_anew.ensures c.self.invariant in
     let short : length (kept_of c.self.inside.chronicle.journal) < 4294967296 = (let v = c.kept-kept.ensures.value in let r : c.kept-kept.result < 4294967296 = c.kept-kept.type_inv in omega arith) in
-    let same : length (kept_of book) ≡ length (kept_of c.self.inside.chronicle.journal) = ap (λ (b : Book). length (kept_of b)) c.count_anew.ensures in
-    let none : book.ticks.count ≡ 0 = ap (λ (b : Book). b.ticks.count) c.count_anew.ensures in
+    let same : length (kept_of book) ≡ length (kept_of c.self.inside.chronicle.journal) = ap (λ (b : JournalState). length (kept_of b)) c.count_anew.ensures in
+    let none : book.ticks.count ≡ 0 = ap (λ (b : JournalState). b.ticks.count) c.count_anew.ensures in
     let a = entries_fit c.self.inside.chip book lab (omega arith) in
     omega arith
 
@@ -28,7 +28,7 @@ returns-clause-answer c =
     let book = c.count_anew.new.self.journal in
     let lab = lab_anew c.self.inside.chip c.self.inside.chronicle.journal book c.count_anew.ensures c.self.invariant in
     let view = state_anew c.self.inside.chip c.self.inside.chronicle.journal book c.count_anew.ensures ∙ c.self.view_is in
-    let P : Going → Type 0 = λ going. rewind_answer c.args.self.now c.args.node.number c.args.step ≡ Ok going.events in
+    let P : RollbackForecast → Type 0 = λ going. rewind_answer c.args.self.now c.args.node.number c.args.step ≡ Ok going.events in
     elim c.match-would_rewind.branch [
       | in-Ok w ↦ if_ok P _ w.in-Ok.going w.result-is
           (ap (λ z. rewind_answer z c.args.node.number c.args.step) (sym view)
@@ -41,7 +41,7 @@ returns-clause-steps c =
     let book = c.count_anew.new.self.journal in
     let lab = lab_anew c.self.inside.chip c.self.inside.chronicle.journal book c.count_anew.ensures c.self.invariant in
     let view = state_anew c.self.inside.chip c.self.inside.chronicle.journal book c.count_anew.ensures ∙ c.self.view_is in
-    let P : Going → Type 0 = λ going. (m : ℕ) → slice_index going.steps m + steps_of m (rewound c.args.self.now c.args.node.number c.args.step).kept ≡ steps_of m c.args.self.now.kept in
+    let P : RollbackForecast → Type 0 = λ going. (m : ℕ) → slice_index going.steps m + steps_of m (rewound c.args.self.now c.args.node.number c.args.step).kept ≡ steps_of m c.args.self.now.kept in
     elim c.match-would_rewind.branch [
       | in-Ok w ↦ if_ok P _ w.in-Ok.going w.result-is
           (subst (λ (s : State). (m : ℕ) → slice_index w.in-Ok.going.steps m + steps_of m (rewound s c.args.node.number c.args.step).kept ≡ steps_of m s.kept) view
@@ -59,7 +59,7 @@ returns-clause-err c =
       | in-Ok w ↦ err_if P _ w.in-Ok.going w.result-is
       | in-Err-NoStep w ↦ if_err P _ NoStep w.result-is
           (ap (λ z. rewind_answer z c.args.node.number c.args.step) (sym view)
-          ∙ sym (answer_refused c.self.inside.chip book c.args.node.number c.args.step lab.tied (w.in-Err-NoStep.ensures.refused.0 (ap (λ (f : RollbackFault). let r : Result Going RollbackFault = Err f in r) (only_fault w.in-Err-NoStep.field-0)))))
+          ∙ sym (answer_refused c.self.inside.chip book c.args.node.number c.args.step lab.tied (w.in-Err-NoStep.ensures.refused.0 (ap (λ (f : RollbackFault). let r : Result RollbackForecast RollbackFault = Err f in r) (only_fault w.in-Err-NoStep.field-0)))))
     ]
 
 pub returns-clause-same : goal.returns-clause-same
@@ -74,12 +74,12 @@ returns-clause-refused c =
     let view = state_anew c.self.inside.chip c.self.inside.chronicle.journal book c.count_anew.ensures ∙ c.self.view_is in
     elim c.match-would_rewind.branch [
       | in-Ok w ↦ (
-        λ e. let q : (let r : Result Going LabFault = Ok w.in-Ok.going in r) ≡ Err NoStep = sym w.result-is ∙ e in absurd (cc),
-        λ f. absurd (both_ways (stands c.args.self.now c.args.node.number c.args.step) f
-            (ap (λ (s : State). stands s c.args.node.number c.args.step) (sym view) ∙ stands_yes c.self.inside.chip book c.args.node.number c.args.step w.in-Ok.ensures.ok.stands)),
+        λ e. let q : (let r : Result RollbackForecast LabFault = Ok w.in-Ok.going in r) ≡ Err NoStep = sym w.result-is ∙ e in absurd (cc),
+        λ f. absurd (both_ways (has_step c.args.self.now c.args.node.number c.args.step) f
+            (ap (λ (s : State). has_step s c.args.node.number c.args.step) (sym view) ∙ stands_yes c.self.inside.chip book c.args.node.number c.args.step w.in-Ok.ensures.ok.stands)),
       )
       | in-Err-NoStep w ↦ (
-        λ e. ap (λ (s : State). stands s c.args.node.number c.args.step) (sym view) ∙ stands_no c.self.inside.chip book c.args.node.number c.args.step (w.in-Err-NoStep.ensures.refused.0 (ap (λ (f : RollbackFault). let r : Result Going RollbackFault = Err f in r) (only_fault w.in-Err-NoStep.field-0))),
+        λ e. ap (λ (s : State). has_step s c.args.node.number c.args.step) (sym view) ∙ stands_no c.self.inside.chip book c.args.node.number c.args.step (w.in-Err-NoStep.ensures.refused.0 (ap (λ (f : RollbackFault). let r : Result RollbackForecast RollbackFault = Err f in r) (only_fault w.in-Err-NoStep.field-0))),
         λ f. w.result-is,
       )
     ]

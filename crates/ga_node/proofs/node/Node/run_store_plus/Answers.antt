@@ -1,6 +1,6 @@
 use Rattle.std.proofs.Common.{refl, rules}
 use Rattle.ga_node.specs.Record.{record_of}
-use Rattle.ga_node.specs.Table.{does}
+use Rattle.ga_node.specs.Table.{opcode_effect}
 use Rattle.ga_node.specs.inner.Saving.{IsEndedBy}
 use Rattle.ga_slots.specs.declared.op.Op.TheVariants.{StorePlus}
 use Rattle.ga_node.specs.State.{restored}
@@ -9,7 +9,7 @@ use Rattle.ga_node.proofs.node.Node.run_store_plus.Goals as goal
 
 pub returns-in_err-write-clause-ended : goal.returns-in_err-write-clause-ended
 returns-in_err-write-clause-ended c =
-    let ended : IsEndedBy (does StorePlus (record_of c.args.self.now)) c.in_err-write.field-0.0 c.args.self.now c.write.new.self c.write.new.saved =
+    let ended : IsEndedBy (opcode_effect StorePlus (record_of c.args.self.now)) c.in_err-write.field-0.0 c.args.self.now c.write.new.self c.write.new.saved =
     ended_followed _ _ _ _ _ _ (rw (c.get.ensures.value, c.a-a.ensures) at c.in_err-write.ensures.ended) in
     search (rules, ended)
 

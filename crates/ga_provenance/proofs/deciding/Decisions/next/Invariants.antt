@@ -1,12 +1,12 @@
 use Rattle.std.proofs.Common.{◌≡◌}
-use Rattle.ga_lab.specs.Machine.{standing}
+use Rattle.ga_lab.specs.Machine.{node_at_step}
 use Rattle.ga_provenance.specs.Deciding.{newest_decided}
 use Rattle.ga_provenance.proofs.deciding.Decisions.next.Given as goal
 
 -- no value decided the steps so far
 abbrev pub invariant-going : goal.invariant-going
 invariant-going l = record {
-  same : l.self ≡ standing l.fn.self.machine l.fn.self.node l.self.step;
+  same : l.self ≡ node_at_step l.fn.self.machine l.fn.self.node l.self.step;
   newest : newest_decided l.fn.self.machine l.fn.self.node l.self.step ≡ newest_decided l.fn.self.machine l.fn.self.node l.fn.self.step;
 }
 

@@ -2,7 +2,7 @@ use Rattle.std.proofs.Common.{◌∙◌, ap}
 use Rattle.ga_lab.specs.Machine.{chip_of}
 use Rattle.ga_event.specs.declared.event.Event.{Event}
 use Rattle.ga_event.specs.Touches.{touches}
-use Rattle.ga_races.proofs.Frees.{touches_own}
+use Rattle.ga_races.proofs.Independence.{touches_own}
 use Rattle.ga_race_detector.proofs.Acting.{before_node, own_stood, own_changes}
 use Rattle.ga_race_detector.proofs.acts.Behind.back_own.Goals as goal
 

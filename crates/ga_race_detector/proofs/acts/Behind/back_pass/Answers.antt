@@ -4,7 +4,7 @@ use Rattle.ga_lab.specs.Machine.{chip_of}
 use Rattle.ga_node.specs.State.{IsWaitCode}
 use Rattle.ga_event.specs.declared.event.Event.{Event}
 use Rattle.ga_event.specs.Touches.{touches}
-use Rattle.ga_races.proofs.Frees.{touches_writer, touches_reader}
+use Rattle.ga_races.proofs.Independence.{touches_writer, touches_reader}
 use Rattle.ga_race_detector.proofs.Acting.{before_node, ends_apart, pass_stood, pass_changes}
 use Rattle.ga_race_detector.proofs.acts.Behind.back_pass.Goals as goal
 

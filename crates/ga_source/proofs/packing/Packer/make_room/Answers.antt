@@ -1,6 +1,6 @@
 use Rattle.std.proofs.Common.{rules, ◌≡◌, ◌∙◌, ap, sym, true, false, ◌∷◌, []}
 use Rattle.ga_source.specs.Reading.{fits, next_cell}
-use Rattle.ga_parser.specs.declared.item.Asked.{Asked}
+use Rattle.ga_parser.specs.declared.item.LocatedRequest.{LocatedRequest}
 use Rattle.ga_parser.specs.declared.item.Request.TheVariants.{Put}
 use Rattle.ga_source.specs.Cells.{placed_at}
 use Rattle.ga_source.proofs.Laying.{fits-extends, here-fits, next-fits}
@@ -24,7 +24,7 @@ returns-then-fits-clause-putting c =
     let p = c.args.self.now in
     let has : fits p.labels.items p.spot c.args.item ≡ true = search rules in
     λ before line known w g.
-    let one : Asked = record { line = line; request = Put c.args.item } in
+    let one : LocatedRequest = record { line = line; request = Put c.args.item } in
     putting_here p before one c.args.item
     (λ labels more. ap (λ spot. placed_at spot c.args.item line ∷ []) (here-fits labels p.spot c.args.item (fits-extends p.labels.items labels p.spot c.args.item more known ∙ has))) w g
 
@@ -34,7 +34,7 @@ returns-clause-putting c =
     let none : fits p.labels.items p.spot c.args.item ≡ false = search rules in
     let is_next = c.next_cell-next.ensures.value ∙ ap next_cell c.in_ok-close.ensures.closed.spot_stays in
     λ before line known w g.
-    let one : Asked = record { line = line; request = Put c.args.item } in
+    let one : LocatedRequest = record { line = line; request = Put c.args.item } in
     putting_next p c.close.new.self c.next_cell-next.result before one c.args.item
     (λ labels more. ap (λ spot. placed_at spot c.args.item line ∷ []) (next-fits labels p.spot c.args.item (fits-extends p.labels.items labels p.spot c.args.item more known ∙ none) ∙ sym is_next))
     w g c.in_ok-close.ensures.closed c.in_ok-close.ensures.gathered

@@ -1,6 +1,6 @@
 use Rattle.std.proofs.Common.{rules, ◌++◌, ◌∷◌, [], sym, subst}
 use Rattle.std.proofs.lemmas.Bool.{both_ways}
-use Rattle.ga_parser.specs.declared.item.Asked.{Asked}
+use Rattle.ga_parser.specs.declared.item.LocatedRequest.{LocatedRequest}
 use Rattle.ga_parser.specs.declared.item.Request.TheVariants.{Put}
 use Rattle.ga_source.specs.inner.{IsKnown, IsWalked, IsGrouped, IsPackedPlain}
 use Rattle.ga_source.proofs.CellGroups.{cell_fits}
@@ -10,13 +10,13 @@ use Rattle.ga_source.proofs.packing.Packer.put.Goals as goal
 pub returns-clause-taken : goal.returns-clause-taken
 returns-clause-taken c =
     let known : IsKnown c.args.self.now.labels.items c.args.item = search rules in
-    let one : Asked = record { line = c.args.asked.line; request = Put c.args.item } in
+    let one : LocatedRequest = record { line = c.args.asked.line; request = Put c.args.item } in
     let same = sym (of_request c.args.asked (Put c.args.item) c.requires.put) in
     record {
       cell = c.in_ok-add.ensures.cell;
-      walked = λ before w. subst (λ (asked : Asked). IsWalked c.add.new.self (before ++ asked ∷ [])) same
+      walked = λ before w. subst (λ (asked : LocatedRequest). IsWalked c.add.new.self (before ++ asked ∷ [])) same
           (c.in_ok-add.ensures.walked (before ++ one ∷ []) (c.in_ok-make_room.ensures.pending before c.args.asked.line known w));
-      grouped = λ before w g. subst (λ (asked : Asked). IsGrouped c.add.new.self (before ++ asked ∷ [])) same
+      grouped = λ before w g. subst (λ (asked : LocatedRequest). IsGrouped c.add.new.self (before ++ asked ∷ [])) same
           (c.in_ok-add.ensures.grouped (before ++ one ∷ []) (c.in_ok-make_room.ensures.putting before c.args.asked.line known w g));
     }
 

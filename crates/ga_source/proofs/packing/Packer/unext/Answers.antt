@@ -1,5 +1,5 @@
 use Rattle.std.proofs.Common.{◌++◌, ◌∷◌, [], sym, subst, refl}
-use Rattle.ga_parser.specs.declared.item.Asked.{Asked}
+use Rattle.ga_parser.specs.declared.item.LocatedRequest.{LocatedRequest}
 use Rattle.ga_parser.specs.declared.item.Request.TheVariants.{Unext}
 use Rattle.ga_source.specs.declared.packing.Packer.{Packer}
 use Rattle.ga_source.specs.inner.{IsWalked, IsGrouped}
@@ -11,13 +11,13 @@ pub returns : goal.returns
 returns c =
     let self = c.args.self.now in
     let marked : Packer = record self { broken = c.broken_by-broken.result } in
-    let one : Asked = record { line = c.args.asked.line; request = Unext c.args.label } in
+    let one : LocatedRequest = record { line = c.args.asked.line; request = Unext c.args.label } in
     let same = sym (of_request c.args.asked (Unext c.args.label) c.requires.unext) in
     record {
       cell = c.in_ok-add.ensures.cell;
-      walked = λ before w. subst (λ (asked : Asked). IsWalked c.add.new.self (before ++ asked ∷ [])) same
+      walked = λ before w. subst (λ (asked : LocatedRequest). IsWalked c.add.new.self (before ++ asked ∷ [])) same
           (c.in_ok-add.ensures.walked (before ++ one ∷ []) (pending_unext self marked before c.args.asked.line c.args.label
           (λ e. let parts = c.broken_by-broken.ensures e in (parts.0, c.is_loop-is_loop.ensures parts.1)) refl refl refl refl w));
-      grouped = λ before w g. subst (λ (asked : Asked). IsGrouped c.add.new.self (before ++ asked ∷ [])) same
+      grouped = λ before w g. subst (λ (asked : LocatedRequest). IsGrouped c.add.new.self (before ++ asked ∷ [])) same
           (c.in_ok-add.ensures.grouped (before ++ one ∷ []) (putting_unext self marked before c.args.asked.line c.args.label refl refl refl refl refl w g));
     }

@@ -1,24 +1,24 @@
 use Rattle.std.proofs.Common.{◌≡◌, ◌-◌, ◌↔◌, sym, ◌∙◌, ap, subst}
 use Rattle.std.specs.Prelude.{IsNone}
-use Rattle.ga_journal.specs.Histories.{Untold}
-use Rattle.ga_lab.specs.Machine.{Telling, told_before}
-use Rattle.ga_lab.specs.inner.Tied.{IsLab}
+use Rattle.ga_journal.specs.Histories.{BackwardModel}
+use Rattle.ga_lab.specs.Machine.{BackwardState, made_before}
+use Rattle.ga_lab.specs.inner.LabInvariant.{IsLab}
 use Rattle.ga_lab.specs.inner.Walking.{telling_of}
 use Rattle.ga_lab.proofs.Replays.{told_is}
 use Rattle.ga_lab.proofs.lab.backward.Backward.back.Goals as goal
 
 pub invariant_of-self : goal.invariant_of-self
-invariant_of-self c = subst (λ (w : Untold). IsLab c.self.inside.chip.now w.book) (sym c.back.ensures.left) c.self.invariant
+invariant_of-self c = subst (λ (w : BackwardModel). IsLab c.self.inside.chip.now w.book) (sym c.back.ensures.left) c.self.invariant
 
 pub returns-clause-told : goal.returns-clause-told
 returns-clause-told c =
     told_is c.self.inside.chip.now c.self.inside.walk.book c.self.inside.walk.place c.back.result c.self.invariant.tied c.back.ensures.some c.back.ensures.none
-    ∙ ap (λ (t : Telling). told_before t.machine t.place) c.self.view_is
+    ∙ ap (λ (t : BackwardState). made_before t.machine t.place) c.self.view_is
 
 pub returns-clause-none : goal.returns-clause-none
-returns-clause-none c = subst (λ (t : Telling). IsNone c.back.result ↔ (t.place ≡ 0)) c.self.view_is c.back.ensures.none
+returns-clause-none c = subst (λ (t : BackwardState). IsNone c.back.result ↔ (t.place ≡ 0)) c.self.view_is c.back.ensures.none
 
 pub returns-clause-left : goal.returns-clause-left
 returns-clause-left c =
-    ap (λ (w : Untold). telling_of c.self.inside.chip.now w) c.back.ensures.left
-    ∙ ap (λ (t : Telling). record t { place = t.place - 1 }) c.self.view_is
+    ap (λ (w : BackwardModel). telling_of c.self.inside.chip.now w) c.back.ensures.left
+    ∙ ap (λ (t : BackwardState). record t { place = t.place - 1 }) c.self.view_is

@@ -1,0 +1,14 @@
+use Rattle.std.proofs.Common.{◌≡◌, ◌≤◌, ◌*◌, ◌/◌, ◌%◌}
+use Rattle.ga_debug_info.specs.Source.{nearest_found}
+use Rattle.ga_debug_info.specs.inner.{label_at}
+use Rattle.ga_debug_info.proofs.label.LastLabels.before.Given as goal
+
+abbrev pub invariant-loop-behind : goal.invariant-loop-behind
+invariant-loop-behind l = record {
+  first : l.first ≡ l.cell / 64 * 64;
+  low : l.behind ≤ l.cell % 64;
+  same : nearest_found (label_at l.self.labels) l.first l.behind ≡ nearest_found (label_at l.self.labels) l.first (l.cell % 64);
+}
+
+abbrev pub decreases-loop-behind : goal.decreases-loop-behind
+decreases-loop-behind l = l.behind

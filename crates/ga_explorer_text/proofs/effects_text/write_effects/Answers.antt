@@ -1,0 +1,25 @@
+use Rattle.std.proofs.Common.{rules}
+use Rattle.ga_explorer_text.proofs.Saying.{effects_found, effects_refused}
+use Rattle.ga_explorer_text.proofs.effects_text.write_effects.Goals as goal
+
+pub returns-in-Ok-clause-said : goal.returns-in-Ok-clause-said
+returns-in-Ok-clause-said g c = (
+  search rules,
+  λ before said h.
+      let done = c.say_found.ensures.1 before said h in (
+        done.0,
+        effects_found c.args.lab.now c.args.node c.args.step c.in-Ok.effects.events c.in-Ok.effects.nodes.items done.0
+            c.in-Ok.ensures.events c.in-Ok.ensures.nodes done.1,
+        done.2,
+      ),
+)
+
+pub returns-in-Err-clause-said : goal.returns-in-Err-clause-said
+returns-in-Err-clause-said g c = (
+  search rules,
+  λ before said h. (
+    c.advised_text.result.now,
+    effects_refused c.args.lab.now c.args.node c.args.step c.in-Err.fault c.advised_text.result.now c.in-Err.ensures.err c.advised_text.ensures.text,
+    c.write_text.ensures.1 before said h,
+  ),
+)

@@ -1,0 +1,54 @@
+use Rattle.std.proofs.Common.{rules, ℕ, List, [], ◌++◌, refl, ap, arith}
+use Rattle.std.specs.Prelude.{flat_map}
+use Rattle.ga_text.proofs.WriteLemmas.{truncated_here, written_pending}
+use Rattle.ga_explorer_text.specs.Trees.{tree_row_text}
+use Rattle.ga_explorer_text.proofs.Saying.{line_written, line_truncated, all_said, rest_lines, no_lines}
+use Rattle.ga_explorer_text.proofs.source_suffix.StepContext.say_lines.Goals as goal
+
+pub rows-init : goal.rows-init
+rows-init g c = (search rules, λ before said h. record { front = []; splits = refl; is_said = written_pending _ before said _ h })
+
+pub returns-in_err-say_row : goal.returns-in_err-say_row
+returns-in_err-say_row g c = (
+  search rules,
+  λ before said h.
+      let rows = c.args.rows.now in
+      let line = tree_row_text c.args.self.now.notes.now c.args.self.now.lab.now c.args.deeper in
+      let whole : List ℕ = flat_map line rows in
+      let i : ℕ = c.rows.row-index in
+      let done = c.rows.invariant.1 before said h in
+      let text = line c.row-item.result in
+      let more = rest_lines line rows i c.row-item.result text (omega arith) (ap line c.row-item.is) in (
+        whole,
+        refl,
+        truncated_here c.from_residual.result _ before (said ++ whole) _ c.from_residual.ensures.0
+            (line_truncated _ before said whole _ text _ done.front more done.splits (c.in_err-say_row.ensures.1 before (said ++ done.front) done.is_said)),
+      ),
+)
+
+pub rows-preserved : goal.rows-preserved
+rows-preserved g c = (
+  search rules,
+  λ before said h.
+      let rows = c.args.rows.now in
+      let line = tree_row_text c.args.self.now.notes.now c.args.self.now.lab.now c.args.deeper in
+      let i : ℕ = c.rows.row-index in
+      let done = c.rows.invariant.1 before said h in
+      let text = line c.row-item.result in
+      let more = rest_lines line rows i c.row-item.result text (omega arith) (ap line c.row-item.is) in
+      line_written _ before said (flat_map line rows) _ text _ done.front _ more done.splits
+      (c.in_ok-say_row.ensures.1 before (said ++ done.front) done.is_said),
+)
+
+pub returns : goal.returns
+returns g c = (
+  search rules,
+  λ before said h.
+      let rows = c.args.rows.now in
+      let line = tree_row_text c.args.self.now.notes.now c.args.self.now.lab.now c.args.deeper in
+      let whole : List ℕ = flat_map line rows in (
+        whole,
+        refl,
+        all_said _ before said whole _ _ (no_lines line rows c.rows.row-index (omega arith)) (c.rows.invariant.1 before said h),
+      ),
+)

@@ -1,0 +1,53 @@
+use Rattle.std.proofs.Common.{rules, ◌≡◌, Some, sym, ap, ◌∙◌, inl, inr, subst}
+use Rattle.ga_lab.specs.Machine.{NodeAtStep}
+use Rattle.ga_provenance.specs.Asked.{queried_value}
+use Rattle.ga_provenance.proofs.Made.{has_step_so}
+use Rattle.ga_explorer_text.specs.Trees.{TellsAsked, head_text}
+use Rattle.ga_explorer_text.proofs.whence_text.write_whence.Goals as goal
+
+pub returns-then-not-has_step : goal.returns-then-not-has_step
+returns-then-not-has_step g c = (
+  search rules,
+  λ before said h. (
+    c.refusal_text.result.now,
+    inl (sym c.has_step.ensures.value ∙ c.if-not-has_step.true, c.refusal_text.ensures.text),
+    c.write_text.ensures.1 before said h,
+  ),
+)
+
+pub queried_value_at-requires : goal.queried_value_at-requires
+queried_value_at-requires g c = has_step_so c.args.lab.now c.args.node c.args.step c.new-here.result.near c.new-here.ensures.near
+
+pub returns-in-Some : goal.returns-in-Some
+returns-in-Some g c = (
+  search rules,
+  λ before said h.
+      let s = c.args.lab.now in
+      let done = c.say_asked.ensures.1 before said h in
+      let at : c.new-here.result.near.step ≡ c.args.step = ap (λ (z : NodeAtStep). z.step) c.new-here.ensures.near in
+      let told : TellsAsked c.args.notes.now s c.args.node c.args.step (Some c.in-Some.value) done.0 = rw (c.new-here.ensures.notes, c.new-here.ensures.lab, c.new-here.ensures.node, at) at done.1 in (
+        done.0,
+        inr (
+          sym c.has_step.ensures.value ∙ c.if-not-has_step.false,
+          subst (λ v. TellsAsked c.args.notes.now s c.args.node c.args.step v done.0) (c.in-Some.ensures.value ∙ ap (queried_value s c.args.node) at) told,
+        ),
+        done.2,
+      ),
+)
+
+pub returns-in-None : goal.returns-in-None
+returns-in-None g c = (
+  search rules,
+  λ before said h.
+      let s = c.args.lab.now in
+      let done = c.say_head.ensures.1 before said h in
+      let at : c.new-here.result.near.step ≡ c.args.step = ap (λ (z : NodeAtStep). z.step) c.new-here.ensures.near in
+      let told : done.0 ≡ head_text c.args.notes.now s c.args.node c.args.step = rw (c.new-here.ensures.notes, c.new-here.ensures.lab, c.new-here.ensures.node, at) at done.1 in (
+        done.0,
+        inr (
+          sym c.has_step.ensures.value ∙ c.if-not-has_step.false,
+          subst (λ v. TellsAsked c.args.notes.now s c.args.node c.args.step v done.0) (c.in-None.ensures.value ∙ ap (queried_value s c.args.node) at) told,
+        ),
+        done.2,
+      ),
+)

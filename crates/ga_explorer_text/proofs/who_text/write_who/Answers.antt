@@ -1,0 +1,90 @@
+use Rattle.std.proofs.Common.{rules, ℕ, List, ◌++◌, refl, ◌∙◌}
+use Rattle.ga_grid.specs.Chip.{records_of}
+use Rattle.ga_causal.specs.Dependence.{is_marked}
+use Rattle.ga_text.proofs.WriteLemmas.{truncated_here, truncated_within, cut_assoc, said_assoc}
+use Rattle.ga_explorer_text.specs.Waiting.{stuck_text, all_rings, idle_text}
+use Rattle.ga_explorer_text.proofs.Saying.{joined_written, who_told}
+use Rattle.ga_explorer_text.proofs.who_text.write_who.Goals as goal
+
+pub returns-in_err-say_waiting : goal.returns-in_err-say_waiting
+returns-in_err-say_waiting g c = (
+  search rules,
+  λ before said h.
+      let done = c.in_err-say_waiting.ensures.1 before said h in
+      let chip = records_of c.chip-chip.result.now in
+      let marks = is_marked c.find_deadlocked-stuck.result in
+      let idle = is_marked c.find_idle-idle.result in
+      let second : List ℕ = stuck_text marks idle in
+      let third : List ℕ = all_rings chip marks in
+      let last : List ℕ = idle_text idle in (
+        done.0 ++ second ++ third ++ last,
+        who_told c.args.lab.now chip marks idle done.0 second third last c.chip-chip.ensures.value c.find_deadlocked-stuck.ensures.stuck c.find_deadlocked-stuck.ensures.greatest
+            c.find_idle-idle.ensures done.1 refl refl refl,
+        truncated_here c.from_residual.result _ before (said ++ (done.0 ++ second ++ third ++ last)) _ c.from_residual.ensures.0
+            (truncated_within _ before said (done.0 ++ second ++ third) last (done.0 ++ second ++ third ++ last) refl
+            (truncated_within _ before said (done.0 ++ second) third (done.0 ++ second ++ third) refl
+            (truncated_within _ before said done.0 second (done.0 ++ second) refl done.2))),
+      ),
+)
+
+pub returns-in_err-write_blocks : goal.returns-in_err-write_blocks
+returns-in_err-write_blocks g c = (
+  search rules,
+  λ before said h.
+      let done = c.in_ok-say_waiting.ensures.1 before said h in
+      let chip = records_of c.chip-chip.result.now in
+      let marks = is_marked c.find_deadlocked-stuck.result in
+      let idle = is_marked c.find_idle-idle.result in
+      let second = c.as_slice.result.now in
+      let third : List ℕ = all_rings chip marks in
+      let last : List ℕ = idle_text idle in (
+        done.0 ++ second ++ third ++ last,
+        who_told c.args.lab.now chip marks idle done.0 second third last c.chip-chip.ensures.value c.find_deadlocked-stuck.ensures.stuck c.find_deadlocked-stuck.ensures.greatest
+            c.find_idle-idle.ensures done.1 (c.as_slice.ensures.value ∙ c.stuck_line.ensures) refl refl,
+        truncated_here c.from_residual-in_err-write_blocks.result _ before (said ++ (done.0 ++ second ++ third ++ last)) _ c.from_residual-in_err-write_blocks.ensures.0
+            (truncated_within _ before said (done.0 ++ second ++ third) last (done.0 ++ second ++ third ++ last) refl
+            (truncated_within _ before said (done.0 ++ second) third (done.0 ++ second ++ third) refl
+            (cut_assoc _ before said done.0 second (c.in_err-write_blocks.ensures.1 before (said ++ done.0) done.2)))),
+      ),
+)
+
+pub returns-in_err-write_wait_cycles : goal.returns-in_err-write_wait_cycles
+returns-in_err-write_wait_cycles g c = (
+  search rules,
+  λ before said h.
+      let done = c.in_ok-say_waiting.ensures.1 before said h in
+      let chip = records_of c.chip-chip.result.now in
+      let marks = is_marked c.find_deadlocked-stuck.result in
+      let idle = is_marked c.find_idle-idle.result in
+      let second = c.as_slice.result.now in
+      let both = said_assoc _ before said done.0 second _ (c.in_ok-write_blocks.ensures.1 before (said ++ done.0) done.2) in
+      let third = c.in_err-write_wait_cycles.ensures.1 before (said ++ (done.0 ++ second)) both in
+      let last : List ℕ = idle_text idle in (
+        done.0 ++ second ++ third.0 ++ last,
+        who_told c.args.lab.now chip marks idle done.0 second third.0 last c.chip-chip.ensures.value c.find_deadlocked-stuck.ensures.stuck c.find_deadlocked-stuck.ensures.greatest
+            c.find_idle-idle.ensures done.1 (c.as_slice.ensures.value ∙ c.stuck_line.ensures) third.1 refl,
+        truncated_here c.from_residual-in_err-write_wait_cycles.result _ before (said ++ (done.0 ++ second ++ third.0 ++ last)) _ c.from_residual-in_err-write_wait_cycles.ensures.0
+            (truncated_within _ before said (done.0 ++ second ++ third.0) last (done.0 ++ second ++ third.0 ++ last) refl
+            (cut_assoc _ before said (done.0 ++ second) third.0 third.2)),
+      ),
+)
+
+pub returns : goal.returns
+returns g c = (
+  search rules,
+  λ before said h.
+      let done = c.in_ok-say_waiting.ensures.1 before said h in
+      let chip = records_of c.chip-chip.result.now in
+      let marks = is_marked c.find_deadlocked-stuck.result in
+      let idle = is_marked c.find_idle-idle.result in
+      let second = c.as_slice.result.now in
+      let both = said_assoc _ before said done.0 second _ (c.in_ok-write_blocks.ensures.1 before (said ++ done.0) done.2) in
+      let third = c.in_ok-write_wait_cycles.ensures.1 before (said ++ (done.0 ++ second)) both in
+      let all = said_assoc _ before said (done.0 ++ second) third.0 _ third.2 in
+      let last = c.as_slice-2.result.now in (
+        done.0 ++ second ++ third.0 ++ last,
+        who_told c.args.lab.now chip marks idle done.0 second third.0 last c.chip-chip.ensures.value c.find_deadlocked-stuck.ensures.stuck c.find_deadlocked-stuck.ensures.greatest
+            c.find_idle-idle.ensures done.1 (c.as_slice.ensures.value ∙ c.stuck_line.ensures) third.1 (c.as_slice-2.ensures.value ∙ c.idle_line.ensures),
+        joined_written c.write_blocks-2.result _ before said (done.0 ++ second ++ third.0) last _ (c.write_blocks-2.ensures.1 before (said ++ (done.0 ++ second ++ third.0)) all),
+      ),
+)

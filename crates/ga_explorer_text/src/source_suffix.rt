@@ -1,0 +1,223 @@
+//! What the source has for cells and slots, at the end of the lines that name them.
+
+ghost use Rattle.std.specs.Prelude.{◌≡◌, ◌≤◌};
+ghost use Rattle.ga_node.specs.Record.{record_of};
+ghost use Rattle.ga_event.specs.Told.{steps_of};
+ghost use Rattle.ga_lab.specs.Machine.{node_at_step};
+ghost use Rattle.ga_provenance.specs.Origins.{node_after};
+ghost use Rattle.ga_text.specs.Output.{WritesExactly};
+ghost use Rattle.ga_explorer_text.specs.SourceSuffix.{noted_cell, noted_slot as noted_slot_of, tail_text, part_cell};
+
+use ga_debug_info::DebugInfo;
+use ga_event::Part;
+use ga_grid::NodeId;
+use ga_lab::{Lab, Walk};
+use ga_node::{Node, Place};
+use ga_provenance::{Value, fetched_cell_at};
+use ga_text::{WriteResult, Writer};
+use std::io::Write;
+
+/// The slot of a fetch.
+const FETCH: usize = 4;
+
+/// What the source says of a cell.
+fn noted(notes: &Option<DebugInfo>, node: NodeId, cell: Option<u8>) -> &[u8]
+    ensures { result.now ≡ noted_cell notes.now node cell }
+{
+    match notes {
+        Some(notes) => notes.text_of(node, cell),
+        None => &[],
+    }
+}
+
+/// What it says of a slot of the cell.
+fn noted_slot(notes: &Option<DebugInfo>, node: NodeId, cell: Option<u8>, slot: usize) -> &[u8]
+    ensures { result.now ≡ noted_slot_of notes.now node cell slot }
+{
+    match notes {
+        Some(notes) => {
+            if notes.is_truncated(node, cell) {
+                notes.slot_text(node, cell, slot)
+            } else {
+                &[]
+            }
+        }
+        None => &[],
+    }
+}
+
+/// The cell that a part of a node is.
+fn part_cell(part: Part) -> Option<u8>
+    ensures { result ≡ part_cell part }
+{
+    match part {
+        Part::Ram(cell) => Some(cell),
+        Part::Rom(cell) => Some(128 + cell % 64),
+        _ => None,
+    }
+}
+
+/// The slot of a node.
+#[tactic(auto, unfolding(ga_node::specs::Record::record_of))]
+fn slot_of(node: &Node) -> u32
+    ensures { result ≡ (record_of node.now).slot }
+{
+    node.get(Place::Slot)
+}
+
+/// Says what the source says of a slot of a cell, and ends the line.
+fn say_tail<W: Write>(
+    notes: &Option<DebugInfo>,
+    node: NodeId,
+    cell: Option<u8>,
+    slot: usize,
+    writer: &mut Writer<'_, W>,
+) -> WriteResult
+    ensures { WritesExactly result (tail_text notes.now node cell slot) W.contents writer.old writer.new }
+{
+    writer.write_blocks(noted(notes, node, cell))?;
+    writer.write_blocks(noted_slot(notes, node, cell, slot))?;
+    writer.write_text(b"\n")
+}
+
+/// The slot of a node that is walked back to its first `place` steps.
+fn walked_slot(lab: &Lab, node: NodeId, place: u32, walk: &Walk<'_>) -> u32
+    requires within { place ≤ steps_of node.number lab.now.kept }
+    requires walk { walk.now ≡ node_at_step lab.now node place }
+    ensures { result ≡ (node_after lab.now node.number place).slot }
+{
+    slot_of(walk.node())
+}
+
+/// A lab, the debug info of its cells, and a node that is walked back to one of its steps, from which neighbouring steps are
+/// found.
+#[derive(Drop)]
+pub(crate) struct StepContext<'l> {
+    pub lab: &'l Lab,
+    pub notes: &'l Option<DebugInfo>,
+    pub node: NodeId,
+    pub near: Walk<'l>,
+    ghost stands: { near ≡ node_at_step lab.now node near.step },
+}
+
+impl<'l> StepContext<'l> {
+    ghost use Rattle.std.specs.Prelude.{◌≡◌, ◌≤◌, ℕ};
+    ghost use Rattle.ga_event.specs.Told.{steps_of};
+    ghost use Rattle.ga_lab.specs.Machine.{node_at_step};
+    ghost use Rattle.ga_text.specs.Output.{WritesExactly};
+    ghost use Rattle.ga_provenance.specs.Fetched.{fetched_cell as cell_fetched};
+    ghost use Rattle.ga_provenance.specs.Origins.{node_after};
+    ghost use Rattle.ga_explorer_text.specs.SourceSuffix.{noted_text, slot_before, step_tail, value_tail};
+
+    /// An outlook from a node that is walked back to its step.
+    pub fn new(lab: &'l Lab, notes: &'l Option<DebugInfo>, node: NodeId, step: u32) -> Self
+        requires { step ≤ steps_of node.number lab.now.kept }
+        ensures lab { result.lab.now ≡ lab.now }
+        ensures notes { result.notes.now ≡ notes.now }
+        ensures node { result.node ≡ node }
+        ensures near { result.near ≡ node_at_step lab.now node step }
+    {
+        StepContext {
+            lab,
+            notes,
+            node,
+            near: lab.walk(node, step),
+        }
+    }
+
+    /// The slot after the first `place` steps of a node, which is walked back there: from here, if this is the same node and
+    /// not earlier, else from its newest step.
+    fn slot_near(&self, node: NodeId, place: u32) -> u32
+        requires { place ≤ steps_of node.number self.now.lab.now.kept }
+        ensures { result ≡ (node_after self.now.lab.now node.number place).slot }
+    {
+        if self.node == node && place <= self.near.step() {
+            let mut walk = self.near.copy();
+            walk.back_to(place);
+            walked_slot(self.lab, node, place, &walk)
+        } else {
+            walked_slot(self.lab, node, place, &self.lab.walk(node, place))
+        }
+    }
+
+    /// The slot that was next before a step.
+    fn before_step(&self, node: NodeId, step: u32) -> usize
+        ensures { result ≡ slot_before self.now.lab.now node step }
+    {
+        let place = step.saturating_sub(1).min(self.lab.steps(node));
+        self.slot_near(node, place) as usize
+    }
+
+    /// The slot that was next before a step, if the source has slots of the cell; else that before a fetch.
+    fn step_slot(&self, node: NodeId, step: u32, cell: Option<u8>) -> usize
+        ensures { noted_text self.now.notes.now node cell result ≡ noted_text self.now.notes.now node cell (slot_before self.now.lab.now node step) }
+    {
+        match self.notes {
+            Some(notes) => {
+                if notes.is_truncated(node, cell) {
+                    self.before_step(node, step)
+                } else {
+                    FETCH
+                }
+            }
+            None => FETCH,
+        }
+    }
+
+    /// The cell from which the instruction word of a step was fetched, where the source says something of cells.
+    fn step_cell(&self, node: NodeId, step: u32) -> Option<u8>
+        ensures { (slot : ℕ) → noted_text self.now.notes.now node result slot
+            ≡ noted_text self.now.notes.now node (cell_fetched self.now.lab.now node step) slot }
+    {
+        match self.notes {
+            Some(_) => fetched_cell_at(self.lab, &self.near, self.node, node, step),
+            None => None,
+        }
+    }
+
+    /// Ends a line about a step.
+    ///
+    /// # Errors
+    /// A write failed.
+    pub fn write_step_suffix<W: Write>(
+        &self,
+        node: NodeId,
+        step: u32,
+        writer: &mut Writer<'_, W>,
+    ) -> WriteResult
+        ensures { WritesExactly result (step_tail self.now.notes.now self.now.lab.now node step) W.contents writer.old writer.new }
+    {
+        let cell = self.step_cell(node, step);
+        let slot = self.step_slot(node, step, cell);
+        say_tail(self.notes, node, cell, slot, writer)
+    }
+
+    /// Ends a line about the step to which the node is walked back.
+    ///
+    /// # Errors
+    /// A write failed.
+    pub fn say_own_tail<W: Write>(&self, writer: &mut Writer<'_, W>) -> WriteResult
+        ensures { WritesExactly result (step_tail self.now.notes.now self.now.lab.now self.now.node self.now.near.step) W.contents writer.old writer.new }
+    {
+        self.write_step_suffix(self.node, self.near.step(), writer)
+    }
+
+    /// Ends a line about a value: that of the step that made it, or of the cell where it was loaded.
+    ///
+    /// # Errors
+    /// A write failed.
+    pub fn write_value_suffix<W: Write>(
+        &self,
+        value: Value,
+        writer: &mut Writer<'_, W>,
+    ) -> WriteResult
+        ensures { WritesExactly result (value_tail self.now.notes.now self.now.lab.now value) W.contents writer.old writer.new }
+    {
+        if value.step == 0 {
+            let cell = part_cell(value.part);
+            say_tail(self.notes, value.node, cell, FETCH, writer)
+        } else {
+            self.write_step_suffix(value.node, value.step, writer)
+        }
+    }
+}

@@ -1,0 +1,15 @@
+use Rattle.std.proofs.Common.{ℕ, List, refl, sym, ◌∙◌}
+use Rattle.ga_console.proofs.RunLemmas.{written_fresh, all_sent}
+use Rattle.ga_picture.proofs.follow.write_refusal.Goals as goal
+
+pub returns-in-Ok : goal.returns-in-Ok
+returns-in-Ok g c = λ before held.
+    let text : List ℕ = c.refusal_text.result.now in
+    let done = c.in-Ok.ensures before text (written_fresh _ before text text held refl) in
+    (done.sent, done.held, all_sent _ before text done ∙ c.refusal_text.ensures.text)
+
+pub returns-in-Err : goal.returns-in-Err
+returns-in-Err g c = λ before held.
+    let text : List ℕ = c.refusal_text.result.now in
+    let done = c.in-Err.ensures before text (written_fresh _ before text text held refl) in
+    (done.sent, done.held, (done.front.0, sym c.refusal_text.ensures.text ∙ done.front.1))

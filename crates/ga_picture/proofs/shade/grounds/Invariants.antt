@@ -1,8 +1,0 @@
-use Rattle.std.proofs.Common.{◌-◌}
-use Rattle.ga_causal.specs.Dependence.{is_marked}
-use Rattle.ga_picture.proofs.Shaded.{AreGrounds}
-use Rattle.ga_picture.proofs.shade.grounds.Given as goal
-
--- the events from here on are looked at
-abbrev pub invariant-events : goal.invariant-events
-invariant-events l = AreGrounds l.events l.place (l.place - l.back) l.flags.items (is_marked l.wanted)

@@ -1,5 +1,0 @@
-use Rattle.ga_race_detector.proofs.Offering.{no_next}
-use Rattle.ga_race_detector.proofs.laws.ends.Goals as goal
-
-pub returns : goal.returns
-returns c = no_next

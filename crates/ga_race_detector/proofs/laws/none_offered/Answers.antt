@@ -1,5 +1,0 @@
-use Rattle.ga_race_detector.proofs.Offering.{no_race_kept}
-use Rattle.ga_race_detector.proofs.laws.none_offered.Goals as goal
-
-pub returns : goal.returns
-returns c = no_race_kept

@@ -1,0 +1,145 @@
+//! What a node could have taken in place of the word that it took.
+
+ghost use Rattle.std.specs.Prelude.{◌≡◌, ◌↔◌, ◌+◌, ◌<◌, ◌≤◌, ◌^◌, ℕ, true, false, take, slice_index, Some, Err, IfSome, IfOk, IfErr};
+ghost use Rattle.ga_node.specs.Record.{record_of};
+ghost use Rattle.ga_grid.specs.Chip.{record_at};
+ghost use Rattle.ga_event.specs.Told.{steps_of};
+ghost use Rattle.ga_lab.specs.Machine.{chip_of, causes_of, earlier, rewound, rewind_answer, has_step};
+ghost use Rattle.ga_grid.specs.Grid.{neighbour_of};
+ghost use Rattle.ga_event.specs.Apply.{replay, reads_from};
+ghost use Rattle.ga_causal.specs.Dependence.{rewound_list};
+ghost use Rattle.ga_causal.specs.Steps.{touching};
+ghost use Rattle.ga_race_detector.specs.Races.{alternative_word, word_offered_to};
+ghost use Rattle.ga_race_detector.specs.inner.Writers.{posted, word_between};
+
+use ga_event::{is_reading, is_writing};
+use ga_grid::{NodeId, neighbour};
+use ga_lab::{Lab, LabFault, Made};
+use ga_node::Node;
+use ga_ports::Side;
+use ga_rollback::Visited;
+
+// The node as a rollback would leave it that removes its number of steps in `steps`.
+pub(crate) fn behind(lab: &Lab, steps: &Visited, node: NodeId) -> Node
+    requires { slice_index steps.now node.number ≤ steps_of node.number lab.now.kept }
+    ensures value { (place : ℕ) → steps_of node.number (take place lab.now.kept) + slice_index steps.now node.number ≡ steps_of node.number lab.now.kept →
+        record_of result ≡ record_at (chip_of (earlier lab.now place)) node.number }
+    ensures replays { (place : ℕ) → replay lab.now.load (take place lab.now.kept) ≡ Some (chip_of (earlier lab.now place)) }
+{
+    let left = lab.steps(node) - steps.count(node);
+    match lab.peek(node, left) {
+        Some(then) => then,
+        None => lab.node(node).copy(),
+    }
+}
+
+// The word that the writer waits to give the reader over the side, if that waits for it.
+fn word_offered_to(reader: &Node, writer: &Node, side: Side) -> Option<u32>
+    ensures value { result ≡ word_offered_to (record_of reader.now) (record_of writer.now) side }
+    ensures in_range { IfSome result (λ word. word < 2 ^ 18) }
+{
+    if is_writing(&writer.wait(), side) && is_reading(&reader.wait(), side) {
+        Some(writer.d(0))
+    } else {
+        None
+    }
+}
+
+// The word of a pass from the writer to the reader.
+fn word_between(made: &Made, writer: NodeId, reader: NodeId) -> Option<u32>
+    ensures value { result ≡ word_between writer.number reader.number made.now }
+    ensures in_range { IfSome result (λ word. word < 2 ^ 18) }
+{
+    match made {
+        Made::Own { .. } => None,
+        Made::Pass {
+            writer: from,
+            reader: to,
+            word,
+            ..
+        } => {
+            if from.number == writer.number && to.number == reader.number {
+                Some(word.get())
+            } else {
+                None
+            }
+        }
+    }
+}
+
+// The word that the node waits to write over the side.
+fn posted_now(node: &Node, side: Side) -> Option<u32>
+    ensures value { result ≡ posted (record_of node.now) side }
+    ensures in_range { IfSome result (λ word. word < 2 ^ 18) }
+{
+    if is_writing(&node.wait(), side) {
+        Some(node.d(0))
+    } else {
+        None
+    }
+}
+
+// The word that the node waited to write to its neighbour over the side after `steps` of its steps: that of its next step, if
+// this transferred one there.
+fn posted(lab: &Lab, node: NodeId, steps: u32, side: Side, reader: NodeId) -> Option<u32>
+    requires near { neighbour_of reader.number side ≡ Some node.number }
+    ensures value { (place : ℕ) → steps_of node.number (take place lab.now.kept) ≡ steps →
+        result ≡ posted (record_at (chip_of (earlier lab.now place)) node.number) side }
+    ensures in_range { IfSome result (λ word. word < 2 ^ 18) }
+{
+    let now = lab.node(node);
+    let _many = lab.steps(node);
+    match lab.made_by_step(node, steps) {
+        Some(made) => word_between(&made, node, reader),
+        None => posted_now(now, side),
+    }
+}
+
+/// The word that a rollback of a node's step would leave offered to it over a side, where it would wait for one there, and
+/// would leave `writer.1` steps of its neighbour there. Takes no memory, and the same time whatever would be removed.
+pub(crate) fn offered_behind(
+    lab: &Lab,
+    step: (NodeId, u32),
+    side: Side,
+    writer: (NodeId, u32),
+) -> Option<u32>
+    requires reads { reads_from (record_at (chip_of (rewound lab.now step.0.number step.1)) step.0.number).wait side ≡ true }
+    requires near { neighbour_of step.0.number side ≡ Some writer.0.number }
+    requires left { writer.1 ≡ touching writer.0.number (rewound_list (causes_of lab.now) step.0.number step.1) }
+    ensures word { result ≡ alternative_word (chip_of (rewound lab.now step.0.number step.1)) step.0.number side }
+    ensures in_range { IfSome result (λ word. word < 2 ^ 18) }
+{
+    let _stands = lab.node(step.0);
+    posted(lab, writer.0, writer.1, side, step.0)
+}
+
+/// The word that a rollback of the node's step would leave offered over a side of the node: none if no neighbour there waits to
+/// write it, or the node doesn't wait for it. For a step by which the node took a word, the sides thus show what else it could
+/// have taken. Nothing is removed. Takes no memory, and time linear in what `rewind` would remove.
+///
+/// # Errors
+/// `NoStep`, where the node has no such step.
+pub fn alternative_word(
+    lab: &mut Lab,
+    node: NodeId,
+    step: u32,
+    side: Side,
+) -> Result<Option<u32>, LabFault>
+    ensures word { IfOk result (λ word. word ≡ alternative_word (chip_of (rewound lab.old node.number step)) node.number side) }
+    ensures in_range { IfOk result (λ word. IfSome word (λ it. it < 2 ^ 18)) }
+    ensures err { IfErr result (λ why. rewind_answer lab.old node.number step ≡ Err why) }
+    ensures refused { (result ≡ Err LabFault.NoStep) ↔ (has_step lab.old node.number step ≡ false) }
+    ensures same { lab.new ≡ lab.old }
+{
+    match lab.would_rewind(node, step) {
+        Ok(going) => match neighbour(node, side) {
+            Some(other) => {
+                let reader = behind(lab, &going.steps, node);
+                let writer = behind(lab, &going.steps, other);
+                Ok(word_offered_to(&reader, &writer, side))
+            }
+            None => Ok(None),
+        },
+        Err(why) => Err(why),
+    }
+}

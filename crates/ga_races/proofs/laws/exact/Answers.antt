@@ -1,5 +1,0 @@
-use Rattle.ga_races.proofs.Exact.{no_race_of}
-use Rattle.ga_races.proofs.laws.exact.Goals as goal
-
-pub returns : goal.returns
-returns c = no_race_of

@@ -1,0 +1,303 @@
+//! Looks and changes of what is shown to them, between which nothing happens.
+
+ghost use Rattle.std.specs.Prelude.{◌≡◌, ◌≢◌, ◌<◌, ◌^◌, ◌↔◌, ◌⊎◌, ◌&&◌, ◌||◌, ◌++◌, ◌∷◌, [], ℕ, true, false, length, Contains, OnOk, IfOk};
+ghost use Rattle.ga_grid.specs.Grid.{neighbour_of};
+ghost use Rattle.std.specs.List.{list_any};
+ghost use Rattle.ga_causal.specs.Dependence.{cause_touches, cause_nodes, is_marked};
+ghost use Rattle.ga_event.specs.Apply.{is_number};
+ghost use Rattle.ga_races.specs.declared.racing_pairs.RacingPair.{RacingPair};
+ghost use Rattle.ga_races.specs.HappensBefore.{action_at, AreRacing};
+ghost use Rattle.ga_races.specs.Acts.{side_leads_to, action_in, actions_in, is_own_of, is_look_of, IsNearLook};
+ghost use Rattle.ga_races.specs.inner.{IsMore, OfPair, OfLook, OfChange, OverSide, OverSides, AtPlace, LooksAreMarked};
+
+use crate::act::{EventAccess, Sides};
+use ga_causal::Nodes;
+use ga_event::{Cause, Event};
+use ga_grid::{Memory, NodeId, neighbour};
+use ga_ports::Side;
+use reached::{both, is_between, mark_look};
+use std::alloc::Global;
+
+mod reached;
+
+/// The places of a look and of a change of what is shown to it, in a list of actions.
+#[derive(Clone, Copy, PartialEq, Eq, Debug)]
+pub struct RacingPair {
+    /// The place of the look in the list of actions.
+    pub look: u32,
+    /// The place of the change in the list of actions.
+    pub change: u32,
+}
+
+// The action at a place.
+fn act_at(acts: &[EventAccess], place: usize) -> EventAccess
+    requires { place < length acts.now }
+    ensures { action_in result ≡ action_at (actions_in acts.now) place }
+{
+    acts[place]
+}
+
+// Whether two actions of a list touch no common node, are dependent, and nothing happens between them.
+fn is_near(acts: &[EventAccess], first: usize, later: usize) -> bool
+    requires order { first < later }
+    requires within { later < length acts.now }
+    ensures { (result ≡ true) ↔ AreRacing (actions_in acts.now) first later }
+{
+    let act = act_at(acts, first);
+    let end = act_at(acts, later);
+    if act.shares_node(&end) || !act.is_dependent(&end) {
+        return false;
+    }
+    !is_between(acts, first, later)
+}
+
+// Whether two actions of a list, in any order, touch no common node, are dependent, and nothing happens between them.
+fn are_near(acts: &[EventAccess], one: usize, other: usize) -> bool
+    requires one { one < length acts.now }
+    requires other { other < length acts.now }
+    requires apart { one ≢ other }
+    ensures { (result ≡ true) ↔ (AreRacing (actions_in acts.now) one other ⊎ AreRacing (actions_in acts.now) other one) }
+{
+    if one < other {
+        is_near(acts, one, other)
+    } else {
+        is_near(acts, other, one)
+    }
+}
+
+// Whether the action at a place is a look of the node.
+fn is_look_of(acts: &[EventAccess], place: usize, node: NodeId) -> bool
+    requires { place < length acts.now }
+    ensures { result ≡ is_look_of (action_at (actions_in acts.now) place) node.number }
+{
+    let act = act_at(acts, place);
+    match act.cause.event {
+        Event::Own(own) => act.cause.look && own.number == node.number,
+        Event::Pass { .. } => false,
+    }
+}
+
+// Whether the action at a place changes what is shown to the node.
+fn changes(acts: &[EventAccess], place: usize, node: NodeId) -> bool
+    requires { place < length acts.now }
+    ensures { result ≡ (action_at (actions_in acts.now) place).changes node.number }
+{
+    act_at(acts, place).changes(node)
+}
+
+// Puts two places at the end of a list.
+fn add(list: &mut Vec<RacingPair>, look: usize, change: usize) -> Result<(), Memory>
+    requires looks { look < 2 ^ 32 }
+    requires changes { change < 2 ^ 32 }
+    ensures { OnOk result (list.new.items ≡ list.old.items ++ record { look = look; change = change } ∷ []) }
+{
+    list.push(RacingPair {
+        look: look as u32,
+        change: change as u32,
+    })?;
+    Ok(())
+}
+
+// Adds the places of a look of a node and of a change of what is shown to it, where they are near.
+fn add_near(
+    list: &mut Vec<RacingPair>,
+    acts: &[EventAccess],
+    look: usize,
+    change: usize,
+    node: NodeId,
+) -> Result<(), Memory>
+    requires look { look < length acts.now }
+    requires change { change < length acts.now }
+    requires apart { look ≢ change }
+    requires few { length acts.now < 2 ^ 32 }
+    requires looks { is_look_of (action_at (actions_in acts.now) look) node.number ≡ true }
+    requires changes { (action_at (actions_in acts.now) change).changes node.number ≡ true }
+    ensures { OnOk result (IsMore acts.now (OfPair look change) list.old.items list.new.items) }
+{
+    if !are_near(acts, look, change) {
+        return Ok(());
+    }
+    add(list, look, change)
+}
+
+// Adds the places of a look of a node and of an action before it that changes what is shown to the node, where they are near.
+fn add_change(
+    list: &mut Vec<RacingPair>,
+    acts: &[EventAccess],
+    look: usize,
+    change: usize,
+    node: NodeId,
+) -> Result<(), Memory>
+    requires order { change < look }
+    requires within { look < length acts.now }
+    requires few { length acts.now < 2 ^ 32 }
+    requires looks { is_look_of (action_at (actions_in acts.now) look) node.number ≡ true }
+    ensures { OnOk result (IsMore acts.now (OfPair look change) list.old.items list.new.items) }
+{
+    if !changes(acts, change, node) {
+        return Ok(());
+    }
+    add_near(list, acts, look, change, node)
+}
+
+// Adds the changes before an event of the node that are near to it, if that looks. The last look before it was shown what came before
+// that.
+fn add_changes(
+    list: &mut Vec<RacingPair>,
+    acts: &[EventAccess],
+    look: usize,
+    node: NodeId,
+) -> Result<(), Memory>
+    requires within { look < length acts.now }
+    requires few { length acts.now < 2 ^ 32 }
+    requires own { is_own_of (action_at (actions_in acts.now) look).cause.event node.number ≡ true }
+    ensures { OnOk result (IsMore acts.now (OfLook look 0) list.old.items list.new.items) }
+{
+    if !is_look_of(acts, look, node) {
+        return Ok(());
+    }
+    let mut place = look;
+    'back: while place > 0 {
+        place -= 1;
+        add_change(list, acts, look, place, node)?;
+        if is_look_of(acts, place, node) {
+            return Ok(());
+        }
+    }
+    Ok(())
+}
+
+// Whether two actions touch a common node, and the first changes what is shown to another.
+fn hides(acts: &[EventAccess], place: usize, change: usize, node: NodeId) -> bool
+    requires place { place < length acts.now }
+    requires change { change < length acts.now }
+    ensures { result ≡ ((action_at (actions_in acts.now) place).changes node.number
+        && list_any (cause_touches (action_at (actions_in acts.now) place).cause) (cause_nodes (action_at (actions_in acts.now) change).cause)) }
+{
+    let act = act_at(acts, place);
+    let end = act_at(acts, change);
+    act.changes(node) && act.shares_node(&end)
+}
+
+// Adds the last look of a node, if it and a change of what is shown to it are a racing pair. No look before an earlier such
+// change by the neighbour is in a racing pair with this one.
+fn add_look(
+    list: &mut Vec<RacingPair>,
+    acts: &[EventAccess],
+    change: usize,
+    node: NodeId,
+) -> Result<(), Memory>
+    requires within { change < length acts.now }
+    requires few { length acts.now < 2 ^ 32 }
+    requires changes { (action_at (actions_in acts.now) change).changes node.number ≡ true }
+    ensures { OnOk result (IsMore acts.now (OfChange acts.now change node.number) list.old.items list.new.items) }
+{
+    let mut place = change;
+    'back: while place > 0 {
+        place -= 1;
+        if is_look_of(acts, place, node) {
+            return add_near(list, acts, place, change, node);
+        }
+        if hides(acts, place, change, node) {
+            return Ok(());
+        }
+    }
+    Ok(())
+}
+
+// Adds the last look of the neighbour on a side, if the side is one of some and the neighbour looked, where it is near to the change.
+fn add_look_over(
+    list: &mut Vec<RacingPair>,
+    acts: &[EventAccess],
+    change: usize,
+    looked: &Nodes,
+    over: (NodeId, Side, bool),
+) -> Result<(), Memory>
+    requires within { change < length acts.now }
+    requires few { length acts.now < 2 ^ 32 }
+    requires looked { LooksAreMarked acts.now change (is_marked looked.now) }
+    requires changes { (n : ℕ) → (over.2 && is_number (neighbour_of over.0.number over.1) n) ≡ true →
+        (action_at (actions_in acts.now) change).changes n ≡ true }
+    ensures { OnOk result (IsMore acts.now (OverSide acts.now change over.0.number over.1 over.2) list.old.items list.new.items) }
+{
+    let (from, side, has) = over;
+    match neighbour(from, side) {
+        Some(node) => {
+            if !both(has, looked.has(node)) {
+                return Ok(());
+            }
+            add_look(list, acts, change, node)
+        }
+        None => Ok(()),
+    }
+}
+
+// Adds the last look of each neighbour on the sides, if it looked at all, where it is near to the change.
+#[tactic(auto, using(crate::proofs::Asking::four_sides))]
+fn add_looks_beside(
+    list: &mut Vec<RacingPair>,
+    acts: &[EventAccess],
+    change: usize,
+    looked: &Nodes,
+    from: (NodeId, Sides),
+) -> Result<(), Memory>
+    requires within { change < length acts.now }
+    requires few { length acts.now < 2 ^ 32 }
+    requires looked { LooksAreMarked acts.now change (is_marked looked.now) }
+    requires changes { (n : ℕ) → side_leads_to from.1 from.0.number n ≡ true →
+        (action_at (actions_in acts.now) change).changes n ≡ true }
+    ensures { OnOk result (IsMore acts.now (OverSides acts.now change from.0.number from.1) list.old.items list.new.items) }
+{
+    let (node, sides) = from;
+    add_look_over(list, acts, change, looked, (node, Side::Right, sides.right))?;
+    add_look_over(list, acts, change, looked, (node, Side::Down, sides.down))?;
+    add_look_over(list, acts, change, looked, (node, Side::Left, sides.left))?;
+    add_look_over(list, acts, change, looked, (node, Side::Up, sides.up))?;
+    Ok(())
+}
+
+// Adds the racing pairs of an action with the looks and changes before it.
+fn add_at(
+    list: &mut Vec<RacingPair>,
+    acts: &[EventAccess],
+    place: usize,
+    looked: &Nodes,
+) -> Result<(), Memory>
+    requires within { place < length acts.now }
+    requires few { length acts.now < 2 ^ 32 }
+    requires looked { LooksAreMarked acts.now place (is_marked looked.now) }
+    ensures { OnOk result (IsMore acts.now (AtPlace place) list.old.items list.new.items) }
+{
+    let act = act_at(acts, place);
+    match act.cause.event {
+        Event::Own(node) => {
+            add_changes(list, acts, place, node)?;
+            add_looks_beside(list, acts, place, looked, (node, act.first))
+        }
+        Event::Pass { writer, reader, .. } => {
+            add_looks_beside(list, acts, place, looked, (writer, act.first))?;
+            add_looks_beside(list, acts, place, looked, (reader, act.second))
+        }
+    }
+}
+
+/// The racing pairs of a list: the looks, with the changes of what is shown to them that keep their order with them only by
+/// this (`IsRacingPair`). Each look could come before a change that is before it, or after one that is after it. The pairs are in the
+/// order of the later of the two. Takes memory for these, and time linear in the list; and for each node that looks the time of
+/// the list once more for each of its sides.
+///
+/// # Errors
+/// `Memory` alone.
+pub fn find_racing_pairs(alloc: Global, acts: &[EventAccess]) -> Result<Vec<RacingPair>, Memory>
+    requires few { length acts.now < 2 ^ 32 }
+    ensures exact { IfOk result (λ list. (near : RacingPair) → Contains list.items near ↔ IsNearLook acts.now near) }
+{
+    let mut list = Vec::new(alloc);
+    let mut looked = Nodes::none();
+    'acts: for place in 0..acts.len() {
+        add_at(&mut list, acts, place, &looked)?;
+        let act = act_at(acts, place);
+        mark_look(&mut looked, &act);
+    }
+    Ok(list)
+}

@@ -1,0 +1,181 @@
+//! What some actions reach, and whether something happens between two.
+
+ghost use Rattle.std.specs.Prelude.{◌≡◌, ◌<◌, ◌&&◌, ◌||◌, ℕ, true, false, length};
+ghost use Rattle.ga_grid.specs.Grid.{neighbour_of};
+ghost use Rattle.ga_causal.specs.Dependence.{is_marked};
+ghost use Rattle.ga_causal.specs.inner.{any_of};
+ghost use Rattle.ga_event.specs.Apply.{is_number};
+ghost use Rattle.ga_races.specs.HappensBefore.{HappensBefore};
+ghost use Rattle.ga_races.specs.Acts.{side_leads_to, action_in, actions_in};
+ghost use Rattle.ga_races.specs.inner.{shows_marked, has_touched, has_shown, has_looked, is_shown_to, is_met};
+
+use crate::act::{EventAccess, Sides};
+use ga_causal::Nodes;
+use ga_event::{Cause, Event};
+use ga_grid::{NodeId, neighbour};
+use ga_ports::Side;
+
+// Of some actions the nodes that they touch, those to which they change what is shown, and those that look in them.
+#[derive(Drop)]
+struct Reached {
+    touched: Nodes,
+    shown: Nodes,
+    looked: Nodes,
+}
+
+// Whether the neighbour on a side, if it is one of some, is marked.
+fn is_marked_over(marks: &Nodes, node: NodeId, side: Side, has: bool) -> bool
+    ensures { result ≡ (has && any_of (is_marked marks.now) (neighbour_of node.number side)) }
+{
+    match neighbour(node, side) {
+        Some(other) => has && marks.has(other),
+        None => false,
+    }
+}
+
+// Whether a neighbour on one of the sides is marked.
+fn is_marked_beside(marks: &Nodes, node: NodeId, sides: &Sides) -> bool
+    ensures { result ≡ shows_marked (is_marked marks.now) sides.now node.number }
+{
+    is_marked_over(marks, node, Side::Right, sides.right)
+        || is_marked_over(marks, node, Side::Down, sides.down)
+        || is_marked_over(marks, node, Side::Left, sides.left)
+        || is_marked_over(marks, node, Side::Up, sides.up)
+}
+
+// Marks the neighbour on a side, if it is one of some.
+fn mark_over(marks: &mut Nodes, node: NodeId, side: Side, has: bool)
+    ensures { (n : ℕ) → is_marked marks.new n ≡ (is_marked marks.old n || (has && is_number (neighbour_of node.number side) n)) }
+{
+    match neighbour(node, side) {
+        Some(other) if has => marks.add_touched(&Cause {
+            event: Event::Own(other),
+            look: false,
+        }),
+        _ => {}
+    }
+}
+
+// Marks the neighbours on the sides.
+fn mark_beside(marks: &mut Nodes, node: NodeId, sides: &Sides)
+    ensures { (n : ℕ) → is_marked marks.new n ≡ (is_marked marks.old n || side_leads_to sides.now node.number n) }
+{
+    mark_over(marks, node, Side::Right, sides.right);
+    mark_over(marks, node, Side::Down, sides.down);
+    mark_over(marks, node, Side::Left, sides.left);
+    mark_over(marks, node, Side::Up, sides.up);
+}
+
+// Marks the nodes to which an action changes what is shown.
+fn mark_shown(marks: &mut Nodes, act: &EventAccess)
+    ensures { (n : ℕ) → is_marked marks.new n ≡ (is_marked marks.old n || has_shown (action_in act.now) n) }
+{
+    match act.cause.event {
+        Event::Own(node) => mark_beside(marks, node, &act.first),
+        Event::Pass { writer, reader, .. } => {
+            mark_beside(marks, writer, &act.first);
+            mark_beside(marks, reader, &act.second);
+        }
+    }
+}
+
+// Marks the nodes of a look.
+pub(super) fn mark_look(marks: &mut Nodes, act: &EventAccess)
+    ensures { (n : ℕ) → is_marked marks.new n ≡ (is_marked marks.old n || has_looked (action_in act.now) n) }
+{
+    if act.cause.look {
+        marks.add_touched(&act.cause);
+    }
+}
+
+impl Reached {
+    // The nodes that one action touches, those to which it changes what is shown, and those that look in it.
+    fn by(act: &EventAccess) -> Self
+        ensures touched { (n : ℕ) → is_marked result.touched n ≡ has_touched (action_in act.now) n }
+        ensures shown { (n : ℕ) → is_marked result.shown n ≡ has_shown (action_in act.now) n }
+        ensures looked { (n : ℕ) → is_marked result.looked n ≡ has_looked (action_in act.now) n }
+    {
+        let mut reached = Reached {
+            touched: Nodes::none(),
+            shown: Nodes::none(),
+            looked: Nodes::none(),
+        };
+        reached.add(act);
+        reached
+    }
+
+    // Adds the nodes that an action touches, those to which it changes what is shown, and those that look in it.
+    fn add(&mut self, act: &EventAccess)
+        ensures touched { (n : ℕ) → is_marked self.new.touched n ≡ (is_marked self.old.touched n || has_touched (action_in act.now) n) }
+        ensures shown { (n : ℕ) → is_marked self.new.shown n ≡ (is_marked self.old.shown n || has_shown (action_in act.now) n) }
+        ensures looked { (n : ℕ) → is_marked self.new.looked n ≡ (is_marked self.old.looked n || has_looked (action_in act.now) n) }
+    {
+        self.touched.add_touched(&act.cause);
+        mark_shown(&mut self.shown, act);
+        mark_look(&mut self.looked, act);
+    }
+
+    // Returns whether an action is dependent with one of the actions that were added. If so it is added too.
+    fn take(&mut self, act: &EventAccess) -> bool
+        ensures answer { result ≡ is_met (is_marked self.old.touched) (is_marked self.old.shown) (is_marked self.old.looked) act.now }
+        ensures touched { (n : ℕ) → is_marked self.new.touched n ≡ (is_marked self.old.touched n || (result && has_touched (action_in act.now) n)) }
+        ensures shown { (n : ℕ) → is_marked self.new.shown n ≡ (is_marked self.old.shown n || (result && has_shown (action_in act.now) n)) }
+        ensures looked { (n : ℕ) → is_marked self.new.looked n ≡ (is_marked self.old.looked n || (result && has_looked (action_in act.now) n)) }
+    {
+        if !self.meets(act) {
+            return false;
+        }
+        self.add(act);
+        true
+    }
+
+    // Whether an action is dependent with one of the actions that were added.
+    fn meets(&self, act: &EventAccess) -> bool
+        ensures { result ≡ is_met (is_marked self.now.touched) (is_marked self.now.shown) (is_marked self.now.looked) act.now }
+    {
+        self.touched.is_touched_by(&act.cause)
+            || (act.cause.look && self.shown.is_touched_by(&act.cause))
+            || self.is_shown_by(act)
+    }
+
+    // Whether an action changes what is shown to a node that looked in one of the actions that were added.
+    fn is_shown_by(&self, act: &EventAccess) -> bool
+        ensures { result ≡ is_shown_to (is_marked self.now.looked) act.now.cause.event act.now.first act.now.second }
+    {
+        match act.cause.event {
+            Event::Own(node) => is_marked_beside(&self.looked, node, &act.first),
+            Event::Pass { writer, reader, .. } => {
+                is_marked_beside(&self.looked, writer, &act.first)
+                    || is_marked_beside(&self.looked, reader, &act.second)
+            }
+        }
+    }
+}
+
+// Whether two flags are both set.
+pub(super) fn both(one: bool, other: bool) -> bool
+    ensures { result ≡ (one && other) }
+{
+    one && other
+}
+
+// Whether something happens between two actions of a list, by one pass over the actions between them.
+pub(super) fn is_between(acts: &[EventAccess], first: usize, later: usize) -> bool
+    requires order { first < later }
+    requires within { later < length acts.now }
+    ensures some { result ≡ true →
+        (m : ℕ) × HappensBefore (actions_in acts.now) first m × HappensBefore (actions_in acts.now) m later }
+    ensures none { result ≡ false → (m : ℕ) →
+        HappensBefore (actions_in acts.now) first m → HappensBefore (actions_in acts.now) m later → ⊥ }
+{
+    let end = acts[later];
+    let mut reached = Reached::by(&acts[first]);
+    'between: for place in first + 1..later {
+        let act = acts[place];
+        let met = reached.take(&act);
+        if both(met, act.is_dependent(&end)) {
+            return true;
+        }
+    }
+    false
+}

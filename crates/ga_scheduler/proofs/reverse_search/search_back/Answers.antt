@@ -1,0 +1,158 @@
+use Rattle.std.proofs.Common.{◌≡◌, ◌∙◌, ◌+◌, ◌-◌, ap, sym, subst, arith, length, take, ℕ, max, Some}
+use Rattle.std.specs.Prelude.{is_some, IsSome}
+use Rattle.ga_grid.specs.declared.node_id.NodeId.{NodeId}
+use Rattle.ga_event.specs.Apply.{replay}
+use Rattle.ga_event.specs.Told.{steps_of, made_in}
+use Rattle.ga_lab.specs.Machine.{State, NodeAtStep, earlier, outcomes_of_kept, BackwardState, backward_state, made_before}
+use Rattle.ga_scheduler.specs.inner.{counted, counted_by, asked_node, held_upto, is_held}
+use Rattle.ga_scheduler.proofs.Newest.{whole_earlier, fewer_before, counted_back}
+use Rattle.ga_scheduler.proofs.Backing.{told_prev, below, found, ended, steps_whole, stands_now}
+use Rattle.ga_scheduler.proofs.reverse_search.search_back.Goals as goal
+
+pub loop-place-init : goal.loop-place-init
+loop-place-init c =
+    let s : State = c.args.lab.now in
+    let n : NodeId = asked_node c.args.until.now in
+    let e : c.counts-place.result.kept ≡ length s.kept = c.counts-place.ensures.kept in
+    let w : c.walk-walk.result.step ≡ c.steps.result = ap (λ (z : NodeAtStep). z.step) c.walk-walk.ensures in
+    let all : steps_of n.number (take c.counts-place.result.kept s.kept) ≡ steps_of n.number s.kept = steps_whole s n.number c.counts-place.result.kept e in
+    let same : steps_of c.node_of-node.result.number s.kept ≡ steps_of n.number s.kept = ap (λ (z : NodeId). steps_of z.number s.kept) c.node_of-node.ensures in
+    record {
+      within = omega (arith, e);
+      events = c.backward-events.ensures ∙ ap (backward_state s) (sym e);
+      machine = ap (λ (z : NodeAtStep). z.machine) c.walk-walk.ensures;
+      node = ap (λ (z : NodeAtStep). z.node) c.walk-walk.ensures ∙ c.node_of-node.ensures;
+      steps = omega (arith, w, all, same, c.steps.ensures.steps);
+      words = ap (λ (z : ℕ). counted c.args.until.now (earlier s z)) e ∙ ap (counted c.args.until.now) (whole_earlier s) ∙ sym c.count-words.ensures;
+      same = ap (λ (z : ℕ). max c.args.least (held_upto c.args.until.now c.args.only s z)) e;
+    }
+
+pub loop-place-preserved : goal.loop-place-preserved
+loop-place-preserved c =
+    let s : State = c.args.lab.now in
+    let u = c.args.until.now in
+    let n : NodeId = asked_node u in
+    let m : ℕ = c.loop-place.place - 1 in
+    let e : m + 1 ≡ c.loop-place.place = omega (arith, c.loop-place-test.true) in
+    let et : c.back.new.self ≡ backward_state s m = c.in-Some.ensures.left ∙ ap (λ (z : BackwardState). record z { place = z.place - 1 }) c.loop-place.invariant.events in
+    let some : IsSome (replay s.load s.kept) = ap is_some c.chip.ensures.replays in
+    let told : made_in (outcomes_of_kept s) m ≡ Some c.in-Some.made =
+    told_prev s c.loop-place.place c.in-Some.made (omega (arith, c.loop-place-test.true)) (subst (λ (z : BackwardState). Some c.in-Some.made ≡ made_before z.machine z.place) c.loop-place.invariant.events c.in-Some.ensures.told) in
+    let behind : c.steps-in-loop-place.result ≡ steps_of n.number (take c.loop-place.place s.kept) =
+    c.steps-in-loop-place.ensures ∙ ap (λ (z : BackwardState). steps_of c.node_of-node.result.number (take z.place z.machine.kept)) c.loop-place.invariant.events
+    ∙ ap (λ (z : NodeId). steps_of z.number (take c.loop-place.place s.kept)) c.node_of-node.ensures in
+    let step : c.back_to.new.self.step ≡ c.steps-in-loop-place.result = ap (λ (z : NodeAtStep). z.step) c.back_to.ensures in
+    let more : counted u (earlier s (m + 1)) ≡ counted u (earlier s m) + counted_by u c.in-Some.made = counted_back u s m c.in-Some.made some told in
+    let here : counted u (earlier s (m + 1)) ≡ c.loop-place.words = ap (λ (z : ℕ). counted u (earlier s z)) e ∙ c.loop-place.invariant.words in
+    let held : is_held u c.args.only s m ≡ c.is_held.result = sym (c.is_held.ensures ∙ ap (λ (z : BackwardState). is_held u c.args.only z.machine z.place) et) in
+    let few = fewer_before s n.number m c.in-Some.made some told in
+    let same_steps : steps_of n.number (take (m + 1) s.kept) ≡ steps_of n.number (take c.loop-place.place s.kept) = ap (λ (z : ℕ). steps_of n.number (take z s.kept)) e in
+    record {
+      within = omega (arith, c.loop-place.invariant.within);
+      events = et;
+      machine = ap (λ (z : NodeAtStep). z.machine) c.back_to.ensures ∙ c.loop-place.invariant.machine;
+      node = ap (λ (z : NodeAtStep). z.node) c.back_to.ensures ∙ c.loop-place.invariant.node;
+      steps = omega (arith, behind, step, few, same_steps);
+      words = omega (arith, more, here, c.count_back-words.ensures);
+      same = below u c.args.only s c.args.least c.loop-place.place m (held_upto u c.args.only s (length s.kept)) e (held ∙ c.if-is_held.false) c.loop-place.invariant.same;
+    }
+
+pub is_held-requires-clause-replays : goal.is_held-requires-clause-replays
+is_held-requires-clause-replays c =
+    let s : State = c.args.lab.now in
+    let u = c.args.until.now in
+    let n : NodeId = asked_node u in
+    let m : ℕ = c.loop-place.place - 1 in
+    let e : m + 1 ≡ c.loop-place.place = omega (arith, c.loop-place-test.true) in
+    let et : c.back.new.self ≡ backward_state s m = c.in-Some.ensures.left ∙ ap (λ (z : BackwardState). record z { place = z.place - 1 }) c.loop-place.invariant.events in
+    let some : IsSome (replay s.load s.kept) = ap is_some c.chip.ensures.replays in
+    let told : made_in (outcomes_of_kept s) m ≡ Some c.in-Some.made =
+    told_prev s c.loop-place.place c.in-Some.made (omega (arith, c.loop-place-test.true)) (subst (λ (z : BackwardState). Some c.in-Some.made ≡ made_before z.machine z.place) c.loop-place.invariant.events c.in-Some.ensures.told) in
+    subst (λ (z : BackwardState). IsSome (replay z.machine.load z.machine.kept)) (sym et) some
+
+pub is_held-requires-clause-told : goal.is_held-requires-clause-told
+is_held-requires-clause-told c =
+    let s : State = c.args.lab.now in
+    let u = c.args.until.now in
+    let n : NodeId = asked_node u in
+    let m : ℕ = c.loop-place.place - 1 in
+    let e : m + 1 ≡ c.loop-place.place = omega (arith, c.loop-place-test.true) in
+    let et : c.back.new.self ≡ backward_state s m = c.in-Some.ensures.left ∙ ap (λ (z : BackwardState). record z { place = z.place - 1 }) c.loop-place.invariant.events in
+    let some : IsSome (replay s.load s.kept) = ap is_some c.chip.ensures.replays in
+    let told : made_in (outcomes_of_kept s) m ≡ Some c.in-Some.made =
+    told_prev s c.loop-place.place c.in-Some.made (omega (arith, c.loop-place-test.true)) (subst (λ (z : BackwardState). Some c.in-Some.made ≡ made_before z.machine z.place) c.loop-place.invariant.events c.in-Some.ensures.told) in
+    subst (λ (z : BackwardState). made_in (outcomes_of_kept z.machine) z.place ≡ Some c.in-Some.made) (sym et) told
+
+pub is_held-requires-clause-stands : goal.is_held-requires-clause-stands
+is_held-requires-clause-stands c =
+    let s : State = c.args.lab.now in
+    let u = c.args.until.now in
+    let n : NodeId = asked_node u in
+    let m : ℕ = c.loop-place.place - 1 in
+    let e : m + 1 ≡ c.loop-place.place = omega (arith, c.loop-place-test.true) in
+    let et : c.back.new.self ≡ backward_state s m = c.in-Some.ensures.left ∙ ap (λ (z : BackwardState). record z { place = z.place - 1 }) c.loop-place.invariant.events in
+    let some : IsSome (replay s.load s.kept) = ap is_some c.chip.ensures.replays in
+    let told : made_in (outcomes_of_kept s) m ≡ Some c.in-Some.made =
+    told_prev s c.loop-place.place c.in-Some.made (omega (arith, c.loop-place-test.true)) (subst (λ (z : BackwardState). Some c.in-Some.made ≡ made_before z.machine z.place) c.loop-place.invariant.events c.in-Some.ensures.told) in
+    let behind : c.steps-in-loop-place.result ≡ steps_of n.number (take c.loop-place.place s.kept) =
+    c.steps-in-loop-place.ensures ∙ ap (λ (z : BackwardState). steps_of c.node_of-node.result.number (take z.place z.machine.kept)) c.loop-place.invariant.events
+    ∙ ap (λ (z : NodeId). steps_of z.number (take c.loop-place.place s.kept)) c.node_of-node.ensures in
+    let step : c.back_to.new.self.step ≡ c.steps-in-loop-place.result = ap (λ (z : NodeAtStep). z.step) c.back_to.ensures in
+    stands_now c.back_to.new.self c.back.new.self s n c.steps-in-loop-place.result c.loop-place.place m
+    (ap (λ (z : NodeAtStep). z.machine) c.back_to.ensures ∙ c.loop-place.invariant.machine) (ap (λ (z : NodeAtStep). z.node) c.back_to.ensures ∙ c.loop-place.invariant.node)
+    step behind et e
+
+pub is_held-requires-clause-counted : goal.is_held-requires-clause-counted
+is_held-requires-clause-counted c =
+    let s : State = c.args.lab.now in
+    let u = c.args.until.now in
+    let n : NodeId = asked_node u in
+    let m : ℕ = c.loop-place.place - 1 in
+    let e : m + 1 ≡ c.loop-place.place = omega (arith, c.loop-place-test.true) in
+    let et : c.back.new.self ≡ backward_state s m = c.in-Some.ensures.left ∙ ap (λ (z : BackwardState). record z { place = z.place - 1 }) c.loop-place.invariant.events in
+    let some : IsSome (replay s.load s.kept) = ap is_some c.chip.ensures.replays in
+    let told : made_in (outcomes_of_kept s) m ≡ Some c.in-Some.made =
+    told_prev s c.loop-place.place c.in-Some.made (omega (arith, c.loop-place-test.true)) (subst (λ (z : BackwardState). Some c.in-Some.made ≡ made_before z.machine z.place) c.loop-place.invariant.events c.in-Some.ensures.told) in
+    subst (λ (z : BackwardState). counted u (earlier z.machine (z.place + 1)) ≡ c.loop-place.words) (sym et) (ap (λ (z : ℕ). counted u (earlier s z)) e ∙ c.loop-place.invariant.words)
+
+pub back_to-requires : goal.back_to-requires
+back_to-requires c =
+    let s : State = c.args.lab.now in
+    let n : NodeId = asked_node c.args.until.now in
+    let behind : c.steps-in-loop-place.result ≡ steps_of n.number (take c.loop-place.place s.kept) =
+    c.steps-in-loop-place.ensures ∙ ap (λ (z : BackwardState). steps_of c.node_of-node.result.number (take z.place z.machine.kept)) c.loop-place.invariant.events
+    ∙ ap (λ (z : NodeId). steps_of z.number (take c.loop-place.place s.kept)) c.node_of-node.ensures in
+    omega (arith, behind, c.loop-place.invariant.steps)
+
+pub count_back-words-requires : goal.count_back-words-requires
+count_back-words-requires c =
+    let s : State = c.args.lab.now in
+    let u = c.args.until.now in
+    let n : NodeId = asked_node u in
+    let m : ℕ = c.loop-place.place - 1 in
+    let e : m + 1 ≡ c.loop-place.place = omega (arith, c.loop-place-test.true) in
+    let et : c.back.new.self ≡ backward_state s m = c.in-Some.ensures.left ∙ ap (λ (z : BackwardState). record z { place = z.place - 1 }) c.loop-place.invariant.events in
+    let some : IsSome (replay s.load s.kept) = ap is_some c.chip.ensures.replays in
+    let told : made_in (outcomes_of_kept s) m ≡ Some c.in-Some.made =
+    told_prev s c.loop-place.place c.in-Some.made (omega (arith, c.loop-place-test.true)) (subst (λ (z : BackwardState). Some c.in-Some.made ≡ made_before z.machine z.place) c.loop-place.invariant.events c.in-Some.ensures.told) in
+    let more : counted u (earlier s (m + 1)) ≡ counted u (earlier s m) + counted_by u c.in-Some.made = counted_back u s m c.in-Some.made some told in
+    let here : counted u (earlier s (m + 1)) ≡ c.loop-place.words = ap (λ (z : ℕ). counted u (earlier s z)) e ∙ c.loop-place.invariant.words in
+    omega (arith, more, here)
+
+pub returns-then-is_held-clause-value : goal.returns-then-is_held-clause-value
+returns-then-is_held-clause-value c =
+    let s : State = c.args.lab.now in
+    let u = c.args.until.now in
+    let n : NodeId = asked_node u in
+    let m : ℕ = c.loop-place.place - 1 in
+    let e : m + 1 ≡ c.loop-place.place = omega (arith, c.loop-place-test.true) in
+    let et : c.back.new.self ≡ backward_state s m = c.in-Some.ensures.left ∙ ap (λ (z : BackwardState). record z { place = z.place - 1 }) c.loop-place.invariant.events in
+    let some : IsSome (replay s.load s.kept) = ap is_some c.chip.ensures.replays in
+    let told : made_in (outcomes_of_kept s) m ≡ Some c.in-Some.made =
+    told_prev s c.loop-place.place c.in-Some.made (omega (arith, c.loop-place-test.true)) (subst (λ (z : BackwardState). Some c.in-Some.made ≡ made_before z.machine z.place) c.loop-place.invariant.events c.in-Some.ensures.told) in
+    let held : is_held u c.args.only s m ≡ c.is_held.result = sym (c.is_held.ensures ∙ ap (λ (z : BackwardState). is_held u c.args.only z.machine z.place) et) in
+    found u c.args.only s c.args.least c.loop-place.place m (held_upto u c.args.only s (length s.kept)) e c.loop-place-test.true (held ∙ c.if-is_held.true) c.loop-place.invariant.same
+
+pub returns-clause-value : goal.returns-clause-value
+returns-clause-value c =
+    ended c.args.until.now c.args.only c.args.lab.now c.args.least c.loop-place.place (held_upto c.args.until.now c.args.only c.args.lab.now (length c.args.lab.now.kept)) c.loop-place-test.false c.loop-place.invariant.same
