@@ -18,7 +18,7 @@ going-preserved c =
       spot = c.slot_address_at-there.ensures.spot;
       same = c.going.invariant.same
           ∙ began_before c.args.notes.now s node c.going.place c.going.left c.slot_address_at-there.result c.going.spot c.op_told-op.result c.comes_on.result (omega arith) (omega arith)
-          (c.slot_address_at-there.ensures.spot ∙ ap (slot_address_after s node) c.place_back-before.ensures.value) c.going.invariant.spot (c.op_told-op.ensures ∙ ap op_told c.made_by_step-made_by_step.ensures) c.comes_on.ensures c.if-comes_on.false
+          (c.slot_address_at-there.ensures.spot ∙ ap (slot_address_after s node) c.place_back-before.ensures.value) c.going.invariant.spot (c.op_told-op.ensures ∙ ap op_told c.made_by_step-told.ensures) c.comes_on.ensures c.if-comes_on.false
           ∙ ap (λ z. beginning_from c.args.notes.now s node z (c.going.left - 1)) (sym c.place_back-before.ensures.value);
     }
 
@@ -31,7 +31,7 @@ returns-then-comes_on c =
     let node = c.args.node in
     sym (c.going.invariant.same
     ∙ began_here c.args.notes.now s node c.going.place c.going.left c.slot_address_at-there.result c.going.spot c.op_told-op.result c.comes_on.result (omega arith) (omega arith)
-    (c.slot_address_at-there.ensures.spot ∙ ap (slot_address_after s node) c.place_back-before.ensures.value) c.going.invariant.spot (c.op_told-op.ensures ∙ ap op_told c.made_by_step-made_by_step.ensures) c.comes_on.ensures c.if-comes_on.true)
+    (c.slot_address_at-there.ensures.spot ∙ ap (slot_address_after s node) c.place_back-before.ensures.value) c.going.invariant.spot (c.op_told-op.ensures ∙ ap op_told c.made_by_step-told.ensures) c.comes_on.ensures c.if-comes_on.true)
 
 pub returns : goal.returns
 returns c = sym (c.going.invariant.same ∙ none_looked_at c.args.notes.now c.args.lab.now c.args.node c.going.place c.going.left (omega arith))

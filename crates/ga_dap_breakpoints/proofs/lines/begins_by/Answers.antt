@@ -12,4 +12,4 @@ returns c =
     let stands = record_of c.node.result.now in
     begun_by c.args.began c.args.notes.now s node c.args.step c.args.before c.args.behind c.spot_before-there.result c.spot_by-spot.result stands c.op_told.result c.comes_on.result
     c.spot_before-there.ensures c.spot_by-spot.ensures (stood_of s node c.walk-walk.result (c.args.step + 1) stands c.walk-walk.ensures (omega (arith, c.requires)) c.node.ensures)
-    (c.op_told.ensures ∙ ap op_told c.made_by_step-made_by_step.ensures) c.comes_on.ensures
+    (c.op_told.ensures ∙ ap op_told c.made_by_step-told.ensures) c.comes_on.ensures

@@ -38,7 +38,7 @@ followed c = elim c.match-value.branch [
 before : (c : In-Some) → origin_from c.args.lab.now c.match-value.value.node (c.match-value.value.step - 1) c.in-Some.part ≡ origin_of c.args.lab.now c.args.value
 before c =
     let value = c.match-value.value in
-    one_back c.args.lab.now value value.step value.part c.in-Some.part c.made_by_step-made_by_step.result (followed c).some c.made_by_step-made_by_step.ensures c.in-Some.ensures.value refl ∙ (followed c).same
+    one_back c.args.lab.now value value.step value.part c.in-Some.part c.made_by_step-told.result (followed c).some c.made_by_step-told.ensures c.in-Some.ensures.value refl ∙ (followed c).same
 
 pub telling-preserved : goal.telling-preserved
 telling-preserved c =

@@ -11,7 +11,7 @@ true_false h = cc
 before : (c : In-Some) → origin_from c.args.lab.now c.args.followed.value.node (c.telling.step - 1) (Data c.in-Some.from) ≡ origin_of c.args.lab.now c.args.followed.value
 before c =
     let some : c.telling.step ≢ 0 = omega (arith, c.telling-test.true) in
-    one_back c.args.lab.now c.args.followed.value c.telling.step (Data c.telling.place) (Data c.in-Some.from) c.made_by_step-made_by_step.result some c.made_by_step-made_by_step.ensures (sym c.in-Some.ensures.value) c.telling.invariant.same
+    one_back c.args.lab.now c.args.followed.value c.telling.step (Data c.telling.place) (Data c.in-Some.from) c.made_by_step-told.result some c.made_by_step-told.ensures (sym c.in-Some.ensures.value) c.telling.invariant.same
 
 pub telling-preserved : goal.telling-preserved
 telling-preserved c = record {
