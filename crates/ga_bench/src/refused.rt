@@ -1,6 +1,6 @@
 //! Runs in which one allocation fails. The run repeats at once what was refused, and one line says how it ended.
 //!
-//! The failure comes from outside: the process's allocation 1000 fails (`.ci/growths` or `rt try --fail-alloc 1000`), and the
+//! The failure comes from outside: the process's allocation 1000 fails (`.ci/alloc_failures` or `rt try --fail-alloc 1000`), and the
 //! number of allocations before the run is chosen so that this is the run's. A run is over only if the failing allocation is
 //! still ahead, so an allocation that is added later, or a failure that nobody reports, changes a line.
 
