@@ -21,7 +21,7 @@ STANDING = ("continue", "next", "stepIn", "stepOut", "stepBack", "reverseContinu
 PROGRAM, LINES = "sources/fault.f18", {"source": {"path": "sources/fault.f18"}}
 AT_BOUNDS = [
     ("initialize", {"adapterID": "ga144", "linesStartAt1": False}), ("initialize", {"adapterID": "ga144", "columnsStartAt1": False}), ("initialize", {"adapterID": "ga144", "pathFormat": "uri"}), ("initialize", {"adapterID": "ga144"}),
-    ("threads", None), ("launch", {"program": PROGRAM, "limit": 4000001}), *(("launch", {"program": PROGRAM, "order": "random", "seed": it}) for it in (2**32, 2**70, -1)), ("launch", {"program": PROGRAM, "limit": 4000000}), ("launch", {"program": PROGRAM}),
+    ("threads", None), ("launch", {"program": PROGRAM, "limit": 100000001}), *(("launch", {"program": PROGRAM, "order": "random", "seed": it}) for it in (2**32, 2**70, -1)), ("launch", {"program": PROGRAM, "limit": 100000000}), ("launch", {"program": PROGRAM}),
     ("setInstructionBreakpoints", {"breakpoints": [{"instructionReference": it, "offset": by} for it, by in (("0x001002", -1), ("0x000000", -1), ("0x001002", 4096), ("0x00000000001", 2**40), ("0x0", 0), ("0x717fff", 0), ("0xg", 0), ("0x701080", -3))]}),
     ("setInstructionBreakpoints", {"breakpoints": []}),
     ("setFunctionBreakpoints", {"breakpoints": [{"name": it} for it in ("main", "001 main", "001:main", "0012main", "099 main", "001", "001 ", "")]}),
@@ -111,7 +111,7 @@ def wrong_inputs(room):
         "no end": ({"program": "/dev/zero"}, "/dev/zero: more than 16777216 bytes"),
         "a fault of source": ({"program": "bad.f18"}, "bad.f18: line 2: what is foo"),
         "a fault of an image": ({"program": "bad.image"}, "bad.image: no 13 node line 3"),
-        "limit 0": ({"program": "bad.f18", "limit": 0}, "the limit is 1 to 4000000"),
+        "limit 0": ({"program": "bad.f18", "limit": 0}, "the limit is 1 to 100000000"),
         "an order that is none": ({"program": "bad.f18", "order": "backwards"}, order),
         "a seed that is none": ({"program": "bad.f18", "order": "random", "seed": 2**32}, order),
     }

@@ -10,7 +10,7 @@ from shown import SCOPES, Places, Shown, Watched, address_of, cell_of, node_of_f
 from source import NODE_NAMES, asm, programs_of
 from words import words_of
 
-MOST = 4000000
+USUAL_LIMIT, MAX_LIMIT = 20000000, 100000000
 SLICE = 4096
 # how many addresses a node has
 ADDRESSES = 4096
@@ -93,11 +93,11 @@ class Session:
         self.respond(able | {"exceptionBreakpointFilters": [{"default": True, "filter": it, "label": label} for it, label in filters.items()]})
 
     def do_launch(self):
-        path, limit = self.arguments["program"], self.arguments.get("limit", MOST)
+        path, limit = self.arguments["program"], self.arguments.get("limit", USUAL_LIMIT)
         if self.shown is not None:
             raise Refused("launch: a program is launched already")
-        if not 1 <= limit <= MOST:
-            raise Refused("launch: the limit is 1 to 4000000")
+        if not 1 <= limit <= MAX_LIMIT:
+            raise Refused("launch: the limit is 1 to 100000000")
         if self.arguments.get("order", "rounds") == "random" and not 0 <= self.arguments.get("seed", 0) < 1 << 32:
             raise Refused("launch: the order is rounds, greedy, or random with a seed of 0 to 4294967295")
         with open(path, encoding="latin-1", newline="") as file:

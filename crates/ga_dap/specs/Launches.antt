@@ -89,7 +89,7 @@ RefusesLaunch host request why messages after new = (messages ≡ refused_respon
 abbrev pub LaunchesAsked : {S : Type 0} → FileGiving S → S → ClientRequest → Option Text → Option ℕ → Option Schedule → Messages → S → Option Launched → Type 0
 LaunchesAsked G host request None limit schedule messages after new = RefusesLaunch host request (codes "launch: there is no program") messages after new
 LaunchesAsked G host request (Some path) None schedule messages after new =
-    RefusesLaunch host request (codes "launch: the limit is 1 to 4000000") messages after new
+    RefusesLaunch host request (codes "launch: the limit is 1 to 100000000") messages after new
 LaunchesAsked G host request (Some path) (Some limit) None messages after new =
     RefusesLaunch host request (codes "launch: the order is rounds, greedy, or random with a seed of 0 to 4294967295") messages after new
 LaunchesAsked G host request (Some path) (Some limit) (Some schedule) messages after new = ReadsFile G host request path limit schedule messages after new

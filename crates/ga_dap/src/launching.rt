@@ -154,7 +154,7 @@ fn launched_path<S: ProgramFiles>(
     ensures { IfOk result (λ new. (messages : Messages) × LaunchesAsked S.gives sources.old request.now (Some path.now) (parse_limit (view request.now.arguments)) (parse_schedule (view request.now.arguments)) messages sources.new new × SendsAll out.old messages out.new) }
 {
     match parse_limit(&request.arguments) {
-        None => refuse_launch(request, "launch: the limit is 1 to 4000000", out),
+        None => refuse_launch(request, "launch: the limit is 1 to 100000000", out),
         Some(limit) => launched_limit(alloc, sources, request, path, limit, out),
     }
 }

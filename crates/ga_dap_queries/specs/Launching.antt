@@ -9,13 +9,13 @@ use Rattle.ga_scheduler.specs.Schedules.{round_robin, greedy, random}
 use Rattle.ga_dap_protocol.specs.Messages.{member_text, member_number}
 use Rattle.ga_dap_queries.specs.Arguments.{member_flag}
 
--- a limit that can be
+-- a limit in range
 abbrev pub limit_within : ℕ → Option ℕ
-limit_within limit = if nat_lt limit 1 || nat_lt 4000000 limit then None else Some limit
+limit_within limit = if nat_lt limit 1 || nat_lt 100000000 limit then None else Some limit
 
--- how many events are to be kept at most: 4000000 where the client doesn't say
+-- the limit of the history: 20000000 if the client names none
 abbrev pub limit_by : Option Data → Option ℕ → Option ℕ
-limit_by None number = Some 4000000
+limit_by None number = Some 20000000
 limit_by (Some given) number = option_and_then limit_within number
 
 abbrev pub parse_limit : Data → Option ℕ

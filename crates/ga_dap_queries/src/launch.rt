@@ -10,19 +10,21 @@ use ga_dap_protocol::{number_at, text_at};
 use ga_scheduler::Schedule;
 use serde_json::Value;
 
-/// How many events are kept at most, where the client doesn't say.
-const USUAL_LIMIT: u64 = 4_000_000;
+/// The limit of the history if the client names none, in events, as that of `explore`.
+const USUAL_LIMIT: u32 = 20_000_000;
+/// The greatest limit of the history.
+const MAX_LIMIT: u64 = 100_000_000;
 
-/// How many events are to be kept at most, where that can be.
+/// The limit of the history in events, 1 to 100000000; none if the requested one isn't in this range.
 pub fn parse_limit(arguments: &Value) -> Option<u32>
     ensures value { result ≡ parse_limit (view arguments.now) }
-    ensures most { IfSome result (λ limit. limit ≤ 4000000) }
+    ensures most { IfSome result (λ limit. limit ≤ 100000000) }
 {
     if arguments.get("limit").is_none() {
-        return Some(USUAL_LIMIT as u32);
+        return Some(USUAL_LIMIT);
     }
     let limit = number_at(arguments, "limit")?;
-    if limit < 1 || limit > USUAL_LIMIT {
+    if limit < 1 || limit > MAX_LIMIT {
         return None;
     }
     Some(limit as u32)

@@ -11,7 +11,7 @@ use Rattle.ga_dap.proofs.launching.launched_path.Goals as goal
 pub returns-in-None : goal.returns-in-None
 returns-in-None g c =
     let P : Option ℕ → Type 0 = λ z. IfOk c.refuse_launch.result (λ (l : Option Launched). (messages : Messages) × LaunchesAsked g.S.ProgramFiles.gives c.args.sources.now c.args.request.now (Some c.args.path.now) z (parse_schedule (view c.args.request.now.arguments)) messages c.args.sources.now l × SendsAll c.args.out.now messages c.refuse_launch.new.out) in
-    subst P c.in-None.ensures.value (not_launched c.args.sources.now c.args.request.now (codes "launch: the limit is 1 to 4000000") c.args.out.now c.refuse_launch.new.out c.refuse_launch.result c.refuse_launch.ensures)
+    subst P c.in-None.ensures.value (not_launched c.args.sources.now c.args.request.now (codes "launch: the limit is 1 to 100000000") c.args.out.now c.refuse_launch.new.out c.refuse_launch.result c.refuse_launch.ensures)
 
 pub returns-in-Some : goal.returns-in-Some
 returns-in-Some g c =
