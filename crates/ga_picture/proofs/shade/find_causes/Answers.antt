@@ -5,7 +5,7 @@ use Rattle.ga_causal.specs.Dependence.{cause_nodes, is_marked, no_cause, event_a
 use Rattle.ga_causal.specs.Equivalence.{observes}
 use Rattle.ga_picture.proofs.Shaded.{AreGrounds, grounds_first, grounds_met, grounds_not}
 use Rattle.ga_picture.proofs.shade.find_causes.Goals as goal
-use Rattle.ga_picture.proofs.shade.find_causes.Goals.{then-met_by, else-met_by}
+use Rattle.ga_picture.proofs.shade.find_causes.Goals.{then-is_touched_by, else-is_touched_by}
 
 pub events-init : goal.events-init
 events-init c =
@@ -28,14 +28,14 @@ events-preserved c =
     let met : list_any (is_marked c.events.wanted) (cause_nodes (event_at c.args.events.now at)) ≡ c.is_touched_by.result =
     ap (λ z. list_any (is_marked c.events.wanted) (cause_nodes z)) here ∙ sym c.is_touched_by.ensures in
     elim c.if-is_touched_by.branch [
-      | then-met_by w ↦ (
+      | then-is_touched_by w ↦ (
           let flags : c.if-is_touched_by.flags.items ≡ set c.events.flags.items at true = ap (λ (v : Vec Bool Global). v.items) w.flags-is in
           subst (λ z. AreGrounds c.args.events.now c.args.place z c.if-is_touched_by.flags.items (is_marked c.if-is_touched_by.wanted)) down
           (subst (λ z. AreGrounds c.args.events.now c.args.place at z (is_marked c.if-is_touched_by.wanted)) (sym flags)
           (subst (λ z. AreGrounds c.args.events.now c.args.place at (set c.events.flags.items at true) (is_marked z)) (sym w.wanted-is)
           (grounds_met c.args.events.now c.args.place at c.events.flags.items (is_marked c.events.wanted) (is_marked w.add_seen-then-is_touched_by.new.self) c.requires under before (met ∙ w.if-is_touched_by.true)
           (λ n. w.add_seen-then-is_touched_by.ensures n ∙ ap (λ z. is_marked c.events.wanted n || observes z n) (sym here))))))
-      | else-met_by w ↦ (
+      | else-is_touched_by w ↦ (
           let flags : c.if-is_touched_by.flags.items ≡ c.events.flags.items = ap (λ (v : Vec Bool Global). v.items) w.flags-is in
           subst (λ z. AreGrounds c.args.events.now c.args.place z c.if-is_touched_by.flags.items (is_marked c.if-is_touched_by.wanted)) down
           (subst (λ z. AreGrounds c.args.events.now c.args.place at z (is_marked c.if-is_touched_by.wanted)) (sym flags)

@@ -76,7 +76,7 @@ at_end c =
 
 pub resume_status-requires-clause-apart : goal.resume_status-requires-clause-apart
 resume_status-requires-clause-apart c =
-    subst IsApart (sym (at_end (goal.at.take_back-requires-clause-apart c).In-None))
+    subst IsApart (sym (at_end (goal.at.resume_status-requires-clause-apart c).In-None))
     (walked_apart c.args.node.now (drop c.args.to (take c.args.from c.args.self.now.items)) c.suspend_status-aside.ensures.apart c.requires.can)
 
 pub returns : goal.returns

@@ -4,14 +4,14 @@ use Rattle.ga_causal.specs.declared.chain.Link.{Link}
 use Rattle.ga_lab.specs.declared.fault.LabFault.{LabFault}
 use Rattle.ga_lab.specs.Machine.{causes_of}
 use Rattle.ga_lab.proofs.Explaining.{no_cause, no_effect, reasoned, why_refused, stands_counted}
-use Rattle.ga_lab.proofs.lab.Lab.why.Goals.{then-not-stands-via-then-not-stands, then-not-stands-via-else-not-stands+then-not-stands-2}
+use Rattle.ga_lab.proofs.lab.Lab.why.Goals.{then-not-has_step-via-then-not-has_step, then-not-has_step-via-else-not-has_step+then-not-has_step-2}
 use Rattle.ga_lab.proofs.lab.Lab.why.Goals as goal
 
 pub returns-then-not-has_step-clause-answer : goal.returns-then-not-has_step-clause-answer
 returns-then-not-has_step-clause-answer c = elim c.then-not-has_step.branch [
-  | then-not-stands-via-then-not-stands w ↦
+  | then-not-has_step-via-then-not-has_step w ↦
       inl (sym (no_cause c.args.self.now c.args.from.0.number c.args.from.1 c.args.to.0.number c.args.to.1 c.has_step.ensures.caused (sym c.has_step.ensures.value ∙ w.if-not-has_step.true)))
-  | then-not-stands-via-else-not-stands+then-not-stands-2 w ↦
+  | then-not-has_step-via-else-not-has_step+then-not-has_step-2 w ↦
       inl (sym (no_effect c.args.self.now c.args.from.0.number c.args.from.1 c.args.to.0.number c.args.to.1 c.has_step.ensures.caused (sym w.has_step-else-not-has_step.ensures.value ∙ w.if-not-has_step-2.true)))
 ]
 
