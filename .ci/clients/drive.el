@@ -1,7 +1,7 @@
 ;;; drive.el --- drives `ga144 dap' by dap-mode in batch -*- lexical-binding: t -*-
 
-;; GA144=PROGRAM SOURCE=FILE LINE=NUMBER emacs -Q --batch -l drive.el: a breakpoint, a step, that step taken back, and back to the load.
-;; The last line is `dap: ended 0' where all is well.
+;; SOURCE=FILE LINE=NUMBER emacs -Q --batch -l drive.el: a breakpoint, a step, its undo, and back to the load. The start-up file is that of
+;; docs/EDITORS.md and nothing else, in an empty home; `ga144' is on the PATH. The last line is `dap: ended 0' where all is well.
 
 ;;; Code:
 
@@ -9,16 +9,23 @@
       package-user-dir (expand-file-name "elpa" user-emacs-directory)
       package-directory-list '("/usr/share/emacs/site-lisp/elpa"))
 (package-initialize)
-(setq lsp-session-file (expand-file-name "lsp" user-emacs-directory)
-      dap-breakpoints-file (expand-file-name "dap-breakpoints" user-emacs-directory)
-      dap-auto-configure-features nil
-      lsp-keep-workspace-alive nil)
-(let ((here (file-name-directory load-file-name)))
-  (load (expand-file-name "../../editors/emacs/f18-mode.el" here) nil t)
-  (load (expand-file-name "../../editors/emacs/ga144-dap.el" here) nil t))
-;; (some of its variables are wanted in batch too)
-(require 'dap-ui)
-(setq ga144-dap-command (list (getenv "GA144") "dap"))
+
+(defconst top (expand-file-name "../.." (file-name-directory load-file-name)))
+
+(defun start-up-lines ()
+  "The forms that docs/EDITORS.md gives for Emacs, with this checkout as /PATH."
+  (with-temp-buffer
+    (insert-file-contents (expand-file-name "docs/EDITORS.md" top))
+    (re-search-forward "^| Emacs |.*$")
+    (let ((row (match-string 0)) (from 0) forms)
+      (while (string-match "`\\((load [^`]*)\\)`" row from)
+        (push (replace-regexp-in-string "/PATH" top (match-string 1 row) t t) forms)
+        (setq from (match-end 0)))
+      (mapconcat #'identity (nreverse forms) "\n"))))
+
+(let ((file (expand-file-name "~/.emacs")))
+  (write-region (start-up-lines) nil file nil 'quiet)
+  (load file nil t t))
 
 (defvar source (getenv "SOURCE"))
 (defvar line (string-to-number (getenv "LINE")))
@@ -52,7 +59,7 @@
 (goto-char (point-min))
 (forward-line (1- line))
 (dap-breakpoint-add)
-(dap-start-debugging (ga144-dap--filled (list :type "ga144" :request "launch" :name "GA144")))
+(dap-debug (cdr (assoc "GA144" dap-debug-template-configurations)))
 (let ((session (dap--cur-session)))
   (stands session)
   (dap-continue session (dap--debug-session-thread-id session))

@@ -6,6 +6,8 @@
 ;;; Code:
 
 (require 'dap-mode)
+;; dap-mode reads variables of dap-ui, and doesn't load it.
+(require 'dap-ui)
 
 (defgroup ga144 nil "The debugger of the GA144." :group 'tools)
 
