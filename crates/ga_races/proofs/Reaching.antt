@@ -116,12 +116,12 @@ module _ (xs : List Action) (first place : ℕ) (touched shown looked : ℕ → 
 
   pub met_happens : is_met touched shown looked act ≡ true → HappensBefore xs first place
   met_happens h = elim (or_cases (list_any touched (nodes_of act.cause.event)) ((act.cause.look && list_any shown (nodes_of act.cause.event)) || is_shown_to looked act.cause.event act.first act.second) h) [
-    | inl a ↦ (let k = Independence.any_of touched (nodes_of act.cause.event) a in
+    | inl a ↦ (let k = Frees.any_of touched (nodes_of act.cause.event) a in
         let p = t.some k.node k.marked in
         on p.0 p.1 p.2 (bound_by_node (action_at xs p.0) (action_in act) (any_at (touches (action_at xs p.0).cause.event) (nodes_of act.cause.event) k.node k.listed p.3)))
     | inr b ↦ elim (or_cases (act.cause.look && list_any shown (nodes_of act.cause.event)) (is_shown_to looked act.cause.event act.first act.second) b) [
       | inl c ↦ (let q = and_parts act.cause.look (list_any shown (nodes_of act.cause.event)) c in
-          let k = Independence.any_of shown (nodes_of act.cause.event) q.1 in
+          let k = Frees.any_of shown (nodes_of act.cause.event) q.1 in
           let p = s.some k.node k.marked in
           on p.0 p.1 p.2 (bound_by_change (action_at xs p.0) (action_in act)
           (and_both act.cause.look (list_any (action_at xs p.0).changes (nodes_of act.cause.event)) q.0 (any_at (action_at xs p.0).changes (nodes_of act.cause.event) k.node k.listed p.3))))
@@ -135,16 +135,16 @@ module _ (xs : List Action) (first place : ℕ) (touched shown looked : ℕ → 
 
   met_by : (m : ℕ) → m < place → IsOnward xs first m → are_dependent (action_at xs m) (action_in act) ≡ true → is_met touched shown looked act ≡ true
   met_by m k r b = elim (bound_cases (action_at xs m) (action_in act) b) [
-    | inl a ↦ (let n = Independence.any_of (touches (action_at xs m).cause.event) (nodes_of act.cause.event) a in
+    | inl a ↦ (let n = Frees.any_of (touches (action_at xs m).cause.event) (nodes_of act.cause.event) a in
         or_left (list_any touched (nodes_of act.cause.event)) ((act.cause.look && list_any shown (nodes_of act.cause.event)) || is_shown_to looked act.cause.event act.first act.second)
         (any_at touched (nodes_of act.cause.event) n.node n.listed (t.all m n.node k r n.marked)))
     | inr (inl a) ↦ (let q = and_parts (action_at xs m).cause.look (list_any (action_in act).changes (nodes_of (action_at xs m).cause.event)) a in
-        let n = Independence.any_of (action_in act).changes (nodes_of (action_at xs m).cause.event) q.1 in
+        let n = Frees.any_of (action_in act).changes (nodes_of (action_at xs m).cause.event) q.1 in
         or_right (list_any touched (nodes_of act.cause.event)) ((act.cause.look && list_any shown (nodes_of act.cause.event)) || is_shown_to looked act.cause.event act.first act.second)
         (or_right (act.cause.look && list_any shown (nodes_of act.cause.event)) (is_shown_to looked act.cause.event act.first act.second)
         (shown_all looked act.cause.event act.first act.second n.node n.marked (l.all m n.node k r (and_both (action_at xs m).cause.look (touches (action_at xs m).cause.event n.node) q.0 n.listed)))))
     | inr (inr a) ↦ (let q = and_parts act.cause.look (list_any (action_at xs m).changes (nodes_of act.cause.event)) a in
-        let n = Independence.any_of (action_at xs m).changes (nodes_of act.cause.event) q.1 in
+        let n = Frees.any_of (action_at xs m).changes (nodes_of act.cause.event) q.1 in
         or_right (list_any touched (nodes_of act.cause.event)) ((act.cause.look && list_any shown (nodes_of act.cause.event)) || is_shown_to looked act.cause.event act.first act.second)
         (or_left (act.cause.look && list_any shown (nodes_of act.cause.event)) (is_shown_to looked act.cause.event act.first act.second)
         (and_both act.cause.look (list_any shown (nodes_of act.cause.event)) q.0 (any_at shown (nodes_of act.cause.event) n.node n.listed (s.all m n.node k r n.marked)))))
