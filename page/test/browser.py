@@ -72,6 +72,23 @@ class Browser:
             raise RuntimeError(got["exceptionDetails"].get("exception", {}).get("description", str(got)))
         return got["result"].get("value")
 
+    def size(self, width, height):
+        self.call("Emulation.setDeviceMetricsOverride", width=width, height=height, deviceScaleFactor=1, mobile=width < 800)
+
+    def click(self, element):
+        """Moves the mouse to an element, which has to be in sight, and clicks; returns the milliseconds until the page has drawn."""
+        left, top, inside = self.run(f"""
+const it = {element}; it.scrollIntoViewIfNeeded();
+const box = it.getBoundingClientRect(), x = box.left + Math.min(box.width / 2, 80), y = box.top + box.height / 2, at = document.elementFromPoint(x, y);
+return [x, y, it === at || it.contains(at)]""")
+        if not inside:
+            raise RuntimeError(f"nothing to click at: {element}")
+        self.call("Input.dispatchMouseEvent", type="mouseMoved", x=left, y=top)
+        self.run("window.clicked = performance.now()")
+        for kind in ("mousePressed", "mouseReleased"):
+            self.call("Input.dispatchMouseEvent", type=kind, x=left, y=top, button="left", clickCount=1)
+        return self.run("await new Promise(requestAnimationFrame); return performance.now() - window.clicked")
+
     def shot(self, file):
         with open(file, "wb") as it:
             it.write(base64.b64decode(self.call("Page.captureScreenshot", format="png")["data"]))

@@ -22,10 +22,11 @@ return { example, selected, theme, told, then, own, count: more.textContent, ins
     check(said["selected"] == "001" and said["example"] == "fault.f18" and said["own"] == "own text", f"what is loaded, and where a run ended: {said}")
     check(said["told"] == other[said["theme"]] and said["then"][0] != said["theme"] and said["then"][1] == other[said["then"][0]], f"the theme's button: {said}")
     check(said["count"] == "123456" and said["inside"], f"a cell's count: {said}")
-    browser.call("Emulation.setDeviceMetricsOverride", width=390, height=800, deviceScaleFactor=1, mobile=True)
-    said = browser.run("""page.draw(); return NAMES.filter(n => { const it = find("n" + n).querySelector(".name").getBoundingClientRect(), cell = find("n" + n).getBoundingClientRect(); return !(it.width > 8 && it.right <= cell.right + 1); }).length""")
-    check(said == 0, f"{said} names that aren't whole on a phone's chip")
-    browser.call("Emulation.setDeviceMetricsOverride", width=1280, height=720, deviceScaleFactor=1, mobile=False)
+    browser.size(390, 800)
+    said = browser.run(f"""page.open({json.dumps(EIGHTEEN)}); page.command("run 900"); page.draw();
+return page.working.filter(n => {{ const it = find("n" + n).querySelector(".name").getBoundingClientRect(), cell = find("n" + n).getBoundingClientRect(); return !(it.width > 8 && it.right <= cell.right + 1); }})""")
+    check(said == [], f"names that aren't whole on a phone's chip: {said}")
+    browser.size(1280, 720)
 
 
 def from_afar(browser, check):
@@ -71,17 +72,17 @@ return {{ alone: rate(1000, n => {{ for (let i = 0; i < n; i++) page.session.obe
 
 def shots(browser, folder):
     os.makedirs(folder, exist_ok=True)
-    for name, width, height in (("wide", 1280, 720), ("phone", 390, 1600)):
-        browser.call("Emulation.setDeviceMetricsOverride", width=width, height=height, deviceScaleFactor=1, mobile=name == "phone")
+    for name, width, height in (("wide", 1280, 720), ("wider", 1700, 1000), ("phone", 390, 1900)):
+        browser.size(width, height)
         for theme in ("dark", "light"):
             browser.run(f"document.documentElement.dataset.theme = '{theme}'; find('examples').value = 'fault.f18'; find('examples').onchange(); page.choose(['000', 7]); page.effects();")
             browser.shot(f"{folder}/{name}-{theme}.png")
-    browser.call("Emulation.setDeviceMetricsOverride", width=1280, height=720, deviceScaleFactor=1, mobile=False)
+    browser.size(1280, 720)
     browser.run("find('examples').value = 'pipeline.f18'; find('examples').onchange(); page.command('run until stop'); page.choose(page.session.events[500].ends[0]);")
     browser.shot(f"{folder}/pipeline.png")
     browser.run("find('examples').value = 'look_again'; find('examples').onchange(); page.choose(page.session.events[3].ends[0]);")
     browser.shot(f"{folder}/look.png")
-    browser.run(f"page.open({json.dumps(EIGHTEEN)}); page.command('run 100000'); page.picture.fit(); page.draw_picture(); window.scrollTo(0, 400)")
+    browser.run(f"page.open({json.dumps(EIGHTEEN)}); page.command('run 100000'); page.picture.fit(); page.draw_picture()")
     browser.shot(f"{folder}/afar.png")
-    browser.run("window.scrollTo(0, 0); page.open('node 000\\n: main 1 foo +\\n')")
+    browser.run("page.open('node 000\\n: main 1 foo +\\n')")
     browser.shot(f"{folder}/refused.png")

@@ -8,7 +8,8 @@
    left one.
 3. Runs in each order and up to a condition, who waits for whom, what a rollback would take, the words of a link and the other way of
    a race, each as the core answers it to its line.
-4. Source lines as worked by hand, keys, the session in the address, refused texts and addresses, ends of lines, a small heap:
+4. By mouse events: the way to a fault in few clicks, words and steps, links, redo, and rows that stay (mouse.py).
+5. Source lines as worked by hand, keys, the session in the address, refused texts and addresses, ends of lines, a small heap:
    `no 4 memory`, and the session goes on.
 """
 import base64, json, os, random, re, subprocess, sys, tempfile, time, zlib
@@ -20,6 +21,7 @@ from browser import Browser
 from runs import orders, races, until_stop, whence
 from listing import listed
 from looks import commands, from_afar, shots, shown, times
+import mouse
 from source import asm
 from sources import Generator, changed
 
@@ -110,7 +112,7 @@ const asked = others.map(at => page.session.events[at].ends[0]), why = page.sess
 const causes = others.every((at, i) => marks[at] === 2 ? at === it.place || !why[i] : (marks[at] === 1) === why[i]);
 const any = (n, mark) => page.session.events.some(e => marks[e.place] === mark && e.ends.some(([m]) => m === n)), has = (it, kind) => it.classList.contains(kind);
 const colours = NAMES.every(n => has(find("n" + n), "goes") === any(n, 2) && has(find("n" + n), "past") === (!any(n, 2) && any(n, 1)))
-    && [...find("trace").children].every(it => has(it, "goes") === (it.textContent[0] === "×") && has(it, "past") === (it.textContent[0] === "◆"));
+    && [...document.querySelectorAll("#trace .step")].every(it => has(it, "goes") === (it.textContent[0] === "×") && has(it, "past") === (it.textContent[0] === "◆"));
 const said = page.said, nodes = JSON.stringify(page.then), button = document.getElementById('take').textContent, [head, ...rows] = page.takes;
 const firsts = Object.fromEntries(rows.map(row => row.split(' ').slice(0, 2))), effects = head === `effects ${goes} ${rows.length}` && page.session.events.every(e => e.ends.every(([n, k]) => (k >= firsts[n]) === (marks[e.place] === 2)));
 if (!%s) return { goes, said, button, causes, effects, colours };
@@ -125,7 +127,7 @@ return { goes, said, button, causes, effects, colours, same: JSON.stringify(stay
 def choose(browser, name, dice, events, take):
     others = [dice.randrange(events) for _ in range(WHYS)]
     said = browser.run(CHOOSE % (dice.randrange(events), dice.randrange(2), json.dumps(others), json.dumps(take)))
-    check(said["said"].startswith(f"removed {said['goes']} kept ") and said["button"].endswith(f": {said['goes']} events"), f"{name}: {said}")
+    check(said["said"].startswith(f"removed {said['goes']} kept ") and said["button"].endswith(f": {said['goes']} event{'s' * (said['goes'] != 1)}"), f"{name}: {said}")
     check(said["causes"], f"{name}: other causes than why tells: {said}")
     check(said["colours"], f"{name}: other colours than what goes and what led to it: {said}")
     check(said["effects"], f"{name}: effects tells otherwise what goes: {said}")
@@ -170,20 +172,20 @@ def source_lines(browser):
     said = browser.run("""
 page.open("node 000\\n: main 3 dup +\\n");
 for (let i = 0; i < 6; i++) page.command("step 000");
-const rows = [...find("trace").children].map(it => (it.querySelector(".source") || { textContent: "" }).textContent);
+const rows = [...document.querySelectorAll("#trace .step .source")].map(it => it.textContent);
 page.forget(); page.open("node 000\\n: main 3 dup +\\n");
 return { rows, here: find("node").querySelector(".source").textContent, text: page.session.text };""")
-    line = "main : main 3 dup +"
-    check(said == {"rows": [line] * 5 + [""], "here": line, "text": "node 000\n: main 3 dup +\nend\n"}, f"source lines: {said}")
+    check(said == {"rows": ["2 3", "2 3", "2 dup", "2 +", "2 +", ""], "here": "main : main 3 dup +", "text": "node 000\n: main 3 dup +\nend\n"}, f"source lines: {said}")
     said = browser.run("""
 const opened = page.open("node 000\\n: main foo\\n"), box = find("text");
 return [opened, find("log").textContent, box.value.slice(box.selectionStart, box.selectionEnd), page.session.text];""")
     check(said[:3] == [False, "> source\nga144: line 2: what is foo\n", ": main foo"] and said[3].startswith("node 000\n: main 3"), f"a refused source: {said}")
-    # Eight steps a turn: a fetch and four opcodes of cell 0, a fetch and two opcodes of cell 1.
+    # Eight steps a turn: a fetch and four opcodes of cell 0, a fetch and two opcodes of cell 1; at each the word's column.
     said = browser.run("""
 page.open("node 000\\n: main dup dup dup dup drop main ;\\n"); page.command("run greedy 400"); page.choose(["000", 150]);
-return [...find("trace").children].map(it => [+it.textContent.split(" ")[2], it.querySelector(".source b").textContent]);""")
-    check(len(said) == 120 and all(label == ("main" if (step - 1) % 8 < 5 else "main+1") for step, label in said), f"source lines of a loop: {said}")
+return [...document.querySelectorAll("#trace .step")].map(it => [+it.dataset.k, page.session.places.row("000", +it.dataset.k)]).map(([k, it]) => [k, it.place.cell, it.key, it.place.label]);""")
+    turn = [[0, "2:8"], [0, "2:8"], [0, "2:12"], [0, "2:16"], [0, "2:20"], [1, "2:24"], [1, "2:24"], [1, "2:29"]]
+    check(len(said) > 9 and all(row == [row[0], *turn[(row[0] - 1) % 8], "main"] for row in said), f"source lines of a loop: {said}")
     said = browser.run("page.open('ga144 1\\nnode 000\\np 000000\\nend\\nstep 000\\nquit\\nstep 000\\n'); return page.session.events.map(it => it.text)")
     check(said == ["000 1 fetch"], f"behind quit: {said}")
     browser.run("document.activeElement.blur(); find('examples').value = 'first.f18'; find('examples').onchange()")
@@ -250,10 +252,10 @@ def ends_of_lines(browser):
 
 def widths(browser):
     for width, height in ((1280, 720), (390, 800)):
-        browser.call("Emulation.setDeviceMetricsOverride", width=width, height=height, deviceScaleFactor=1, mobile=width < 800)
+        browser.size(width, height)
         wide = browser.run("page.draw(); return Math.max(document.documentElement.scrollWidth, document.body.scrollWidth)")
         check(wide <= width, f"{wide} wide at {width}")
-    browser.call("Emulation.setDeviceMetricsOverride", width=1280, height=720, deviceScaleFactor=1, mobile=False)
+    browser.size(1280, 720)
 
 
 def small_heap(browser):
@@ -297,6 +299,11 @@ return [counts, other];""")
     check(not said[1] and all(right > 9 and refused > 3 for right, refused in said[0]), f"heaps of all sizes: {said}")
 
 
+def exceptions(browser):
+    thrown = [it for it in browser.heard if it.get("method") == "Runtime.exceptionThrown"]
+    check(not thrown, f"exceptions: {thrown[:2]}")
+
+
 def main():
     start = time.time()
     with Browser(size=(1280, 720)) as browser:
@@ -320,9 +327,13 @@ def main():
             times(browser)
             commands(browser)
             shots(browser, sys.argv[1])
-        thrown = [it for it in browser.heard if it.get("method") == "Runtime.exceptionThrown"]
-        check(not thrown, f"exceptions: {thrown[:2]}")
-    print(f"page: ready after {began:.2f} s; {compared} sessions and {assembled} sources answered alike; {taken} steps taken back; no memory at {made} events; {len(faults)} faults")
+        exceptions(browser)
+    # (In a browser of their own, as a visitor opens the page.)
+    with Browser(size=(1280, 720)) as browser:
+        slowest = mouse.tried(browser, lambda: ready(browser, PAGE), check)
+        exceptions(browser)
+    check(os.path.getsize(f"{TOP}/page/out/ga144.html") < 900000, "the page has 900 KB or more")
+    print(f"page: ready after {began:.2f} s; {compared} sessions and {assembled} sources answered alike; {taken} steps taken back; no memory at {made} events; the slowest click at 10^5 events {slowest:.0f} ms; {len(faults)} faults")
     sys.exit(bool(faults))
 
 

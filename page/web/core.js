@@ -1,4 +1,3 @@
-"use strict";
 // The proved calls, each a question to a module of its own: text in, an answer out, nothing kept in between. Null is answered
 // where there is no memory for the question itself.
 const bytes_of = text => typeof text === "string" ? new TextEncoder().encode(text) : text;

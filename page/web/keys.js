@@ -39,39 +39,59 @@ function set_theme(name) { document.documentElement.dataset.theme = name; find("
 function acts_of(page) {
   const theme = () => { set_theme(document.documentElement.dataset.theme === "light" ? "dark" : "light"); page.draw(); };
   const look = act => () => { act(); page.draw_picture(); };
-  // Where the browser gives no clipboard, the text is selected to be copied.
-  const copy = async text => {
-    try { await navigator.clipboard.writeText(text); page.say("copy", [`${text.length} bytes`]); } catch {
-      find("session").open = true; find("text").focus(); find("text").value = text; find("text").select();
-    }
-  };
-  const save = () => { const it = document.createElement("a"); it.href = URL.createObjectURL(new Blob([page.session.text])); it.download = "session"; it.click(); };
-  const link = async () => { const it = await link_of(page.session.text); if (it) history.replaceState(null, "", it); page.say("link", [it ? "the address holds the session" : "too long for an address: save it"]); };
   return {
     s: () => page.command("step " + page.selected), r: () => page.round(), m: () => page.run(find("most").value.trim()), u: () => find("until").focus(), v: () => page.next_order(), b: () => page.command("back"),
-    t: () => page.take(), Enter: () => page.take(), w: () => page.why(), h: () => page.command("who"), f: () => page.effects(), y: () => page.words(), q: () => page.whence(), Escape: () => { page.forget(); page.draw(); },
-    ",": () => page.along(-1), ".": () => page.along(1), PageUp: () => page.along(-20), PageDown: () => page.along(20), Home: () => page.along(-1e9), End: () => page.along(1e9), p: () => page.across(),
+    t: () => page.take(), Enter: () => page.take(), g: () => page.redo(), w: () => page.why(), h: () => page.command("who"), f: () => page.effects(), y: () => page.words(), q: () => page.whence(), k: () => page.because(), Escape: () => { page.forget(); page.draw(); },
+    ",": () => page.along(-1), ".": () => page.along(1), PageUp: () => page.along(-20), PageDown: () => page.along(20), Home: () => page.along(-1e9), End: () => page.along(1e9), p: () => page.across(), j: () => page.next_of_word(),
     ArrowLeft: () => page.beside(-1, 0), ArrowRight: () => page.beside(1, 0), ArrowUp: () => page.beside(0, 1), ArrowDown: () => page.beside(0, -1),
     "+": look(() => page.picture.zoom(.6)), "-": look(() => page.picture.zoom(1.6)), "0": look(() => page.picture.fit()), "[": look(() => page.picture.move(-.4)), "]": look(() => page.picture.move(.4)),
-    e: () => find("examples").focus(), a: () => find("idle").click(), z: () => find("races").click(), n: () => find("most").focus(), "/": () => find("line").focus(), l: theme, "?": () => find("keys").showModal(),
-    c: () => copy(page.session.text), d: () => copy(page.session.script), x: save, o: () => find("file").click(), "#": link, i: () => { find("session").open = true; find("text").focus(); },
+    e: () => find("examples").focus(), a: () => find("idle").click(), z: () => find("races").click(), n: () => find("most").focus(), "/": () => find("line").focus(), l: theme, "?": () => show_help((page.session.ask(["help"]) || [[NO_MEMORY]])[0]),
+    o: () => find("file").click(), i: () => page.edit(find("editor").hidden), ...acts_on_text(page),
   };
 }
 
+// The session's text: copied, saved, or in the address.
+function acts_on_text(page) {
+  // Where the browser gives no clipboard, the text is selected to be copied.
+  const copy = async text => {
+    try { await navigator.clipboard.writeText(text); page.say("copy", [`${text.length} bytes`]); } catch { page.edit(true); find("text").value = text; find("text").select(); }
+  };
+  const save = () => { const it = document.createElement("a"); it.href = URL.createObjectURL(new Blob([page.session.text])); it.download = "session"; it.click(); };
+  const link = async () => { const it = await link_of(page.session.text); if (it) history.replaceState(null, "", it); page.say("link", [it ? "the address holds the session" : "too long for an address: save it"]); };
+  return { c: () => copy(page.session.text), d: () => copy(page.session.script), x: save, "#": link };
+}
+
 function listen_to_keys(acts) {
-  const buttons = { step: "s", round: "r", run: "m", back: "b", who: "h", effects: "f", words: "y", whence: "q", take: "t", theme: "l", help: "?", in: "+", out: "-", fit: "0", earlier: "[", later: "]", copy: "c", plain: "d", save: "x", load: "o", link: "#" };
+  const buttons = { step: "s", round: "r", run: "m", back: "b", who: "h", effects: "f", words: "y", whence: "q", because: "k", take: "t", redo: "g", theme: "l", help: "?", in: "+", out: "-", fit: "0", earlier: "[", later: "]", copy: "c", plain: "d", save: "x", load: "o", link: "#", edit: "i" };
   for (const id in buttons) find(id).onclick = () => acts[buttons[id]]();
   document.onkeydown = event => {
-    const typed = /INPUT|TEXTAREA|SELECT/.test(event.target.tagName) && event.target.type !== "checkbox";
-    if (event.key === "Escape" && typed) return event.target.blur();
-    if (event.ctrlKey || event.metaKey || event.altKey || typed || !acts[event.key] || find("keys").open) return;
-    if (event.key === "Enter" && event.target.tagName !== "BODY" && event.target.id !== "chip") return;
-    event.preventDefault(); acts[event.key]();
+    const { target, key } = event, typed = /INPUT|TEXTAREA|SELECT/.test(target.tagName) && target.type !== "checkbox";
+    if (key === "Escape" && typed) return target.blur();
+    if (event.ctrlKey || event.metaKey || event.altKey || typed || find("keys").open) return;
+    if (key === "Enter" && target.dataset.go) return target.click();
+    // Other lists are scrolled by the browser.
+    if (/^(source|memory|log|racing)$/.test(target.id) && /^(Arrow|Page|Home|End)/.test(key)) return;
+    // In the list of steps these keys choose one.
+    const act = target.id === "trace" && { ArrowUp: acts[","], ArrowDown: acts["."] }[key] || acts[key];
+    if (!act || (key === "Enter" && target.tagName !== "BODY" && !/^(chip|trace)$/.test(target.id))) return;
+    event.preventDefault(); act();
+  };
+}
+
+// The field of commands; the arrows bring earlier ones back.
+function listen_to_commands(page) {
+  const given = [];
+  let at = 0;
+  find("line").onkeydown = event => {
+    const box = find("line"), by = { ArrowUp: -1, ArrowDown: 1 }[event.key];
+    if (by && given.length) { event.preventDefault(); at = Math.max(0, Math.min(given.length, at + by)); box.value = given[at] || ""; }
+    if (event.key !== "Enter") return;
+    if (box.value) at = given.push(box.value);
+    page.command(box.value); box.value = "";
   };
 }
 
 function listen_to_fields(page, acts, examples) {
-  find("line").onkeydown = event => { if (event.key === "Enter") { page.command(find("line").value); find("line").value = ""; } };
   find("text").onkeydown = event => { if (event.key === "Enter" && event.ctrlKey) page.open(find("text").value); };
   // (Then the keys are the page's again.)
   const entered = (id, act) => { find(id).onkeydown = event => { if (event.key === "Enter") { find(id).blur(); act(); } }; };
@@ -100,6 +120,7 @@ function listen_to_texts(page) {
 function listen(page, examples) {
   const acts = acts_of(page);
   listen_to_keys(acts);
+  listen_to_commands(page);
   listen_to_fields(page, acts, examples);
   listen_to_texts(page);
   listen_to_picture(page);
@@ -143,7 +164,7 @@ function listen_to_picture(page) {
     if (event.shiftKey || event.deltaX) page.picture.move((event.deltaX || event.deltaY) / 800); else page.picture.zoom(event.deltaY > 0 ? 1.25 : .8, event.offsetX / canvas.clientWidth);
     redraw();
   }, { passive: false });
-  window.addEventListener("resize", redraw);
+  window.addEventListener("resize", () => requestAnimationFrame(() => page.draw()));
 }
 
 async function begin() {
@@ -151,7 +172,7 @@ async function begin() {
   const examples = JSON.parse(find("sessions").textContent);
   let core;
   try { core = new Core(Uint8Array.from(atob(find("module").textContent), it => it.charCodeAt(0))); } catch (fault) {
-    find("status").textContent = "this browser has no WebAssembly with memories of 64 bits: take a newer Chromium or Firefox";
+    find("status").textContent = find("status").title = "this browser has no WebAssembly with memories of 64 bits: take a newer Chromium or Firefox";
     return;
   }
   const page = window.page = new Page(core), groups = { source: document.createElement("optgroup"), sessions: document.createElement("optgroup") };

@@ -25,16 +25,16 @@ function brief(count) { return count < 10000 ? `${count}` : count < 1e6 ? `${Mat
 
 class Picture {
   constructor(canvas) { this.canvas = canvas; this.from = 0; this.wide = 60; this.set([], []); }
-  // The events, and the nodes that have a line.
-  set(events, names) { this.events = events; this.names = names; Object.assign(this, placed(events)); }
+  // The events, and the nodes that have a line; and whether all events were to be seen before.
+  set(events, names) { this.was_whole = this.from === 0 && this.wide >= this.deepest; this.events = events; this.names = names; Object.assign(this, placed(events)); }
   show(x) { if (x < this.from + 2 || x > this.from + this.wide - 2) this.from = Math.max(0, x - this.wide * .8); }
   zoom(by, around = .5) {
     const wide = Math.max(8, Math.min(this.wide * by, Math.max(30, this.deepest + 4)));
     this.from = Math.max(0, this.from + (this.wide - wide) * around); this.wide = wide;
   }
   // The beginning, so that its events can be told apart; and all of it.
-  begin() { this.from = 0; this.wide = Math.max(30, Math.min(this.deepest + 4, this.canvas.clientWidth / 9)); }
-  fit() { this.from = 0; this.wide = Math.max(30, this.deepest + 4); }
+  begin() { this.from = 0; this.wide = Math.max(this.events.length ? 16 : 30, Math.min(this.deepest + 4, this.canvas.clientWidth / 9)); }
+  fit() { this.from = 0; this.wide = Math.max(16, this.deepest + 4); }
   move(part) { this.from = Math.max(0, Math.min(this.from + part * this.wide, this.deepest - this.wide / 2)); }
 
   // The first place in the order whose depth is at least x.
@@ -46,11 +46,11 @@ class Picture {
 
   draw(marks, chosen, selected, races = []) {
     const { canvas } = this, ratio = window.devicePixelRatio || 1, width = canvas.clientWidth, many = this.names.length;
-    const height = Math.max(120, Math.min(900, 16 + many * (many > 30 ? 9 : 22)));
+    const height = Math.max(canvas.parentElement.clientHeight || 120, 16 + many * (many > 30 ? 9 : 16));
     canvas.style.height = height + "px"; canvas.width = width * ratio; canvas.height = height * ratio;
     const g = canvas.getContext("2d"), style = getComputedStyle(document.documentElement), colour = name => style.getPropertyValue("--" + name).trim();
     g.scale(ratio, ratio); g.textBaseline = "middle"; g.font = "10px DejaVu Sans Mono, monospace";
-    const left = 34, row = (height - 12) / Math.max(1, many), unit = (width - left) / this.wide;
+    const left = 34, row = Math.min(40, (height - 12) / Math.max(1, many)), unit = (width - left) / this.wide;
     const colours = [colour("dim"), colour("past"), colour("goes")], back = this.back = colour("card"), text = colour("text"), pick = colour("pick");
     const line = Object.fromEntries(this.names.map((n, i) => [n, 10 + row * (i + .4)]));
     for (const n of this.names) {
@@ -70,15 +70,16 @@ class Picture {
         const [one, other] = event.ends.map(([n]) => line[n]), way = Math.sign(other - one);
         g.setLineDash(kind === GOES ? [4, 3] : []); g.lineWidth = kind === PAST ? 2.5 : 1; g.beginPath(); g.moveTo(px, one); g.lineTo(px, other); g.stroke(); g.setLineDash([]);
         if (unit > 5) { g.beginPath(); g.moveTo(px, other - 4 * way); g.lineTo(px - 3, other - 10 * way); g.lineTo(px + 3, other - 10 * way); g.fill(); }
-        if (unit > 24) labels.push([event.label.replace(/^0+(?=.)/, ""), px + 4, (one + other) / 2, text, "left"]);
+        if (unit > 26) labels.push([event.label.replace(/^0+(?=.)/, ""), px + 4, (one + other) / 2, text, "left"]);
       }
       for (const [n, k] of event.ends) {
         dots.push([kind, px, line[n], event.label === "wait"]);
         this.spots.push([px, line[n], n, k, event]);
       }
-      if (!event.pass && row > 18 && unit > 24) labels.push([event.label, px, line[event.ends[0][0]] - 11, colours[0], "center"]);
+      if (!event.pass && row > 18 && unit > 26) labels.push([event.label, px, line[event.ends[0][0]] - 11, colours[0], "center"]);
     }
     // Over the lines the labels, and over these the events.
+    g.font = "9px DejaVu Sans Mono, monospace";
     for (const [label, x, y, tint, align] of labels) { g.textAlign = align; lettered(g, label, x, y, tint, back); }
     g.textAlign = "left";
     this.draw_dots(g, dots, unit, colours);

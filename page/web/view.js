@@ -1,6 +1,8 @@
 // How nodes and events look. The names of opcodes, OPCODES, are those of the core; the build writes them into the page.
 const find = id => document.getElementById(id);
 const safe = text => text.replace(/&/g, "&amp;").replace(/</g, "&lt;");
+const hex = (number, digits) => number.toString(16).padStart(digits, "0");
+function element(tag, kind, text) { const it = document.createElement(tag); if (kind) it.className = kind; if (text !== undefined) it.textContent = text; return it; }
 
 // Which way a side of a node leads: its row and column say.
 function compass(name, side) {
@@ -23,12 +25,6 @@ function decode(word) {
   return { names, literals };
 }
 
-function doing(node) {
-  if (node.stop) return "■ " + node.stop;
-  if (node.wait) return { read: "?", write: "!", fetch: "@" }[node.wait] + node.set.replace(/-/g, "");
-  return "▶ " + (node.slot === 4 ? "fetch" : (decode(parseInt(node.i, 16)).names[node.slot] || "fetch"));
-}
-
 function shape(g, kind, x, y, size, hollow) {
   g.lineWidth = 2; g.beginPath();
   if (kind === GOES) { g.moveTo(x - size, y - size); g.lineTo(x + size, y + size); g.moveTo(x + size, y - size); g.lineTo(x - size, y + size); g.stroke(); return; }
@@ -40,4 +36,33 @@ function shape(g, kind, x, y, size, hollow) {
 function lettered(g, text, x, y, colour, back) {
   g.lineJoin = "round"; g.lineWidth = 4; g.strokeStyle = back; g.strokeText(text, x, y);
   g.fillStyle = colour; g.fillText(text, x, y);
+}
+
+// A list of rows of one height, of which only those are in the page that are seen. It keeps its place whatever its rows become.
+const ROW = 17;
+class List {
+  constructor(box, row_of, ready = () => {}) { this.box = box; this.row_of = row_of; this.ready = ready; this.count = 0; this.all = element("div", "all"); this.part = element("div", "part"); this.all.append(this.part); }
+  // The rows that are seen, from one on and before another.
+  seen() {
+    const top = this.box.scrollTop, from = Math.max(0, Math.floor(top / ROW) - 2);
+    return [from, Math.min(this.count, Math.ceil((top + (this.box.clientHeight || 400)) / ROW) + 2)];
+  }
+  set(count) {
+    if (this.all.parentNode !== this.box) this.box.replaceChildren(this.all);
+    this.count = count; this.all.style.height = count * ROW + "px";
+    this.box.onscroll = () => this.draw();
+  }
+  // Scrolls if the row isn't wholly seen.
+  reveal(row) {
+    const top = row * ROW, { scrollTop, clientHeight } = this.box;
+    if (top < scrollTop || top + ROW > scrollTop + clientHeight) this.box.scrollTop = Math.max(0, top - clientHeight / 2 + ROW);
+  }
+  end() { this.box.scrollTop = this.count * ROW; }
+  draw() {
+    this.ready();
+    const [from, upto] = this.seen(), rows = [];
+    for (let at = from; at < upto; at++) rows.push(this.row_of(at));
+    this.part.style.transform = `translateY(${from * ROW}px)`;
+    this.part.replaceChildren(...rows);
+  }
 }

@@ -1,0 +1,99 @@
+// Which word of the program each step came from. `at` names it for steps that are shown; for all steps of a node the cells are asked
+// that it fetched from, and of each slot of a cell the word once. A word's key is that of the program's text (source.js).
+
+class Places {
+  constructor(session) { this.session = session; this.forget(); }
+  // The history has changed.
+  forget() { this.rows = {}; this.whole = {}; }
+
+  steps(name) { return this.session.steps[name] || 0; }
+
+  // The commands that answer the steps from one to another of a node, as far as they aren't known: each answers up to 199.
+  questions([name, from, upto]) {
+    const rows = this.rows[name], last = Math.min(upto, this.steps(name)), asked = [];
+    for (let k = Math.max(1, from); k <= last; k++) {
+      if (rows && rows.has(k)) continue;
+      const middle = Math.min(this.steps(name), k + 99);
+      asked.push(`at ${name} ${middle} 99`);
+      k = middle + 99;
+    }
+    return asked;
+  }
+
+  learn(answers) {
+    for (const answer of answers) {
+      const rows = answer.map(at_of).filter(it => it);
+      if (!rows.length) continue;
+      const known = this.rows[rows[0].name] = this.rows[rows[0].name] || new Map();
+      if (!this.session.is_source) this.add_slots(rows[0].name, rows);
+      for (const it of rows) { if (it.place && it.place.column) it.key = `${it.place.line}:${it.place.column}`; known.set(it.step, it); }
+    }
+  }
+
+  // In an image a step's word is a slot of a cell.
+  add_slots(name, rows) {
+    const { cells, slots } = this.fetched(name, rows[0].step, rows.at(-1).step);
+    for (const it of rows) if (cells[it.step] >= 0) it.key = `${name} ${cells[it.step]} ${Math.max(0, slots[it.step])}`;
+  }
+
+  // A step as `at` answers it, where that is known: what it did, T after it, its place in the text, and the key of its word.
+  row(name, step) { return this.rows[name] && this.rows[name].get(step) || null; }
+
+  // Of a node's steps from one to another: the cell that each one's instruction word was fetched from, which is that at P right
+  // before the fetch or the wait for one, and its slot, -1 for the fetch itself. No cell is -1. The machine is asked at each place
+  // where it isn't plain: at a fetch, a wait, a stop and after `unext`.
+  fetched(name, from, upto) {
+    const { session } = this, trace = session.traces[name] || [], start = Math.max(1, from - 40), end = Math.min(upto, trace.length), asked = [], texts = [];
+    const is_asked = (k, { label }) => k === start || label === "fetch" || label === "wait" || label.startsWith("stop") || trace[k - 2].label === "unext";
+    const steps = end < start ? "" : lines_of(saved(session.events.slice(0, trace[end - 1].place))), wide = "step 000\n".length;
+    let made = 0;
+    for (let k = start; k <= end; k++) if (is_asked(k, trace[k - 1])) {
+      const { place } = trace[k - 1];
+      texts.push(steps.slice(made * wide, place * wide), `node ${name}\n`);
+      asked.push(k); made = place;
+    }
+    return this.walked(trace, start, end, asked, nexts_of(session.core.answer(session.image + texts.join(""), session.limit) || ""));
+  }
+
+  walked(trace, start, end, asked, nexts) {
+    const cells = new Int16Array(end + 1).fill(-1), slots = new Int8Array(end + 1);
+    let cell = -1, slot = 4, i = 0;
+    for (let k = start; k <= end; k++) {
+      const next = asked[i] === k ? nexts[i++] : null, is_wait = trace[k - 1].label === "wait";
+      if (next) slot = next.slot;
+      const is_fetch = slot === 4;
+      if (is_fetch) cell = next && cell_at(next.p) !== null ? cell_at(next.p) : -1;
+      cells[k] = cell; slots[k] = is_fetch ? -1 : slot;
+      if (!is_wait) slot = is_fetch ? 0 : slot + 1;
+    }
+    return { cells, slots };
+  }
+
+  // The key of each slot of each cell that the node's steps were made in, by eight times the cell and the slot.
+  keys(name, { cells, slots }) {
+    const { session } = this, firsts = [], keys = [], texts = [], rows = [];
+    for (let k = 1; k < cells.length; k++) { const id = cells[k] * 8 + slots[k]; if (cells[k] >= 0 && slots[k] >= 0 && !firsts[id]) firsts[id] = k; }
+    const found = firsts.map((k, id) => [id, k]).filter(it => it).sort(([, one], [, other]) => one - other);
+    if (!session.is_source) { for (const [id] of found) keys[id] = `${name} ${id >> 3} ${id & 7}`; return keys; }
+    let made = 0;
+    for (const [id, k] of found) {
+      for (const { place } = session.event_at([name, k]); made <= place; made++) texts.push("step " + session.events[made].ends[0][0]);
+      texts.push(`at ${name} last 0`);
+      rows.push([id, made + rows.length + 1]);
+    }
+    const answers = (session.core.answer(session.named + lines_of(texts), session.limit) || "").split("\n");
+    for (const [id, row] of rows) { const it = at_of(answers[row] || ""); if (it && it.place && it.place.column) keys[id] = `${it.place.line}:${it.place.column}`; }
+    return keys;
+  }
+
+  // The steps of a node that came from a word, without fetches and filled slots.
+  steps_of(name, key, text) {
+    if (!this.whole[name]) {
+      const found = this.fetched(name, 1, this.steps(name));
+      this.whole[name] = { ...found, keys: this.keys(name, found) };
+    }
+    const { cells, slots, keys } = this.whole[name], trace = this.session.traces[name] || [], steps = [];
+    for (let k = 1; k < cells.length; k++) if (slots[k] >= 0 && cells[k] >= 0 && keys[cells[k] * 8 + slots[k]] === key && !text.is_filler(key, trace[k - 1].label)) steps.push(k);
+    return steps;
+  }
+}
