@@ -79,7 +79,7 @@ cell_asks plain word address next rest small is = elim (cases_Bool (word == 0)) 
       ∙ ap (λ (p : Plain). plain_from p rest) (all_more plain (address_requests address next) (Put (Cell (Number word)) ∷ [])))))
 ]
 
--- so many cells from an address on are within a memory
+-- `count` cells from an address on are within a memory
 abbrev pub IsWithin : ℕ → ℕ → Type 0
 IsWithin address count = (address + count ≤ 64) ⊎ ((128 ≤ address) × (address + count ≤ 192))
 

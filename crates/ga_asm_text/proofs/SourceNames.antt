@@ -68,7 +68,7 @@ unasked node = refl
 nothing_by : (n : ℕ) (node : NodeState) → IsFit node → node_words n node ≡ [] → plain_by n node ≡ no_request
 nothing_by n node fit none = same_Some (plain_by n node) no_request (sym (node_asks n node fit) ∙ (ap plain_of none ∙ nothing_asks no_request))
 
--- a node of which nothing is said is as at load
+-- a node that isn't named is as at load
 pub unnamed_loaded : (n : ℕ) (node made : NodeState) → IsFit node → node_words n node ≡ [] → made ≡ fresh_node (load_p_of n) → IsLoadedAs node made
 unnamed_loaded n node made fit none is =
     let fresh = fresh_node (load_p_of n) in
@@ -136,7 +136,7 @@ sound_body n node within fit = record {
   free = node_free node fit;
 }
 
--- where something is said of a node, its body is there
+-- if a node is named, its body is there
 some_body : (P : List Word → Type 0) (n : ℕ) (words : List Word) (rest : List (List Word)) → P (decimal3_of (yxx_of n) ∷ words) → All P rest → All P (body_of n words ++ rest)
 some_body P n [] rest has all = all
 some_body P n (word ∷ words) rest has all = All-cons P (decimal3_of (yxx_of n) ∷ word ∷ words) rest has all
@@ -150,7 +150,7 @@ all_sound n (node ∷ nodes) within fit =
 
 -- ---- where a node is named, and where it isn't
 
--- of a node nothing is said, or this holds of its body
+-- a node isn't named, or this holds of its body
 abbrev NoneOr : (List Word → Type 0) → ℕ → NodeState → Type 0
 NoneOr P n node = (node_words n node ≡ []) ⊎ P (decimal3_of (yxx_of n) ∷ node_words n node)
 
@@ -172,7 +172,7 @@ there P n (node ∷ nodes) (suc k) within all =
     let same : n + 1 + k ≡ n + suc k = omega arith in
     subst (λ (m : ℕ). NoneOr P m (node_at nodes k)) same (there P (n + 1) nodes k (omega arith) (bodies_behind P n (node_words n node) (bodies_of (n + 1) nodes) all))
 
--- the words behind a `node` name another node
+-- the words after a `node` name another node
 abbrev IsOther : ℕ → List Word → Type 0
 IsOther n words = yxx_in (slice_index_or words 0 []) ≢ Some n
 

@@ -23,7 +23,7 @@ use Rattle.ga_text.specs.Output.{IsReadWhole}
 
 -- ---- parts of texts
 
--- what stands behind a part
+-- what follows a part
 pub part_behind : (ends : ℕ → Bool) (part : List ℕ) (byte : ℕ) (rest : List ℕ) → list_all (λ b. not (ends b)) part ≡ true → ends byte ≡ true → parted ends (part ++ byte ∷ rest) ≡ part ∷ parted ends rest
 unfolding parted
 part_behind ends [] byte rest inner end = rw end refl
@@ -71,7 +71,7 @@ no_blank word shown = weaker is_shown (λ b. not (is_blank b)) word shown_no_bla
 no_bytes : false ≡ true → ⊥
 no_bytes e = false≢true e
 
--- a word with others behind it
+-- a word with others after it
 pub word_first : (line : ℕ) (word rest : List ℕ) → IsOrdinary word → spoken line false (source_words (word ++ 32 ∷ rest)) ≡ a_word line word ∷ spoken line false (source_words rest)
 unfolding spoken
 word_first line [] rest is = absurd (no_bytes is.bytes)
@@ -257,21 +257,21 @@ inner_of (b ∷ line) none =
     (ap not (All-head (λ b. ends_line b ≡ false) b line none))
     (inner_of line (All-tail (λ b. ends_line b ≡ false) b line none))
 
--- nothing is said from a line `end` on
+-- nothing counts from a line `end` on
 end_last : (line : ℕ) (rest : Bytes) → said_from line (source_lines (ended end_line ++ rest)) ≡ []
 unfolding said_from
 end_last line rest =
     ap (said_from line) (part_behind is_feed end_line 10 rest refl refl)
     ∙ ap (λ (own : List ℕ). if bytes_eq own (codes "end") then [] else said_by line own ++ said_from (next_line line) (source_lines rest)) (own_line line end_line refl refl)
 
--- a line, and what those behind it say
+-- a line, and the words of those after it
 line_then : (line : ℕ) (first rest : Text) → HasNoFeed first → said_from line (source_lines (ended first ++ rest)) ≡ (if bytes_eq (bare line first) (codes "end") then [] else said_by line (bare line first) ++ said_from (next_line line) (source_lines rest))
 unfolding said_from
 line_then line first rest none =
     ap (λ (t : Text). said_from line (source_lines t)) (append_assoc first (10 ∷ []) rest)
     ∙ ap (said_from line) (part_behind is_feed first 10 rest (inner_of first none) refl)
 
--- what stands behind a line `end` says nothing
+-- lines after a line `end` have no words
 to_end : (lines : List Line) → AllByRecursion IsBodyLine lines → (line : ℕ) (rest : Bytes) → said_from line (source_lines ((text_of lines ++ ended end_line) ++ rest)) ≡ said_from line (source_lines (text_of lines ++ ended end_line))
 to_end [] body line rest = end_last line rest ∙ sym (end_last line [])
 to_end (first ∷ lines) body line rest =

@@ -34,7 +34,7 @@ pub record IsAssembly (source text : Text) : Type 0 where
   pub told : text ≡ printed (records_of chip)
   pub back : Describes (lines_of text) (records_of chip)
 
--- P holds of the source that was read, and nothing was read behind it
+-- P holds of the source that was read, and nothing was read after it
 abbrev pub OfSource : Bytes → Bytes → (Text → Type 0) → Type 0
 OfSource read rest P = (source : Text) × (ahead : Bytes) × (read ≡ source ++ ahead) × IsReadWhole source ahead rest × P source
 

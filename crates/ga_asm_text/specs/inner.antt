@@ -47,7 +47,7 @@ pub record IsOrdinary (word : Word) : Type 0 where
 abbrev pub Adds : Text → Text → List Word → Type 0
 Adds old new words = (added : Text) × (new ≡ old ++ added) × Says added words
 
--- a byte that a line may have behind a `\`: no line feed, and no carriage return
+-- a byte that a line may have after a `\`: no line feed, and no carriage return
 abbrev pub is_inner : ℕ → Bool
 is_inner byte = not (byte == 10) && not (byte == 13)
 
@@ -55,7 +55,7 @@ is_inner byte = not (byte == 10) && not (byte == 13)
 abbrev pub IsUnmarked : Text → Type 0
 IsUnmarked text = (slice_index text 0 == 0xef) ≡ false
 
--- a text grew by so many bytes at most, within its last line
+-- a text grew by at most `size` bytes, within its last line
 abbrev pub AddsRemark : ℕ → Text → Text → Type 0
 AddsRemark most old new = (added : Text) × (new ≡ old ++ added) × (list_all is_inner added ≡ true) × (length added ≤ most)
 
@@ -84,7 +84,7 @@ address_words address next = if address == next then [] else codes "org" ∷ num
 abbrev pub cell_words : ℕ → ℕ → ℕ → List Word
 cell_words word address next = if word == 0 then [] else address_words address next ++ number_word 6 word ∷ codes "," ∷ []
 
--- the address behind the last cell
+-- the address after the last cell
 abbrev pub next_of : ℕ → ℕ → ℕ → ℕ
 next_of word address next = if word == 0 then next else address + 1
 
@@ -93,7 +93,7 @@ unfoldable pub cells_words : ℕ → ℕ → List ℕ → List Word
 cells_words address next [] = []
 cells_words address next (word ∷ words) = cell_words word address next ++ cells_words (address + 1) (next_of word address next) words
 
--- the address behind the last of these cells
+-- the address after the last of these cells
 unfoldable pub next_behind : ℕ → ℕ → List ℕ → ℕ
 next_behind address next [] = next
 next_behind address next (word ∷ words) = next_behind (address + 1) (next_of word address next) words
@@ -124,7 +124,7 @@ memory_words node = cells_words 0 0 node.ram ++ cells_words 0x80 (next_behind 0 
 abbrev pub node_words : ℕ → NodeState → List Word
 node_words n node = registers_words n node (holds_words node) ++ memory_words node
 
--- `node` and its name, where anything is said of it
+-- `node` and its name, if anything follows
 abbrev pub named_words : ℕ → List Word → List Word
 named_words n [] = []
 named_words n (word ∷ words) = codes "node" ∷ decimal3_of (yxx_of n) ∷ word ∷ words
@@ -170,19 +170,19 @@ Assembly source text ImageRefused = text ≡ []
 Assembly source text StreamFault = IsCutShort (IsAssembly source) text
 Assembly source text NotFinished = ⊥
 
--- a listing of the source, which has a fault where one is told
+-- a listing of the source, which has a fault if one is reported
 abbrev pub IsListed : Text → Option Fault → Type 0
 IsListed source None = IsMendedBy source []
 IsListed source (Some first) = IsFaulty source
 
--- the status behind a listing with a fault
+-- the status after a listing with a fault
 abbrev pub with_fault : Status → Status
 with_fault Done = ImageRefused
 with_fault ImageRefused = ImageRefused
 with_fault StreamFault = StreamFault
 with_fault NotFinished = NotFinished
 
--- the status behind a listing with a fault or none
+-- the status after a listing with a fault or none
 abbrev pub behind_listing : Status → Option Fault → Status
 behind_listing status None = status
 behind_listing status (Some first) = with_fault status

@@ -47,7 +47,7 @@ pub fn write_text<W: Write>(writer: &mut W, text: Vec<u8>) -> Status
     }
 }
 
-/// The image of a source, and on `errors` its stores over code; or none, where a fault is told there.
+/// The image of a source, and on `errors` its stores over code; or none, and a fault is written there.
 fn image_of<E: Write>(alloc: Global, errors: &mut E, source: Vec<u8>) -> Option<Vec<u8>>
     ensures { IfSome result (λ image. IsAssembly source.items image.items) }
 {

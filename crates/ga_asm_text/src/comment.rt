@@ -31,8 +31,8 @@ enum Role {
     Label,
 }
 
-/// What the cells of a node are to the code that its P leads to. A jump or a call leads to its address, each word but one that ends
-/// with `;` or `jump` to the cell behind it and its literals.
+/// The role of each cell of a node for the code that its P leads to. A jump or a call leads to its address, each word but one
+/// that ends with `;` or `jump` to the cell after it and its literals.
 #[derive(Drop)]
 pub(crate) struct CellRoles {
     roles: [Role; CELLS],
@@ -146,8 +146,8 @@ impl CellRoles {
         }
     }
 
-    /// The remark of the cell at an address: `003: dup call 005` where a jump leads to it, `003  dup` for other code, `004  right` for a
-    /// literal, and `005? dup` where code doesn't come. A literal 0, whose cell has no line, is told behind the opcodes:
+    /// The remark of the cell at an address: `003: dup call 005` if a jump leads to it, `003  dup` for other code, `004  right`
+    /// for a literal, and `005? dup` where no code leads. A literal 0, whose cell has no line, is written after the opcodes:
     /// `000  @p a!, 001 is 0`.
     pub(crate) fn remark(&self, word: u32, address: u32) -> CommentText {
         let mut remark = CommentText::new();
@@ -254,7 +254,7 @@ fn push_ports(remark: &mut CommentText, address: u32) -> bool {
     true
 }
 
-/// Adds the opcodes of a word, up to one behind which nothing is run.
+/// Adds the opcodes of a word, up to one after which nothing is executed.
 fn push_opcodes(remark: &mut CommentText, word: Word18, address: u32) {
     let mut p = advance_p(address);
     for slot in 0..4u8 {

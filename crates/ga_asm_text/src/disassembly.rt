@@ -28,7 +28,8 @@ const NO_MEMORY: ImageFault = ImageFault {
 };
 
 /// Reads an image of either format up to its first line `end`, and writes source that gives the same memories, A, B and P. What
-/// else its nodes hold, and so the source doesn't say, is told on `errors`, a line for each node. A refused image gets its refusal.
+/// else its nodes hold, which source can't express, is written to `errors`, a line for each node. A refused image gets its
+/// refusal.
 pub fn disassemble<R: Read, W: Write, E: Write>(
     alloc: Global,
     reader: &mut R,
@@ -82,7 +83,7 @@ fn source_for<E: Write>(
     }
 }
 
-/// The chip of an image. Of a refused one it is told on `errors` what an editor wrote into it.
+/// The chip of an image. For a refused one, `errors` gets what an editor wrote into it.
 fn parse_told<E: Write>(alloc: Global, errors: &mut E, image: &[u8]) -> Result<Chip, ImageFault>
     ensures found { IfOk result (λ chip. IsImage (lines_of image.now) chip) }
     ensures refused { IfErr result (λ fault. (fault ≡ no_memory) ⊎ IsFirstFault (lines_of image.now) fault) }
@@ -179,7 +180,7 @@ fn push_register(text: &mut Vec<u8>, name: &[u8], value: u32, usual: u32) -> Res
     Ok(())
 }
 
-/// Adds the cells that aren't 0, each run of them behind its `org`.
+/// Adds the cells that aren't 0, each run of them after its `org`.
 fn push_cells(text: &mut Vec<u8>, node: &Node) -> Result<(), AllocError>
     ensures says { OnOk result (Adds text.old.items text.new.items (memory_words node.now)) }
     ensures fit { OnOk result (HasMemories node.now) }
@@ -190,7 +191,7 @@ fn push_cells(text: &mut Vec<u8>, node: &Node) -> Result<(), AllocError>
     Ok(())
 }
 
-/// Adds the cells of RAM. Tells the address behind the last one.
+/// Adds the cells of RAM. Returns the address after the last one.
 fn push_ram(text: &mut Vec<u8>, node: &Node, roles: &CellRoles) -> Result<u32, AllocError>
     ensures says { OnOk result (Adds text.old.items text.new.items (cells_words 0 0 node.now.ram)) }
     ensures next { IfOk result (λ next. next ≡ next_behind 0 0 node.now.ram) }
@@ -232,7 +233,7 @@ fn push_rom(
     Ok(())
 }
 
-/// Adds a cell unless it is 0, and `org` before it where it isn't the next one. Tells the address behind the last cell.
+/// Adds a cell unless it is 0, and `org` before it if it isn't the next one. Returns the address after the last cell.
 fn push_word(
     text: &mut Vec<u8>,
     roles: &CellRoles,
@@ -264,7 +265,7 @@ fn push_address(text: &mut Vec<u8>, address: u32, next: u32) -> Result<(), Alloc
     Ok(())
 }
 
-/// Adds a cell, with a remark behind it.
+/// Adds a cell, followed by a remark.
 fn push_cell(text: &mut Vec<u8>, word: u32, remark: &[u8]) -> Result<(), AllocError>
     requires { length remark.now ≤ 80 }
     ensures { OnOk result (Adds text.old.items text.new.items (number_word 6 word ∷ codes "," ∷ [])) }
@@ -277,7 +278,7 @@ fn push_cell(text: &mut Vec<u8>, word: u32, remark: &[u8]) -> Result<(), AllocEr
     Ok(())
 }
 
-/// Adds a remark, but for bytes that would end its line: what is said there is said in it alone.
+/// Adds a remark, but for bytes that would end its line: the remark is in this line alone.
 #[tactic(auto, using(crate::proofs::SourceLines::remark_none, crate::proofs::SourceLines::remark_both, crate::proofs::SourceLines::remark_more))]
 fn push_remark(text: &mut Vec<u8>, remark: &[u8]) -> Result<(), AllocError>
     ensures { OnOk result (AddsRemark (length remark.now) text.old.items text.new.items) }

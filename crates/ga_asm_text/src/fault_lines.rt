@@ -1,4 +1,4 @@
-//! The faults of a listing, each between the cells where its word stands.
+//! The faults of a listing, each between the cells at its word.
 
 use ga_debug_info::{Lines, push_fault};
 use ga_source::{Fault, SourceCause, Token};
@@ -10,11 +10,11 @@ pub(crate) struct FaultLines<'a, 's> {
     /// The word of number N is at N - 1.
     words: &'a [Token<'s>],
     lines: Lines<'s>,
-    /// The faults. What they tell of a line is told of the number of a word.
+    /// The faults. The line of each is the number of a word.
     faults: Vec<Fault<'s>>,
-    /// How many faults were told.
+    /// How many faults were written.
     told: usize,
-    /// The fault that was told last, of its line.
+    /// The last fault that was written, with its line.
     last: Option<Fault<'s>>,
 }
 
@@ -39,7 +39,7 @@ impl<'a, 's> FaultLines<'a, 's> {
         })
     }
 
-    /// The line of the source on which the word of a number stands.
+    /// The line of the source that has the word with a number.
     pub(crate) fn line(&mut self, number: u32) -> &'s [u8] {
         let line = line_of(self.words, number);
         self.lines.line(line)
@@ -65,7 +65,7 @@ impl<'a, 's> FaultLines<'a, 's> {
         self.push_before(text, u32::MAX)
     }
 
-    /// The next fault, told of its line, where its word stands before the one of a number.
+    /// The next fault, with its line, if its word comes before the one with a number.
     fn next_before(&mut self, number: u32) -> Option<Fault<'s>> {
         let Some(found) = self.faults.get(self.told) else {
             return None;
@@ -108,7 +108,7 @@ fn line_of(words: &[Token<'_>], number: u32) -> u32 {
     }
 }
 
-/// A fault that is told of the number of a word, told of its line.
+/// A fault with the number of a word, with its line instead.
 pub(crate) fn on_line<'s>(words: &[Token<'_>], fault: Fault<'s>) -> Fault<'s> {
     let own = line_of(words, fault.line);
     if let SourceCause::CellTwice { cell, line } = fault.cause {

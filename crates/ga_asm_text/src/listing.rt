@@ -25,8 +25,8 @@ use std::alloc::{AllocError, Global};
 use std::io::{Read, Write};
 
 /// Reads source up to its end or to its first line `end`, and writes for each cell its address, its word, what it holds, and
-/// the line that asks for it. Of source that has a fault the first one is told on `errors`, and what is left of it is listed without
-/// the words at fault, with each fault where these stand.
+/// its line in the source. For source with a fault the first one is written to `errors`, and the rest is listed without the
+/// words at fault, with each fault at its place.
 pub fn list_source<R: Read, W: Write, E: Write>(
     alloc: Global,
     reader: &mut R,
@@ -49,7 +49,7 @@ pub fn list_source<R: Read, W: Write, E: Write>(
     }
 }
 
-/// Writes a listing, and tells the first fault.
+/// Writes a listing, and reports the first fault.
 fn write_listed<W: Write, E: Write>(writer: &mut W, errors: &mut E, listed: Listed<'_>) -> Status
     ensures { (before source : Bytes) → W.contents writer.old ≡ Some before → IsListed source listed.entry.fault →
         (text : Bytes) × (W.contents writer.new ≡ Some (before ++ text)) × Listing source text result }
@@ -60,14 +60,14 @@ fn write_listed<W: Write, E: Write>(writer: &mut W, errors: &mut E, listed: List
     status_behind(written, fault)
 }
 
-/// Tells a fault, where there is one.
+/// Reports a fault, if there is one.
 fn tell_first<E: Write>(errors: &mut E, fault: Option<Fault<'_>>) {
     if let Some(fault) = fault {
         report_fault(errors, fault);
     }
 }
 
-/// The status behind a listing, which has a fault or none.
+/// The status after a listing, which has a fault or none.
 fn status_behind(written: Status, fault: Option<Fault<'_>>) -> Status
     ensures { result ≡ behind_listing written fault.entry }
 {
@@ -77,7 +77,7 @@ fn status_behind(written: Status, fault: Option<Fault<'_>>) -> Status
     }
 }
 
-/// The status behind a listing with a fault.
+/// The status after a listing with a fault.
 fn refused(written: Status) -> Status
     ensures { result ≡ with_fault written }
 {
@@ -110,7 +110,7 @@ fn listing_of(alloc: Global, source: &[u8]) -> Result<Listed<'_>, Fault<'_>>
     Ok(Listed { text, fault })
 }
 
-/// The first of faults, told of its line.
+/// The first of the faults, with its line.
 fn first_of<'s>(words: &[Token<'_>], faults: &[Fault<'s>]) -> Option<Fault<'s>>
     ensures none { result ≡ None → faults.now ≡ [] }
     ensures some { IfSome result (λ _. 0 < length faults.now) }
@@ -164,7 +164,7 @@ fn three_digits(number: u32) -> [u8; 3]
     ]
 }
 
-/// Adds a number in so many hexadecimal digits.
+/// Adds a number in `digits` hexadecimal digits.
 #[tactic(auto, using(crate::proofs::HexLemmas::hex_more))]
 pub(crate) fn push_hex(text: &mut Vec<u8>, number: u32, digits: u32) -> Result<(), AllocError>
     requires { digits ≤ 8 }
@@ -298,7 +298,7 @@ fn push_item(text: &mut Vec<u8>, program: &Program<'_>, item: Item) -> Result<()
     }
 }
 
-/// Adds a number in decimal and hexadecimal digits, or a label's name behind an apostrophe.
+/// Adds a number in decimal and hexadecimal digits, or a label's name after an apostrophe.
 fn push_value(text: &mut Vec<u8>, program: &Program<'_>, value: Operand) -> Result<(), AllocError> {
     match value {
         Operand::Number(number) => {

@@ -10,8 +10,8 @@ use ga_text::{WholeRead, read_whole};
 use std::alloc::Global;
 use std::io::{Read, Write};
 
-/// Reads source up to its first line `end`, or to its end. Where it can't be had whole, what stands in the way is told on `errors`,
-/// and the answer is the status to end with.
+/// Reads source up to its first line `end`, or to its end. If it can't be read whole, the reason is written to `errors`, and
+/// the result is the status to end with.
 pub(crate) fn read_source<R: Read, E: Write>(
     alloc: Global,
     reader: &mut R,

@@ -16,9 +16,9 @@ use Rattle.ga_source.specs.declared.program.Program.{Program}
 use Rattle.ga_parser.specs.declared.item.Request.TheVariants.{Mark}
 use Rattle.ga_debug_info.specs.inner.{label_at, IsMarked}
 
--- ---- joined with what was told before
+-- ---- joined with what was listed before
 
--- what was left was told but for some
+-- what was left has been listed except for some
 pub told_more : {X : Type 0} (told left all new part rest : List X) → new ≡ told ++ part → left ≡ part ++ rest → told ++ left ≡ all → new ++ rest ≡ all
 told_more told left all new part rest e parts before = rw (e, append_assoc told part rest, ← parts) before
 
@@ -61,7 +61,7 @@ module _ {X : Type 0} (tell : ℕ → Item → ℕ → List X) where
   unfolding literals_told
   told_of_item p items lines i d within inside = ap₂ (literals_told tell p) (drop_more items i d within) (drop_more lines i 0 inside)
 
-  -- and what is told of it was added
+  -- and its entries were added
   pub literals_step : (items : List Item) (lines : List ℕ) (told new all : List X) (n m p q : ℕ) (item : Item) (line : ℕ) → n < length items → n < length lines → item ≡ get_or items n item → line ≡ get_or lines n 0 → m ≡ n + 1 → q ≡ p_behind p item → new ≡ told ++ tell p item line → told ++ literals_told tell p (drop n items) (drop n lines) ≡ all → new ++ literals_told tell q (drop m items) (drop m lines) ≡ all
   literals_step items lines told new all n m p q item line within inside is at next behind added before =
       let parts : literals_told tell p (drop n items) (drop n lines) ≡ tell p item line ++ literals_told tell q (drop m items) (drop m lines) =

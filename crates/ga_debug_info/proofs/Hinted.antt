@@ -7,7 +7,7 @@ use Rattle.ga_debug_info.specs.inner.{shown, shown_byte}
 pub parts_shown : (out a b c : List ℕ) → (((out ++ codes ": ") ++ shown a) ++ shown b) ++ shown c ≡ out ++ (codes ": " ++ shown (a ++ (b ++ c)))
 parts_shown out a b c = simp (append_assoc, flat_map-append shown_byte) refl
 
--- five texts, one behind another, the last of three parts
+-- five texts, one after another, the last of three parts
 pub in_five : (o0 o1 o2 o3 o4 o5 a b c d x y z : List ℕ) → o0 ≡ [] → o1 ≡ o0 ++ a → o2 ≡ o1 ++ b → o3 ≡ o2 ++ c → o4 ≡ o3 ++ d → o5 ≡ o4 ++ ((x ++ y) ++ z)
     → o5 ≡ (((((a ++ b) ++ c) ++ d) ++ x) ++ y) ++ z
 in_five o0 o1 o2 o3 o4 o5 a b c d x y z e0 e1 e2 e3 e4 e5 =

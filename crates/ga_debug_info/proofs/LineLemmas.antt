@@ -18,7 +18,7 @@ use Rattle.ga_debug_info.specs.Notes.{nearer_word, nearest_word}
 pub first_found : (text first rest : List ℕ) → lines_of text ≡ first ∷ lines_of rest → first ≡ slice_index_or (source_lines text) 0 []
 first_found text first rest e = sym (ap (λ (lines : List (List ℕ)). slice_index_or lines 0 []) (first_split text first rest e))
 
--- and what stands behind it
+-- and the text after it
 pub rest_found : (text first rest : List ℕ) → lines_of text ≡ first ∷ lines_of rest → source_lines rest ≡ drop 1 (source_lines text)
 rest_found text first rest e = sym (ap (λ (lines : List (List ℕ)). drop 1 lines) (first_split text first rest e))
 
@@ -33,21 +33,21 @@ unfolding parted
 no_rest [] none = refl
 no_rest (b ∷ text) none = absurd (omega arith)
 
--- ---- lines behind others
+-- ---- lines after others
 
--- behind one line and so many less
+-- after one line and `left` more
 pub one_less : (lines : List (List ℕ)) (left : ℕ) → 0 < left → drop (left - 1) (drop 1 lines) ≡ drop left lines
 one_less lines left some =
     let e : 1 + (left - 1) ≡ left = omega arith in
     drop-drop (left - 1) 1 lines ∙ ap (λ (n : ℕ). drop n lines) e
 
--- and behind some and the difference
+-- and after some and the difference
 pub further : (lines : List (List ℕ)) (before wanted : ℕ) → before ≤ wanted → drop (wanted - before) (drop before lines) ≡ drop wanted lines
 further lines before wanted order =
     let e : before + (wanted - before) ≡ wanted = omega arith in
     drop-drop (wanted - before) before lines ∙ ap (λ (n : ℕ). drop n lines) e
 
--- behind no lines no line is left
+-- after no lines no line is left
 no_more : (left : ℕ) → source_lines [] ≡ drop left (source_lines [])
 unfolding parted
 no_more zero = refl
@@ -60,7 +60,7 @@ none_left (b ∷ text) left none = absurd (omega arith)
 
 -- ---- a line by its number
 
--- the first line behind some
+-- the first line after some
 pub line_found : (source rest first bare : List ℕ) (before line : ℕ) → before ≡ line - 1 → source_lines rest ≡ drop before (source_lines source) → first ≡ get_or (source_lines rest) 0 [] → bare ≡ strip_bom line first → bare ≡ bare_line source line
 line_found source rest first bare before line e behind is own =
     let at : before + 0 ≡ line - 1 = omega arith in
@@ -73,7 +73,7 @@ line_found source rest first bare before line e behind is own =
 pub trimmed_line : (bare text found : List ℕ) → bare ≡ text → IsTrimAscii bare found → found ≡ trimmed text
 trimmed_line bare text found is trims = trim_ascii_is bare found (without_front bare) refl trims ∙ ap trimmed is
 
--- nothing stands behind all of a text
+-- nothing follows all of a text
 pub all_past : (count : ℕ) (text : List ℕ) → length text ≤ count → [] ≡ drop count text
 all_past count text past = sym (drop_all count text past)
 

@@ -37,7 +37,7 @@ word_line words number = line_of_word (slice_get words (number - 1))
 abbrev pub word_column : List Token → ℕ → ℕ
 word_column words number = column_of_word (slice_get words (number - 1))
 
--- ---- how a word is told
+-- ---- the text of a word
 
 -- a line of the source from a column on
 abbrev pub quoted_from : List ℕ → ℕ → ℕ → List ℕ
@@ -47,13 +47,13 @@ quoted_from source line column = trimmed (drop (column - 1) (bare_line source li
 abbrev pub quoted_word : List ℕ → ℕ → ℕ → List ℕ
 quoted_word source line column = decimal line ++ (codes ":" ++ (decimal column ++ (codes ": " ++ quoted_from source line column)))
 
--- how a word is told where the line that begins its cell is long; else nothing
+-- the text of a word if the line that begins its cell is long; otherwise nothing
 abbrev pub quoted_if_long : List ℕ → ℕ → ℕ → ℕ → List ℕ
 quoted_if_long source begun line column = if is_long_line (line_in source begun) then quoted_word source line column else []
 
 -- ---- slots and their words
 
--- a word of which this is told
+-- a word with its text
 pub record Worded : Type 0 where
   pub word : SlotWord
   pub text : List ℕ
@@ -61,11 +61,11 @@ pub record Worded : Type 0 where
 abbrev pub worded_by : DisplayedWord → Worded
 worded_by told = record { word = told.word; text = told.text.items }
 
--- The last slot that has the word of this one: the last item has the slots behind it too.
+-- The last slot that has the word of this one: the last item also has the slots after it.
 abbrev pub last_slot : ℕ → ℕ → ℕ
 last_slot size slot = if slot + 1 == size then 3 else slot
 
--- the word of the item in a slot of a cell with so many items
+-- the word of the item in a slot of a cell with `size` items
 abbrev pub word_in_slot : List Token → Begun → ℕ → ℕ → ℕ → SlotWord
 word_in_slot words cell size slot number = record {
   node = cell.node;
@@ -77,15 +77,15 @@ word_in_slot words cell size slot number = record {
   column = word_column words number;
 }
 
--- a word of a cell that begins in a line, and how it is told
+-- a word of a cell that begins in a line, and its text
 abbrev pub word_told : List ℕ → ℕ → SlotWord → Worded
 word_told source begun word = record { word = word; text = quoted_if_long source begun word.line word.column }
 
--- the word in a slot, and how it is told
+-- the word in a slot, and its text
 abbrev pub slot_worded : List ℕ → List Token → Begun → ℕ → ℕ → ℕ → Worded
 slot_worded source words cell size slot number = word_told source cell.line (word_in_slot words cell size slot number)
 
--- the words of the items from a slot on, and how they are told
+-- the words of the items from a slot on, and their texts
 unfoldable pub slots_worded : List ℕ → List Token → Begun → ℕ → ℕ → List ℕ → List Worded
 slots_worded source words cell size slot [] = []
 slots_worded source words cell size slot (number ∷ numbers) = slot_worded source words cell size slot number ∷ slots_worded source words cell size (slot + 1) numbers
@@ -104,7 +104,7 @@ abbrev pub literal_worded : List ℕ → List Token → NodeId → ℕ → Item 
 literal_worded source words node p (Literal _) number = address_worded source words node false p (number ∷ [])
 literal_worded source words node p _ number = []
 
--- the words of the slots of a group: of its own cell, and of its literals behind it
+-- the words of the slots of a group: of its own cell, and of its literals after it
 abbrev pub group_worded : List ℕ → List Token → NodeId → Group → List Worded
 group_worded source words node group =
     address_worded source words node (is_code group.items.items) group.address group.lines.items
@@ -160,7 +160,7 @@ first_note_is_long notes node None = false
 
 -- ---- words of slots
 
--- the slot whose word is told: of a fetch, which has slot 4, the first
+-- the slot whose word is shown: for a fetch, which has slot 4, the first
 abbrev pub worded_slot : ℕ → ℕ
 worded_slot slot = if nat_lt slot 4 then slot else 0
 

@@ -33,7 +33,7 @@ pub record Named : Type 0 where
 abbrev pub named_by : LabelAddress → Named
 named_by name = record { node = name.node; text = name.text.items; address = name.address }
 
--- a label, where it has a name and stands at an address
+-- a label, if it has a name and an address
 abbrev pub named_at : NodeId → Label → Option ℕ → List Named
 named_at node label (Some address) = if has_bytes label.name.now then record { node = node; text = label.name.now; address = address } ∷ [] else []
 named_at node label None = []
@@ -89,7 +89,7 @@ unfoldable pub nearest_found : (ℕ → Option ℕ) → ℕ → ℕ → Option �
 nearest_found found first zero = found first
 nearest_found found first (suc k) = option_or (found (first + suc k)) (nearest_found found first k)
 
--- the label that stands last at or before a cell, in the same memory
+-- the last label at or before a cell, in the same memory
 abbrev pub label_before : Program → ℕ → Option ℕ
 label_before program cell = nearest_found (λ one. last_marked program one program.asked.items) (cell / 64 * 64) (cell % 64)
 
@@ -113,7 +113,7 @@ bare_line source line = strip_bom line (slice_index_or (source_lines source) (li
 abbrev pub line_in : List ℕ → ℕ → List ℕ
 line_in source line = trimmed (bare_line source line)
 
--- a line of so many bytes is told whole, a longer one from a word on
+-- the maximum length of a line that is shown whole; a longer one is shown from a word on
 abbrev pub longest_whole_line : ℕ
 longest_whole_line = 40
 
@@ -122,8 +122,8 @@ is_long_line text = nat_lt longest_whole_line (length text)
 
 -- ---- notes
 
--- what is said of a cell of a node: P there, the line that gives it, whether it holds an instruction word, a text, and whether that ends
--- before a word
+-- the debug info of a cell of a node: P there, the line that gives it, whether it holds an instruction word, a text, and
+-- whether that ends before a word
 pub record Noted : Type 0 where
   pub node : NodeId
   pub cell : ℕ
@@ -140,7 +140,7 @@ noted_by note = record { node = note.node; cell = note.cell; address = note.addr
 abbrev pub address_text : ℕ → List ℕ
 address_text address = hex_digit address 2 ∷ hex_digit address 1 ∷ hex_digit address 0 ∷ []
 
--- the name of a label behind a blank
+-- the name of a label after a blank
 abbrev pub label_text : Program → Option ℕ → List ℕ
 label_text program (Some label) = codes " " ++ label_name program label
 label_text program None = []
@@ -154,7 +154,7 @@ abbrev pub note_text : List ℕ → Program → ℕ → Option ℕ → ℕ → L
 note_text source program address label line =
     codes " \\ " ++ (address_text address ++ (label_text program label ++ (codes " " ++ whole_line_text source line)))
 
--- the note of a cell that stands at an address
+-- the debug info of a cell at an address
 abbrev pub note_at : List ℕ → Program → Bool → ℕ → ℕ → Option ℕ → List Noted
 note_at source program is_code line address (Some cell) =
     record {
@@ -182,13 +182,13 @@ abbrev pub literal_noted : List ℕ → Program → ℕ → Item → ℕ → Lis
 literal_noted source program p (Literal _) line = noted_at source program false p line
 literal_noted source program p _ line = []
 
--- what is told of each item with its line, P behind the literals before it, in order
+-- the entries of each item with its line, P after the literals before it, in order
 unfoldable pub literals_told : {X : Type 0} → (ℕ → Item → ℕ → List X) → ℕ → List Item → List ℕ → List X
 literals_told tell p [] lines = []
 literals_told tell p (item ∷ items) [] = []
 literals_told tell p (item ∷ items) (line ∷ lines) = tell p item line ++ literals_told tell (p_behind p item) items lines
 
--- the notes of a group: of its own cell, by its first line, and of its literals behind it
+-- the debug info of a group: of its own cell, by its first line, and of its literals after it
 abbrev pub group_noted : List ℕ → Program → Group → List Noted
 group_noted source program group =
     noted_at source program (is_code group.items.items) group.address (slice_index group.lines.items 0)

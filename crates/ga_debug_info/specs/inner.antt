@@ -18,21 +18,21 @@ label_at labels cell = slice_index_or labels cell None
 pub record IsMarked (program : Program) (labels : List (Option ℕ)) : Type 0 where
   pub last : (cell : ℕ) → cell < 192 → label_at labels cell ≡ last_marked program cell program.asked.items
 
--- ---- what standard error is told of a word of source
+-- ---- what standard error has about a word of source
 
--- a byte that a terminal shows stands as it is, and any other as `\x` and its two hexadecimal digits
+-- a byte that a terminal shows is written unchanged, any other as `\x` and its two hexadecimal digits
 abbrev pub shown_byte : ℕ → Text
 shown_byte byte = if nat_le 32 byte && nat_lt byte 127 then byte ∷ [] else codes "\\x" ++ hex2_of byte
 
 abbrev pub shown : Text → Text
 shown word = flat_map shown_byte word
 
--- what is told of a word behind it, where something is
+-- the hint after a word, if there is one
 abbrev pub hinted : Option Text → Text
 hinted None = []
 hinted (Some text) = codes ": " ++ shown text
 
--- the line that tells of a word that says nothing, with what to write in its place
+-- the line about a word without meaning, with what to write instead
 abbrev pub unknown_text : ℕ → Text → Text
 unknown_text line word = codes "ga144: line " ++ decimal line ++ codes ": what is " ++ shown word ++ hinted (hint_for word) ++ codes "\n"
 
@@ -43,7 +43,7 @@ range_text P = codes "0 to 0x3ff"
 range_text B = codes "0 to 0x1ff"
 range_text Cell = codes "0 to 0x3f, 0x80 to 0xbf"
 
--- the line that tells of a number that its place doesn't take
+-- the line about a number out of range
 abbrev pub number_text : ℕ → Text → NumberRange → Text
 number_text line word range =
     codes "ga144: line " ++ decimal line ++ codes ": number out of range: " ++ shown word ++ codes " (" ++ range_text range ++ codes ")\n"

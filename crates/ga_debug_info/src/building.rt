@@ -64,7 +64,7 @@ fn add_names(
     Ok(())
 }
 
-/// Adds a label, where it has a name and stands at an address.
+/// Adds a label, if it has a name and an address.
 fn add_name(
     alloc: Global,
     names: &mut Vec<LabelAddress>,
@@ -145,7 +145,7 @@ pub(crate) fn is_code(group: &Group) -> bool
     }
 }
 
-/// Adds the cell of an item's literal, where it has one, from P on, and tells P behind it.
+/// Adds the cell of an item's literal, if it has one, from P on, and returns P after it.
 fn add_literal(
     alloc: Global,
     notes: &mut Vec<CellSource>,
@@ -239,7 +239,7 @@ fn push_line(text: &mut Vec<u8>, line: u32, lines: &mut Lines<'_>) -> Result<(),
     text.extend_from_slice(told)
 }
 
-/// Adds the name of a label behind a blank.
+/// Adds the name of a label after a blank.
 fn push_label(
     text: &mut Vec<u8>,
     program: &Program<'_>,

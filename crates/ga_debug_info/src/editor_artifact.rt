@@ -11,7 +11,7 @@ pub enum EditorArtifact {
     Mark,
     /// A carriage return at the end of this line, counted from 1.
     Return(u32),
-    /// A carriage return behind the word of this line, which is to be `end`.
+    /// A carriage return after the word of this line, which should be `end`.
     ReturnBehindEnd(u32),
 }
 
@@ -34,8 +34,8 @@ pub fn edited_image(image: &[u8]) -> Option<EditorArtifact> {
     None
 }
 
-/// What an editor wrote into source so that the commands behind it are not read: a byte order mark before an image, which is source
-/// then, or a carriage return behind a line `end` behind which other lines stand.
+/// What an editor wrote into source so that the commands after it are not read: a byte order mark before an image, which is
+/// then source, or a carriage return after a line `end` that is followed by other lines.
 pub fn edited_source(source: &[u8]) -> Option<EditorArtifact> {
     if let [0xef, 0xbb, 0xbf, b'g', b'a', b'1', b'4', b'4', ..] = source {
         return Some(EditorArtifact::Mark);
@@ -54,7 +54,7 @@ pub fn edited_source(source: &[u8]) -> Option<EditorArtifact> {
     None
 }
 
-/// Whether a text begins with a line `end` with a carriage return, and other lines than `end` stand behind it.
+/// Whether a text begins with a line `end` with a carriage return, and other lines than `end` follow it.
 fn hides_lines(text: &[u8]) -> bool {
     match text {
         [b'e', b'n', b'd', b'\r', b'\n'] => false,
@@ -65,7 +65,7 @@ fn hides_lines(text: &[u8]) -> bool {
     }
 }
 
-/// Tells what an editor wrote into a text.
+/// Reports what an editor wrote into a text.
 pub fn report_editor_artifact<E: Write>(errors: &mut E, edited: Option<EditorArtifact>) {
     let mut text = TextBuffer::new();
     match edited {

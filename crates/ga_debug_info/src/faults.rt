@@ -1,4 +1,4 @@
-//! What standard error is told of a source.
+//! The messages about a source on standard error.
 ghost use Rattle.std.specs.Prelude.{◌≡◌, ◌+◌, ◌*◌, ◌≤◌, [], ◌++◌, take, length, codes};
 ghost use Rattle.arrayvec.specs.ArrayVec.{array_vec_len};
 ghost use Rattle.ga_node.specs.State.{IsPlace};
@@ -22,7 +22,7 @@ const FAULT_ROOM: usize = 2304;
 /// A line with a word of the source.
 type FaultText = ArrayVec<u8, FAULT_ROOM>;
 
-/// Tells the fault of a source.
+/// Reports the fault of a source.
 pub fn report_fault<E: Write>(errors: &mut E, fault: Fault<'_>) {
     match fault.cause {
         SourceCause::Memory => report_out_of_memory(errors),
@@ -30,7 +30,7 @@ pub fn report_fault<E: Write>(errors: &mut E, fault: Fault<'_>) {
     }
 }
 
-/// The line that tells a fault.
+/// The line about a fault.
 fn fault_text(fault: Fault<'_>) -> FaultText {
     let mut text = FaultText::new();
     match fault.cause {
@@ -43,7 +43,7 @@ fn fault_text(fault: Fault<'_>) -> FaultText {
     text
 }
 
-/// Adds what is told of a fault, without the program's name and the line feed.
+/// Adds the text of a fault, without the program's name and the line feed.
 pub fn push_fault(text: &mut Vec<u8>, fault: Fault<'_>) -> Result<(), AllocError> {
     let told = fault_text(fault);
     text.extend_from_slice(unnamed(told.as_slice()))
@@ -57,7 +57,7 @@ fn unnamed(line: &[u8]) -> &[u8] {
     }
 }
 
-/// Puts the line that tells an unknown word.
+/// Puts the line about an unknown word.
 fn put_unknown(out: &mut FaultText, line: u32, word: &[u8])
     ensures { out.new.items ≡ unknown_text line (take 200 word.now) }
 {
@@ -99,7 +99,7 @@ fn push_parts(out: &mut FaultText, before: &[u8], word: &[u8], behind: &[u8])
     push_shown(out, behind);
 }
 
-/// Puts the line that tells a number out of range.
+/// Puts the line about a number out of range.
 fn put_number(out: &mut FaultText, line: u32, word: &[u8], range: NumberRange)
     ensures { out.new.items ≡ number_text line (take 200 word.now) range }
 {
@@ -121,7 +121,7 @@ fn push_range(out: &mut FaultText, range: NumberRange)
     push_text(out, b")\n");
 }
 
-/// The numbers of a range, as they are told.
+/// The text of a range of numbers.
 fn text_of_range(range: NumberRange) -> &'static [u8]
     ensures text { result.now ≡ range_text range }
     ensures short { length result.now ≤ 23 }
@@ -171,12 +171,12 @@ fn push_shown_byte(out: &mut FaultText, byte: u8)
     }
 }
 
-/// Tells that there was no memory.
+/// Reports that there was no memory.
 pub fn report_out_of_memory<E: Write>(errors: &mut E) {
     tell(errors, b"ga144: no memory\n");
 }
 
-/// Tells that the source goes past its bound.
+/// Reports that the source exceeds its bound.
 pub fn report_input_too_long<E: Write>(errors: &mut E) {
     tell(errors, b"ga144: the source has more than 16777216 bytes\n");
 }
@@ -197,7 +197,7 @@ fn tell_store<E: Write>(errors: &mut E, store: Store) {
     tell(errors, text.as_slice());
 }
 
-/// Tells the stores over code of all programs, or that memory was refused, and then it is false.
+/// Reports the stores over code of all programs, or that an allocation failed, and then returns false.
 pub fn report_code_stores<E: Write>(
     alloc: Global,
     errors: &mut E,
@@ -215,7 +215,7 @@ pub fn report_code_stores<E: Write>(
     true
 }
 
-/// Tells of each node of an image the fields that source doesn't say, in their order in an image.
+/// Reports for each node of an image the fields that source can't express, in their order in an image.
 pub fn report_unrepresented<E: Write>(errors: &mut E, chip: &Chip) {
     let fresh = Node::new(0);
     for number in 0..NODES as u8 {
@@ -275,7 +275,7 @@ fn has_returns(node: &Node, fresh: &Node) -> bool {
     false
 }
 
-/// Tells a line. Nothing is to be done where that fails.
+/// Writes a line. A failed write is ignored.
 pub(crate) fn tell<E: Write>(errors: &mut E, text: &[u8]) {
     let _ = write_all(errors, text);
 }

@@ -1,4 +1,4 @@
-//! The label that stands last at or before a cell.
+//! The last label at or before a cell.
 
 ghost use Rattle.std.specs.Prelude.{◌≡◌, ◌<◌, ℕ, None, length, replicate, IfSome};
 ghost use Rattle.std.specs.Option.{option_or};
@@ -29,7 +29,7 @@ impl LastLabels {
         LastLabels { labels }
     }
 
-    /// The label that stands last at or before a cell, in the same memory.
+    /// The last label at or before a cell, in the same memory.
     pub(crate) fn before(&self, cell: u8) -> Option<usize>
         requires { cell < 192 }
         ensures { (program : AProgram) → IsMarked program self.now.labels → result ≡ label_before program cell }

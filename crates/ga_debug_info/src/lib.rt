@@ -1,5 +1,5 @@
-//! What a source says of the cells of its chip: the line and the label of each, and the word of each slot; and what standard error
-//! is told of a source.
+//! The debug info of a chip: the line and the label of each cell, and the word of each slot; and the messages about source on
+//! standard error.
 #![tactic(auto)]
 
 mod building;

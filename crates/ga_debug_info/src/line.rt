@@ -8,10 +8,10 @@ ghost use Rattle.ga_debug_info.specs.Notes.{quoted_from};
 use ga_source::strip_bom;
 use std::marker::Model;
 
-/// How many bytes of a line are told whole.
+/// The maximum number of bytes of a line that is shown whole.
 const LONGEST_WHOLE_LINE: usize = 40;
 
-/// Whether a line is told from a word on.
+/// Whether a line is shown from a word on.
 pub(crate) fn is_long(text: &[u8]) -> bool
     ensures { result ≡ is_long_line text.now }
 {
@@ -59,8 +59,8 @@ impl<'s> Lines<'s> {
         self.bare(number).trim_ascii()
     }
 
-    /// A line by its number from a column on, without blanks around that. Columns are counted in bytes from 1 on, behind a byte order
-    /// mark.
+    /// A line by its number from a column on, without surrounding blanks. Columns are counted in bytes from 1 on, after a byte
+    /// order mark.
     pub fn from_column(&mut self, number: u32, column: u32) -> &'s [u8]
         ensures line { result.now ≡ quoted_from self.old number column }
         ensures same { self.new ≡ self.old }
@@ -68,7 +68,7 @@ impl<'s> Lines<'s> {
         past(self.bare(number), column.saturating_sub(1)).trim_ascii()
     }
 
-    /// A line by its number, as it stands; the first without a byte order mark.
+    /// A line by its number, unchanged; the first without a byte order mark.
     #[tactic(auto, using(crate::proofs::LineLemmas::line_found))]
     fn bare(&mut self, number: u32) -> &'s [u8]
         ensures line { result.now ≡ bare_line self.old number }
@@ -82,7 +82,7 @@ impl<'s> Lines<'s> {
     }
 }
 
-/// What stands behind so many bytes.
+/// The part after the first `count` bytes.
 #[tactic(auto, using(crate::proofs::LineLemmas::all_past))]
 fn past(text: &[u8], count: u32) -> &[u8]
     ensures { result.now ≡ drop count text.now }
@@ -95,7 +95,7 @@ fn past(text: &[u8], count: u32) -> &[u8]
     }
 }
 
-/// The first line, and what stands behind it.
+/// The first line, and the text after it.
 #[tactic(auto, using(crate::proofs::LineLemmas::first_found, crate::proofs::LineLemmas::rest_found, crate::proofs::LineLemmas::no_first, crate::proofs::LineLemmas::no_rest))]
 fn first_line(text: &[u8]) -> (&[u8], &[u8])
     ensures line { result.0.now ≡ slice_index_or (source_lines text.now) 0 [] }
@@ -107,7 +107,7 @@ fn first_line(text: &[u8]) -> (&[u8], &[u8])
     ga_text::first_line(text)
 }
 
-/// What stands behind the first `wanted` lines of a source, where a rest stands behind the first `before`.
+/// The text after the first `wanted` lines of a source, given the `rest` after the first `before`.
 fn behind<'s>(source: &'s [u8], before: u32, rest: &'s [u8], wanted: u32) -> &'s [u8]
     requires { source_lines rest.now ≡ drop before (source_lines source.now) }
     ensures { source_lines result.now ≡ drop wanted (source_lines source.now) }
@@ -119,7 +119,7 @@ fn behind<'s>(source: &'s [u8], before: u32, rest: &'s [u8], wanted: u32) -> &'s
     }
 }
 
-/// What stands behind so many lines.
+/// The text after the first `count` lines.
 #[tactic(auto, using(crate::proofs::LineLemmas::none_left))]
 fn behind_lines(text: &[u8], count: u32) -> &[u8]
     ensures { source_lines result.now ≡ drop count (source_lines text.now) }

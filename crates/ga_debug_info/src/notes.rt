@@ -19,7 +19,7 @@ pub struct CellSource {
     pub line: u32,
     /// Whether the cell holds an instruction word, and no literal or data.
     pub is_code: bool,
-    /// Whether the line is long, so that the text ends before the word from which it is told.
+    /// Whether the line is long, so that the text ends before the word from which it is shown.
     pub is_long: bool,
     /// ` \ `, the address, the label before it, and the line that gives the cell, unless it is long.
     pub text: Vec<u8>,
@@ -60,12 +60,12 @@ impl DebugInfo {
         }
     }
 
-    /// Whether nothing is said of any cell.
+    /// Whether there is no debug info of any cell.
     pub fn is_empty(&self) -> bool {
         self.notes.is_empty()
     }
 
-    /// What is said of a cell of a node: nothing where there is no cell, or where the source doesn't give it.
+    /// The text of a cell of a node: empty if there is no cell, or the source doesn't give it.
     pub fn text_of(&self, node: NodeId, cell: Option<u8>) -> &[u8]
         ensures { result.now ≡ first_note_text self.now.notes.items node cell }
     {
@@ -81,7 +81,7 @@ impl DebugInfo {
         }
     }
 
-    /// Whether what is said of a cell ends before a word: the line is long that gives it.
+    /// Whether the text of a cell ends before a word: the line that gives it is long.
     pub fn is_truncated(&self, node: NodeId, cell: Option<u8>) -> bool
         ensures { result ≡ first_note_is_long self.now.notes.items node cell }
     {
@@ -97,8 +97,8 @@ impl DebugInfo {
         }
     }
 
-    /// How the word is told from which a slot of a cell comes: line, column and the text from there on; of slot 4, the fetch, the word
-    /// that begins the cell. Empty where the line that begins the cell isn't long, and where there is no such word.
+    /// The text of the word from which a slot of a cell comes: line, column and the text from there on; for slot 4, the fetch,
+    /// the word that begins the cell. Empty if the line that begins the cell isn't long, and if there is no such word.
     pub fn slot_text(&self, node: NodeId, cell: Option<u8>, slot: usize) -> &[u8]
         ensures { result.now ≡ slot_text self.now.words.items node cell slot }
     {
@@ -166,7 +166,7 @@ fn is_of(note: &CellSource, node: NodeId, cell: u8) -> bool
     note.node == node && note.cell == cell
 }
 
-/// Where the first note of a cell stands.
+/// The place of the first entry of a cell.
 fn note_place(notes: &[CellSource], node: NodeId, cell: u8) -> Option<usize>
     ensures { result ≡ position (is_note_of node cell) notes.now }
 {
@@ -180,7 +180,7 @@ fn is_begun(note: &CellSource, node: NodeId, line: u32) -> bool
     note.is_code && note.node == node && note.line == line
 }
 
-/// Where the first note stands of an instruction word of the node that this line begins.
+/// The place of the first entry of an instruction word of the node that this line begins.
 fn begun_place(notes: &[CellSource], node: NodeId, line: u32) -> Option<usize>
     ensures { result ≡ position (is_begun node line) notes.now }
 {
@@ -194,14 +194,14 @@ fn is_named(name: &LabelAddress, node: NodeId, text: &[u8]) -> bool
     name.node == node && name.text.as_slice() == text
 }
 
-/// Where the first name stands that is this one of the node.
+/// The place of the first name that is this one of the node.
 fn name_place(names: &[LabelAddress], node: NodeId, text: &[u8]) -> Option<usize>
     ensures { result ≡ position (is_node_name node text.now) names.now }
 {
     names.iter().position(|name| is_named(name, node, text))
 }
 
-/// The slot whose word is told: of a fetch, which has slot 4, the first.
+/// The slot whose word is shown: for a fetch, which has slot 4, the first.
 fn worded_slot(slot: usize) -> usize
     ensures { result ≡ slot_worded_by slot }
 {
@@ -217,7 +217,7 @@ fn is_word_of(told: &DisplayedWord, node: NodeId, cell: u8, slot: usize) -> bool
     word.node == node && word.cell == cell && word.first <= slot && slot <= word.last
 }
 
-/// Where the first word stands that is that of a slot of a cell.
+/// The place of the first word that is that of a slot of a cell.
 fn word_place(words: &[DisplayedWord], node: NodeId, cell: u8, slot: usize) -> Option<usize>
     ensures { result ≡ position (is_slot_word node cell slot) words.now }
 {

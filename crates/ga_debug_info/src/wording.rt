@@ -25,11 +25,11 @@ pub struct SlotWord {
     pub first: usize,
     pub last: usize,
     pub line: u32,
-    /// The column of the word's first byte, in bytes from 1 on, behind a byte order mark.
+    /// The column of the word's first byte, in bytes from 1 on, after a byte order mark.
     pub column: u32,
 }
 
-/// The word from which slots of a cell come, and how it is told.
+/// The word from which slots of a cell come, and its text.
 #[derive(Drop)]
 pub struct DisplayedWord {
     pub word: SlotWord,
@@ -127,7 +127,7 @@ fn add_group(
     Ok(())
 }
 
-/// Adds the word of an item's literal, where it has one, from P on, and tells P behind it.
+/// Adds the word of an item's literal, if it has one, from P on, and returns P after it.
 fn add_literal(
     alloc: Global,
     told: &mut Vec<DisplayedWord>,
@@ -208,7 +208,7 @@ fn add_slots(
     Ok(())
 }
 
-/// The word of the item in a slot of a cell with so many items.
+/// The word of the item in a slot of a cell with `size` items.
 fn word_in_slot(cell: Begun, size: usize, slot: usize, number: u32, words: &[Token<'_>]) -> SlotWord
     requires { slot < size }
     ensures { result ≡ word_by_slot words.now cell size slot number }
@@ -268,7 +268,7 @@ fn word_column(words: &[Token<'_>], number: u32) -> u32
     }
 }
 
-/// How the word at a column of a line is told, where the line is long that begins its cell.
+/// The text of the word at a column of a line, if the line that begins its cell is long.
 fn quoted(
     alloc: Global,
     begun: u32,

@@ -63,7 +63,7 @@ module _ (now : ParseState) (last : ℕ) (tokens : List Token) (k : ℕ) (d : To
   pub one_refused : (refusal : Refusal) → hear now (token_content (get_or tokens k d)) next ≡ Err refusal → asked_from now last (token_contents (drop k tokens)) ≡ Err refusal
   one_refused refusal heard = front ∙ ap (λ (r : Result ParseState Refusal). r ▷ (λ after. asked_from after (get_or tokens k d).line (token_contents (drop (k + 1) tokens)))) heard
 
--- behind the last
+-- after the last
 pub none_left : (now : ParseState) (last : ℕ) (tokens : List Token) → tokens ≡ [] → asked_from now last (token_contents tokens) ≡ finished now last
 unfolding asked_from
 none_left now last tokens none = ap (λ (t : List Token). asked_from now last (token_contents t)) none

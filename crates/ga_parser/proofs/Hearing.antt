@@ -161,7 +161,7 @@ hear_plain [] plain all is = is
 hear_plain (word ∷ []) plain all is = absurd (no_some is)
 hear_plain (first ∷ second ∷ words) plain all is = pair plain all first second words (λ more. hear_plain words more all) is
 
--- behind the last
+-- after the last
 ended : (e : Expect) (plain all : Plain) → end_of (record { expect = e; plain = plain }) ≡ Some all → plain ≡ all
 ended Word plain all is = some_same plain all is
 ended Address plain all is = absurd (no_some is)

@@ -16,11 +16,11 @@ use Rattle.ga_slots.specs.declared.op.Op.{Op}
 use Rattle.ga_slots.specs.declared.op.Op.TheVariants.{Return}
 use Rattle.ga_slots.specs.Codes.{name_of}
 
--- a number, or the greatest that is told
+-- a number, or the greatest that is distinguished
 abbrev told : ℕ → ℕ
 told n = min n 16777216
 
--- a digit behind a number that is told as the greatest doesn't bring it back
+-- a digit after a number at the greatest value doesn't lead back from it
 next_told : (base n d : ℕ) → 1 ≤ base → told (told n * base + d) ≡ told (n * base + d)
 next_told base n d one = elim (cases_lt n 16777216) [
   | inl small ↦ let e : min n 16777216 ≡ n = omega arith in ap (λ (m : ℕ). min (m * base + d) 16777216) e
@@ -69,7 +69,7 @@ all_digits base text i n some end all is_n =
     ap Some (is_n ∙ ap (λ (front : List ℕ). told (digits_value base front)) whole)
     ∙ ap (option_map told) (sym (numeral base text some (ap (list_all (λ byte. is_digit byte base)) (sym whole) ∙ all)))
 
--- ---- what is told of the number suffices
+-- ---- the truncated number suffices
 
 size_told : (n : ℕ) → word_of_size (told n) ≡ word_of_size n
 size_told n = elim (cases_lt n 16777216) [

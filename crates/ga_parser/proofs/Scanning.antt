@@ -56,7 +56,7 @@ unfolding parted
 no_words [] none = refl
 no_words (b ∷ rest) none = absurd (omega arith)
 
--- a word, or no bytes, behind a `(` that isn't closed yet
+-- a word, or no bytes, after a `(` that isn't closed yet
 pub hear_open : (line : ℕ) (rest part behind : List ℕ) → parted is_blank rest ≡ part ∷ parted is_blank behind → spoken line true (source_words rest) ≡ spoken line (not (closes part)) (source_words behind)
 unfolding spoken
 hear_open line rest [] behind e = ap (spoken line true) (words_split rest [] behind e)
@@ -102,7 +102,7 @@ whole_front (said ∷ front) rest whole =
     let parts = and_parts (is_word said) (list_all is_word front) whole in
     ap (λ (tail : List TokenContent). said ∷ tail) (cond-true (is_word said) (up_to_fault (front ++ rest)) [] parts.0 ∙ whole_front front rest parts.1)
 
--- a fault stands last in what words say
+-- a fault comes last in the tokens of words
 fault_last : (line : ℕ) (is_open : Bool) (words : List (List ℕ)) (rest : List TokenContent) → list_all is_word (spoken line is_open words) ≡ false → up_to_fault (spoken line is_open words ++ rest) ≡ spoken line is_open words
 unfolding spoken up_to_fault
 fault_last line false [] rest faulty = absurd (both_ways true faulty refl)
@@ -172,25 +172,25 @@ nothing_left line (b ∷ rest) none = absurd (omega arith)
 pub said_all : (told left said : List TokenContent) → left ≡ [] → told ++ left ≡ said → told ≡ said
 said_all told left said none all = sym (append-nil told) ∙ (ap (λ (l : List TokenContent). told ++ l) (sym none) ∙ all)
 
--- what was left was told
+-- what was left has been listed
 pub said_last : (told left said new part : List TokenContent) → new ≡ told ++ part → left ≡ part → told ++ left ≡ said → new ≡ said
 said_last told left said new part e is all = e ∙ (ap (λ (l : List TokenContent). told ++ l) (sym is) ∙ all)
 
--- what was left was told but for some
+-- what was left has been listed except for some
 pub said_more : (told left said new part rest : List TokenContent) → new ≡ told ++ part → left ≡ part ++ rest → told ++ left ≡ said → new ++ rest ≡ said
 said_more told left said new part rest e parts all =
     ap (λ (l : List TokenContent). l ++ rest) e ∙ (append_assoc told part rest ∙ (ap (λ (l : List TokenContent). told ++ l) (sym parts) ∙ all))
 
 -- ---- within a line
 
--- the same is left to say behind a part
+-- the same tokens are left after a part
 pub told_same : (line : ℕ) (text : List ℕ) (before now : List TokenContent) (was is : Bool) (rest behind : List ℕ) → spoken line was (source_words rest) ≡ spoken line is (source_words behind) → IsTold line text before now was rest → IsTold line text before now is behind
 told_same line text before now was is rest behind e told = record {
   says = ap (λ (l : List TokenContent). now ++ l) (sym e) ∙ told.says;
   whole = ap (list_all is_word) (sym e) ∙ told.whole;
 }
 
--- a word was told
+-- a word has been listed
 pub told_word : (line : ℕ) (text : List ℕ) (before now new : List TokenContent) (is_open : Bool) (rest part behind : List ℕ) → is_open ≡ false → new ≡ now ++ a_word line part ∷ [] → spoken line false (source_words rest) ≡ a_word line part ∷ spoken line false (source_words behind) → IsTold line text before now is_open rest → IsTold line text before new is_open behind
 told_word line text before now new true rest part behind closed pushed e told = absurd (both_ways true closed refl)
 told_word line text before now new false rest part behind closed pushed e told = record {
@@ -223,7 +223,7 @@ pub line_whole : (line : ℕ) (text : List ℕ) (before now left : List TokenCon
 line_whole line text before now left is_open rest short told e =
     ap (list_all is_word) (sym e) ∙ (told.whole ∙ ap (list_all is_word) (sym (short_line line text short)))
 
--- ---- joined with what was told before
+-- ---- joined with what was listed before
 
 pub columns_all : (told left all : List ℕ) → left ≡ [] → told ++ left ≡ all → told ≡ all
 columns_all told left all none e = sym (append-nil told) ∙ (ap (λ (l : List ℕ). told ++ l) (sym none) ∙ e)
@@ -246,7 +246,7 @@ unfolding columns_spoken
 no_columns c d false = refl
 no_columns c d true = refl
 
--- The column of what is left is that behind a part and the byte that ends it.
+-- The column of the rest is that after a part and the byte that ends it.
 pub next_column : (size : ℕ) (rest part behind : List ℕ) (is_open : Bool) → length rest ≤ size → length behind ≡ length rest - (length part + 1)
     → columns_spoken (size - length rest + 1 + length part + 1) is_open (parted is_blank behind) ≡ columns_spoken (size - length behind + 1) is_open (parted is_blank behind)
 unfolding parted
@@ -255,7 +255,7 @@ next_column size rest part (b ∷ behind) is_open within left =
     ap (λ (c : ℕ). columns_spoken c is_open (parted is_blank (b ∷ behind))) (omega arith)
 
 module _ (size : ℕ) (rest part behind : List ℕ) (e : parted is_blank rest ≡ part ∷ parted is_blank behind) (within : length rest ≤ size) (left : length behind ≡ length rest - (length part + 1)) where
-  -- a part behind a `(` that isn't closed yet
+  -- a part after a `(` that isn't closed yet
   pub columns_open : columns_spoken (size - length rest + 1) true (parted is_blank rest) ≡ columns_spoken (size - length behind + 1) (not (closes part)) (parted is_blank behind)
   unfolding columns_spoken
   columns_open = ap (columns_spoken (size - length rest + 1) true) e ∙ next_column size rest part behind (not (closes part)) within left
@@ -322,7 +322,7 @@ columns_short text short = cond-false (ltb longest_source_line (length text)) (1
 pub columns_long : (text : List ℕ) → 200 < length text → columns_by text ≡ 1 ∷ []
 columns_long text long = cond-true (ltb longest_source_line (length text)) (1 ∷ []) (columns_spoken 1 false (parted is_blank text)) (lt-ltb longest_source_line (length text) long)
 
--- what was left of the line was told
+-- the rest of the line has been listed
 pub columns_line : (text told left all new part : List ℕ) → length text ≤ 200 → new ≡ told ++ part → left ≡ part → told ++ left ≡ all ++ columns_spoken 1 false (parted is_blank text) → new ≡ all ++ columns_by text
 columns_line text told left all new part short pushed is e =
     columns_last told left (all ++ columns_spoken 1 false (parted is_blank text)) new part pushed is e

@@ -56,7 +56,7 @@ pub record ParseState : Type 0 where
   -- bit 9 of addresses from here on
   pub carries : Bool
 
--- what is asked for before the first word
+-- the requests before the first word
 abbrev pub nothing_asked : ParseState
 nothing_asked = record {
   expect = Word;
@@ -84,7 +84,7 @@ pub data Wrong : Type 0 where
   -- a fault that words alone don't have
   Later : Wrong
 
--- what is wrong, and the line of which it is told
+-- a fault, and the line for which it is reported
 pub record Refusal : Type 0 where
   pub line : ℕ
   pub wrong : Wrong
@@ -127,20 +127,20 @@ naming now line name = record now { labels = with_name now.labels line name }
 abbrev pub label_at : List Mention → ℕ → Mention
 label_at labels label = slice_index_or labels label (record { name = []; line = 0; is_marked = false })
 
--- the label stands before
+-- the label has its place before
 abbrev pub is_behind : List Mention → ℕ → Bool
 is_behind labels label = (label_at labels label).is_marked
 
 abbrev pub with_mark : List Mention → ℕ → List Mention
 with_mark labels label = slice_set labels label (record (label_at labels label) { is_marked = true })
 
--- the label stands here, and nowhere before
+-- the label has its place here, and nowhere before
 abbrev pub mark : ParseState → ℕ → ℕ → Result ParseState Refusal
 mark now line label =
     if is_behind now.labels label then refuse_line line LabelTwice
     else Ok (asking (record now { labels = with_mark now.labels label }) line (Mark label))
 
--- an opcode with the address of a label: back to one that stands before, or ahead
+-- an opcode with the address of a label: back to an earlier one, or ahead
 abbrev pub jump : ParseState → ℕ → Op → ℕ → ParseState
 jump now line op label = asking now line (Put (if is_behind now.labels label then Back op label else Ahead op label))
 
@@ -151,12 +151,12 @@ abbrev pub begin_loop : ParseState → ℕ → ParseState
 begin_loop now line =
     record (asking (record now { labels = one_label_more now.labels line [] true }) line (Mark (length now.labels))) { opened = Loop line (length now.labels) ∷ now.opened }
 
--- a jump ahead, open until its label stands
+-- a jump ahead, open until its label has a place
 abbrev pub ahead : ParseState → ℕ → Op → ParseState
 ahead now line op =
     record (jump (record now { labels = one_label_more now.labels line [] false }) line op (length now.labels)) { opened = JumpAhead line (length now.labels) ∷ now.opened }
 
--- what is asked for, with these control words open
+-- the requests, with these control words open
 abbrev pub with_open : ParseState → List Open → ParseState
 with_open now opened = record now { opened = opened }
 
@@ -178,7 +178,7 @@ ahead_ended now [] line = refuse_line line Unmatched
 abbrev pub end_ahead : ParseState → ℕ → Result (ℕ × ParseState) Refusal
 end_ahead now line = ahead_ended now now.opened line
 
--- a loop stands right around the innermost open word, which stays open; the loop ends: its label
+-- a loop is around the innermost open word, which stays open; the loop ends: its label
 abbrev pub around_ended : ParseState → List Open → ℕ → Result (ℕ × ParseState) Refusal
 around_ended now (innermost ∷ opened) line = end_loop (with_open now opened) line ▷ (λ end. Ok (end.0, with_open end.1 (innermost ∷ end.1.opened)))
 around_ended now [] line = refuse_line line Unmatched
@@ -209,7 +209,7 @@ by_range (Of n) line word range asks other = asks n
 by_range OutOfRange line word range asks other = refuse_line line (NoNumberHere word range)
 by_range NoNumber line word range asks other = other
 
--- the value that a word says, where it says one: a number, a port, or behind an apostrophe the address of a label
+-- the value of a word, if it has one: a number, a port, or, after an apostrophe, the address of a label
 unfoldable pub value_said : ParseState → ℕ → List ℕ → Result (Option Operand × ParseState) Refusal
 value_said now line word =
     if has_prefix word (codes "'") then
@@ -248,12 +248,12 @@ alone now line word next (Some op) _ = Ok (asking now line (Put (Opcode op)))
 alone now line word next None (Some one) = control now line one
 alone now line word next None None = value_said now line word ▷ (λ said. value_or_call said.1 line word next said.0)
 
--- a word by itself, or by a table
+-- a word without arguments, or one of a table
 abbrev pub named_word : ParseState → ℕ → List ℕ → List ℕ → Option Directive → Result ParseState Refusal
 named_word now line word next (Some one) = Ok (directive now line one)
 named_word now line word next None = alone now line word next (opcode_in word) (control_in word)
 
--- a word where any may stand, and the word behind it
+-- a word where any is allowed, and the word after it
 unfoldable pub word_asks : ParseState → ℕ → List ℕ → List ℕ → Result ParseState Refusal
 word_asks now line word next =
     if bytes_eq next (codes ",") then value_said now line word ▷ (λ said. cell said.1 line said.0)
@@ -303,7 +303,7 @@ expected now Name line word next = name_asks now line word
 expected now (Register register) line word next = register_asks now line register word
 expected now Nothing line word next = Ok now
 
--- what is said is a word, or the fault of a line
+-- a token is a word, or the fault of a line
 abbrev pub of_kind : TokenKind → ℕ → Result ParseState Refusal → Result ParseState Refusal
 of_kind WordKind line asks = asks
 of_kind LongLineKind line asks = refuse_line line LongLine
@@ -328,13 +328,13 @@ abbrev pub line_of : Open → ℕ
 line_of (Loop line _) = line
 line_of (JumpAhead line _) = line
 
--- no control word is open; it is told of the outermost one
+-- no control word is open; otherwise the fault names the outermost one
 unfoldable pub all_closed : ParseState → List Open → Result ParseState Refusal
 all_closed now [] = Ok now
 all_closed now (one ∷ []) = refuse_line (line_of one) Unclosed
 all_closed now (one ∷ around) = all_closed now around
 
--- each name is that of a place; it is told of the first that is none
+-- each name has a place; otherwise the fault names the first that has none
 unfoldable pub all_placed : ParseState → List Mention → Result ParseState Refusal
 all_placed now [] = Ok now
 all_placed now (label ∷ labels) = if has_bytes label.name && not label.is_marked then refuse_line label.line (Unknown label.name) else all_placed now labels
@@ -351,11 +351,11 @@ abbrev pub next_text : List TokenContent → List ℕ
 next_text [] = []
 next_text (said ∷ rest) = said.text
 
--- what words ask for behind others, the last of which stood on this line
+-- the requests of words after others, the last of which was on this line
 unfoldable pub asked_from : ParseState → ℕ → List TokenContent → Result ParseState Refusal
 asked_from now last [] = finished now last
 asked_from now last (said ∷ rest) = hear now said (next_text rest) ▷ (λ after. asked_from after said.line rest)
 
--- what the words behind a node's name ask for, which stands on this line
+-- the requests of the words after a node's name, which is on this line
 abbrev pub asked_by_words : ℕ → List TokenContent → Result ParseState Refusal
 asked_by_words line words = asked_from nothing_asked line words

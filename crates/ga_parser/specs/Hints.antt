@@ -1,4 +1,4 @@
--- What is told of a word that says nothing: what to write in its place (docs/REFERENCE.md, "Source"; this project's own).
+-- The hint for a word without meaning: what to write instead (docs/REFERENCE.md, "Source"; this project's own).
 use Rattle.std.specs.Prelude.{ℕ, ◌≤◌, ◌-◌, ◌==◌, nat_lt, Bool, ◌&&◌, ◌||◌, if◌then◌else◌, List, [], ◌∷◌, ◌++◌, length, take, drop, slice_index, codes, Option, Some, None, is_some}
 use Rattle.std.specs.Cmp.Lexicographic.{pointwise}
 use Rattle.std.specs.Char.{eq_ignore_ascii_case}
@@ -122,14 +122,14 @@ known_word word = first_meant word known_words
 
 -- ---- hints
 
--- what is told of the word, where something is known: how it is spelled here, or else the name that was meant, with a `?`
+-- the hint for the word, if there is one: its form here, otherwise the name that was probably meant, with a `?`
 unfoldable pub hint_for : List ℕ → Option (List ℕ)
 hint_for word = matched_or (spelled word) (λ text. Some text) (matched_or (known_word word) (λ name. Some (name ++ codes "?")) None)
 
 abbrev pub hint_text : Hint → List ℕ
 hint_text hint = hint.before.now ++ (hint.word.now ++ hint.behind.now)
 
--- a part of the word, and before and behind it 64 bytes at most
+-- a part of the word, and before and after it at most 64 bytes
 pub record IsShortFor (word : List ℕ) (hint : Hint) : Type 0 where
   pub before : length hint.before.now ≤ 64
   pub part : length hint.word.now ≤ length word

@@ -18,7 +18,7 @@ use Rattle.ga_parser.specs.Vocabulary.{number_by_word}
 
 -- ---- the words of each node
 
--- the words of what is said; a line's fault has no text
+-- the words of the tokens; a line's fault has no text
 abbrev pub texts_in : List TokenContent → List (List ℕ)
 texts_in all = map (λ said. said.text) all
 
@@ -35,7 +35,7 @@ unfoldable pub body_in : List (List ℕ) → List (List ℕ)
 body_in [] = []
 body_in (word ∷ words) = if is_node word then [] else word ∷ body_in words
 
--- for each `node` the words behind it, up to the next
+-- for each `node` the words after it, up to the next
 unfoldable pub bodies_in : List (List ℕ) → List (List (List ℕ))
 bodies_in [] = []
 bodies_in (word ∷ words) = if is_node word then body_in words ∷ bodies_in words else bodies_in words
@@ -53,7 +53,7 @@ pub record Plain : Type 0 where
   pub a : Option Operand
   pub b : Option Operand
 
--- nothing is asked
+-- no request
 abbrev pub no_request : Plain
 no_request = record { requests = []; p = None; a = None; b = None }
 
@@ -90,13 +90,13 @@ with_two_words plain first second =
     else if bytes_eq first (codes "/b") then by_number (number_by_word second) (λ n. only_if (may_be plain.b n 0x200) (record plain { b = Some (Number n) }))
     else None
 
--- what words ask for behind others, where each is plain
+-- the requests of words after others, if each is plain
 unfoldable pub plain_from : Plain → List (List ℕ) → Option Plain
 plain_from plain [] = Some plain
 plain_from plain (word ∷ []) = None
 plain_from plain (first ∷ second ∷ words) = with_two_words plain first second >>= (λ more. plain_from more words)
 
--- what the words of a node ask for behind its name, where each is plain
+-- the requests of the words after a node's name, if each is plain
 abbrev pub plain_of : List (List ℕ) → Option Plain
 plain_of words = plain_from no_request words
 

@@ -25,8 +25,8 @@ wrong_of _ = Later
 abbrev pub word_refusal : Fault → Refusal
 word_refusal fault = record { line = fault.line; wrong = wrong_of fault.cause }
 
--- The requests are just what the words behind a node's name on this line ask for: each request with its line, the labels with their
--- names and lines in the order in which the words name them, and the registers with theirs.
+-- The requests are exactly those of the words after a node's name on this line: each request with its line, the labels with
+-- their names and lines in the order in which the words name them, and the registers with theirs.
 pub record AreRequestsOf (line : ℕ) (words : List TokenContent) (requests : NodeRequests) : Type 0 where
   pub last : ParseState
   pub asks : asked_by_words line words ≡ Ok last

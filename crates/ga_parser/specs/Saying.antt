@@ -1,6 +1,6 @@
--- What a source says: its words with their lines, comments left out (docs/REFERENCE.md, "Source"; the notation is this project's own).
--- Where what a source says stands in its lines (docs/REFERENCE.md, "Source"; this project's own). A column is that of a word's first
--- byte, counted in bytes from 1 on, behind a byte order mark. A fault of a line has column 1.
+-- The tokens of a source: its words with their lines, without comments (docs/REFERENCE.md, "Source"; the notation is this
+-- project's own). Where the tokens are in their lines (docs/REFERENCE.md, "Source"; this project's own). A column is that of a
+-- word's first byte, counted in bytes from 1 on, after a byte order mark. A fault of a line has column 1.
 use Rattle.std.specs.Prelude.{ℕ, ◌+◌, ◌-◌, ◌^◌, ◌==◌, nat_lt, Bool, true, false, ◌||◌, ◌&&◌, not, if◌then◌else◌, List, [], ◌∷◌, ◌++◌, length, map, min, filter, take, drop, slice_index, codes, bytes_eq}
 use Rattle.ga_text.specs.Lines.{with_byte}
 use Rattle.ga_parser.specs.declared.scan.TokenKind.{TokenKind}
@@ -80,8 +80,8 @@ is_word said = is_word_kind said.kind
 abbrev pub closes : List ℕ → Bool
 closes word = slice_index word (length word - 1) == 41
 
--- What words of a line say, behind a `(` that isn't closed yet or not: `\` leaves out all behind it, and `(` all up to a word that
--- ends with `)`.
+-- The tokens of words of a line, after a `(` that isn't closed yet or not: `\` omits everything after it, and `(` everything up
+-- to a word that ends with `)`.
 unfoldable pub spoken : ℕ → Bool → List (List ℕ) → List TokenContent
 spoken line false [] = []
 spoken line true [] = a_fault line OpenComment ∷ []
@@ -96,7 +96,7 @@ said_by line text = if nat_lt longest_source_line (length text) then a_fault lin
 
 -- ---- what a text says
 
--- what is said, up to the first fault
+-- the tokens, up to the first fault
 unfoldable pub up_to_fault : List TokenContent → List TokenContent
 up_to_fault [] = []
 up_to_fault (said ∷ rest) = said ∷ (if is_word said then up_to_fault rest else [])
@@ -128,13 +128,13 @@ token_content token = record { line = token.line; text = token.text.now; kind = 
 abbrev pub token_contents : List Token → List TokenContent
 token_contents tokens = map token_content tokens
 
--- ---- where what a source says stands in its lines
+-- ---- where the tokens of a source are in their lines
 
 -- the column of a part that is a word
 abbrev pub part_column : ℕ → List ℕ → List ℕ
 part_column column part = if has_bytes part then column ∷ [] else []
 
--- The columns of what parts of a line say, the first of which is at this column, behind a `(` that isn't closed yet or not.
+-- The columns of the tokens of parts of a line, the first of which is at this column, after a `(` that isn't closed yet or not.
 unfoldable pub columns_spoken : ℕ → Bool → List (List ℕ) → List ℕ
 columns_spoken column false [] = []
 columns_spoken column true [] = 1 ∷ []

@@ -36,7 +36,7 @@ digits_in base text = if is_numeral base text then Some (digits_value base text)
 abbrev pub has_prefix : List ℕ → List ℕ → Bool
 has_prefix text front = bytes_eq (take (length front) text) front
 
--- decimal digits, or hexadecimal ones behind `0x`
+-- decimal digits, or hexadecimal ones after `0x`
 abbrev pub plain_in : List ℕ → Option ℕ
 plain_in text = if has_prefix text (codes "0x") then digits_in 16 (drop 2 text) else digits_in 10 text
 
@@ -99,7 +99,7 @@ other_names =
 abbrev pub own_names : List (List ℕ × Op)
 own_names = map (λ op. (name_of op, op)) all_ops
 
--- the opcode, where it has no address behind it: one with an address is written as a call, a loop or a jump ahead
+-- the opcode, if no address follows it: one with an address is written as a call, a loop or a jump ahead
 abbrev pub without_address : Op → Option Op
 without_address Jump = None
 without_address Call = None

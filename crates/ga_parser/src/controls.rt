@@ -161,7 +161,7 @@ impl<'s> RequestBuilder<'s> {
         }
     }
 
-    /// The label of the loop that stands right around the innermost open word, which stays open.
+    /// The label of the loop around the innermost open word, which stays open.
     fn close_around(&mut self, line: u32) -> Result<usize, Fault<'s>>
         ensures { Answers result (end_around (asking_of self.old) line) (λ label. (label, asking_of self.new)) }
     {

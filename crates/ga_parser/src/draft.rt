@@ -88,7 +88,7 @@ impl<'s> RequestBuilder<'s> {
         self.ask(line, Request::Put(item))
     }
 
-    /// The label stands here.
+    /// The label has its place here.
     pub(crate) fn mark(&mut self, line: u32, label: usize) -> Result<(), Fault<'s>>
         ensures { Answers result (mark_row (asking_of self.old) line label) (λ _. asking_of self.new) }
     {
@@ -99,7 +99,7 @@ impl<'s> RequestBuilder<'s> {
         self.ask(line, Request::Mark(label))
     }
 
-    /// A number, a port, or the address of a label behind an apostrophe.
+    /// A number, a port, or the address of a label after an apostrophe.
     #[tactic(auto, unfolding(crate::specs::Asking::value_said))]
     fn value(&mut self, line: u32, text: &'s [u8]) -> Result<Option<Operand>, Fault<'s>>
         ensures { Answers result (value_said (asking_of self.old) line text.now) (λ found. (found, asking_of self.new)) }
@@ -221,7 +221,7 @@ impl<'s> RequestBuilder<'s> {
         self.jump(line, op, label)
     }
 
-    /// A word that stands for itself. The next word decides whether it is a cell, and whether a call is a jump.
+    /// A word without arguments. The next word decides whether it is a cell, and whether a call is a jump.
     #[tactic(auto, unfolding(crate::specs::Asking::word_asks))]
     fn word(&mut self, line: u32, text: &'s [u8], next: &[u8]) -> Result<(), Fault<'s>>
         ensures { Answers result (word_asks (asking_of self.old) line text.now next.now) (λ _. asking_of self.new) }
@@ -259,7 +259,7 @@ impl<'s> RequestBuilder<'s> {
         }
     }
 
-    /// What is missing or still open behind the last word, and a name that is no label's.
+    /// What is missing or still open after the last word, and a name that is no label's.
     #[tactic(auto, unfolding(crate::specs::Asking::all_closed))]
     fn finish(&self, line: u32) -> Result<(), Fault<'s>>
         ensures { Answers result (finished (asking_of self.now) line) (λ _. asking_of self.now) }
@@ -337,11 +337,11 @@ pub fn with_carry_bit(is_set: bool, address: u32) -> u32
     (if is_set { 512 } else { 0 }) + address % 512
 }
 
-/// What the words of a node ask for, whose name stands on this line.
+/// The requests of the words of a node, whose name is on this line.
 ///
 /// # Errors
-/// The first fault of a word, or else a word that is missing at the end, a control word that is open, a name that is no label's; or
-/// memory was refused.
+/// The first fault of a word, otherwise a word that is missing at the end, a control word that is open, a name that is no
+/// label's; or an allocation failed.
 pub fn read_requests<'s>(
     alloc: Global,
     line: u32,

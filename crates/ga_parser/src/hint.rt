@@ -11,7 +11,7 @@ use super::nearness::{is_near, is_same};
 use super::number::{digits, number_of};
 use super::vocabulary::is_number;
 
-/// What to write in place of a word: three texts, one behind another.
+/// What to write instead of a word: three texts, one after another.
 #[derive(Clone, Copy, PartialEq, Eq, Debug)]
 pub struct Hint<'s> {
     pub before: &'static [u8],
@@ -72,7 +72,7 @@ fn is_meant(word: &[u8], name: &[u8]) -> bool
     is_same(word, name) || name.len() > 3 && is_near(word, name)
 }
 
-/// The digits of a hexadecimal number behind a `$`.
+/// The digits of a hexadecimal number after a `$`.
 fn behind_dollar(word: &[u8]) -> Option<&[u8]>
     ensures text { option_map (λ text. text.now) result ≡ behind_dollar word.now }
     ensures short { IfSome result (λ text. length text.now ≤ length word.now) }
@@ -84,7 +84,7 @@ fn behind_dollar(word: &[u8]) -> Option<&[u8]>
     }
 }
 
-/// What stands in front of the byte with which a word ends.
+/// The part before the byte with which a word ends.
 fn in_front_of(end: u8, word: &[u8]) -> Option<&[u8]>
     ensures text { option_map (λ text. text.now) result ≡ in_front_of end word.now }
     ensures short { IfSome result (λ text. length text.now ≤ length word.now) }
@@ -95,7 +95,7 @@ fn in_front_of(end: u8, word: &[u8]) -> Option<&[u8]>
     }
 }
 
-/// What stands behind the colon with which a word begins.
+/// The part after the colon with which a word begins.
 fn behind_colon(word: &[u8]) -> Option<&[u8]>
     ensures text { option_map (λ text. text.now) result ≡ behind_colon word.now }
     ensures short { IfSome result (λ text. length text.now ≤ length word.now) }

@@ -10,16 +10,16 @@ pub enum Operand {
     Label(usize),
 }
 
-/// Something that stands in a slot or in a cell.
+/// The content of a slot or of a cell.
 #[derive(Clone, Copy)]
 pub enum Item {
     /// An opcode without an address.
     Opcode(Op),
-    /// `@p`, and its value in a cell behind.
+    /// `@p`, and its value in a later cell.
     Literal(Operand),
-    /// An opcode with the address of a label that stands before it in the source.
+    /// An opcode with the address of an earlier label.
     Back(Op, usize),
-    /// An opcode with the address of a label that stands behind it.
+    /// An opcode with the address of a later label.
     Ahead(Op, usize),
     /// A cell of data.
     Cell(Operand),
@@ -40,11 +40,11 @@ pub enum Request {
     Unext(usize),
     /// The label is the address of the next cell.
     Mark(usize),
-    /// The next item stands in a new cell.
+    /// The next item is in a new cell.
     Fill,
     /// The next cell is the one at this address.
     Go(u32),
-    /// Bit 9 of the next cell's address, and so of those behind.
+    /// Bit 9 of the next cell's address, and so of those after it.
     Carry(bool),
 }
 

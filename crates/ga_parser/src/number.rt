@@ -16,7 +16,7 @@ pub(crate) enum Number {
     Nothing,
 }
 
-/// The greatest number that is told; it stands for any greater one too.
+/// The greatest number that is distinguished; every greater one is represented by it.
 const GREATEST: u32 = 0x100_0000;
 
 /// The value of a digit of a base.
@@ -78,7 +78,7 @@ fn word_below(size: u32) -> Number
     }
 }
 
-/// What digits behind a `-` say of a number.
+/// The number of digits after a `-`.
 fn negative(text: &[u8]) -> Number
     ensures { result ≡ option_map_or word_below (plain_in text.now) Nothing }
 {
@@ -98,7 +98,7 @@ fn positive(text: &[u8]) -> Number
     }
 }
 
-/// What digits say of a number, behind a `-` or without.
+/// The number of digits, after a `-` or without.
 fn numeral(text: &[u8]) -> Number
     ensures { result ≡ numeral_in text.now }
 {

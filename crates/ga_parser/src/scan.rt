@@ -14,7 +14,7 @@ use std::alloc::{AllocError, Global};
 #[derive(Clone, Copy)]
 pub struct Token<'s> {
     pub line: u32,
-    /// The column of the word's first byte, in bytes from 1 on, behind a byte order mark; 1 where the line is at fault.
+    /// The column of the word's first byte, in bytes from 1 on, after a byte order mark; 1 if the line is at fault.
     pub column: u32,
     /// The text of the word, empty where the line is at fault.
     pub text: &'s [u8],
@@ -66,7 +66,7 @@ fn closes(word: &[u8]) -> bool
     if let [.., b')'] = word { true } else { false }
 }
 
-/// What stands before the first blank or tab, and what behind it.
+/// The part before the first blank or tab, and the part after it.
 #[tactic(auto, using(crate::proofs::Scanning::at_end, crate::proofs::Scanning::no_end))]
 fn first_part(text: &[u8]) -> (&[u8], &[u8])
     requires { 0 < length text.now }
@@ -154,17 +154,17 @@ fn without_return(text: &[u8]) -> &[u8]
     }
 }
 
-/// A line without what some editors write before or behind it.
+/// A line without what some editors write before or after it.
 fn bare(line: u32, text: &[u8]) -> &[u8]
     ensures { result.now ≡ bare_line line text.now }
 {
     without_return(strip_bom(line, text))
 }
 
-/// The words of a text, up to its end or to a line `end`. What stands behind a line with a fault is read too.
+/// The words of a text, up to its end or to a line `end`. What follows a line with a fault is read too.
 ///
 /// # Errors
-/// Memory was refused.
+/// Allocation failed.
 pub fn source_words(alloc: Global, source: &[u8]) -> Result<Vec<Token<'_>>, AllocError>
     ensures says { IfOk result (λ words. token_contents words.items ≡ all_in source.now) }
     ensures columns { IfOk result (λ words. columns_of words.items ≡ columns_in source.now) }

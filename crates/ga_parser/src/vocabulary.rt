@@ -7,7 +7,7 @@ use super::fault::NumberRange;
 use super::number::{Number, number_of};
 use ga_slots::Op;
 
-/// What stands in a table beside a name, where it is the text; else what is told last, or nothing.
+/// The value in a table for a name, if it is the text; otherwise the last argument, or nothing.
 macro_rules! by_name {
     ($text:expr;) => { None };
     ($text:expr; else $other:expr) => { $other };
@@ -59,7 +59,7 @@ fn own_name(text: &[u8]) -> Option<Op>
     None
 }
 
-/// The opcode, where it has no address behind it.
+/// The opcode, if no address follows it.
 fn without_address(op: Op) -> Option<Op>
     ensures { result ≡ without_address op }
 {
@@ -83,8 +83,8 @@ pub(crate) fn parse_opcode(text: &[u8]) -> Option<Op>
     }
 }
 
-/// Whether a word says something of itself, so that no label has this name: an opcode, a control word, a number, a port, or a
-/// word that goes before or behind a name or a value.
+/// Whether a word has a meaning of its own, so that no label has this name: an opcode, a control word, a number, a port, or a
+/// word that comes before or after a name or a value.
 #[tactic(auto, unfolding(crate::specs::Vocabulary::is_reserved))]
 pub(crate) fn is_reserved(text: &[u8]) -> bool
     ensures { result ≡ is_taken_word text.now }

@@ -266,7 +266,7 @@ all_numbered number left before all none e = sym (append-nil before) ∙ (ap (λ
 
 -- ---- faults
 
--- what is left of words: those before the first that goes, and those behind the last
+-- what is left of words: those before the first that is removed, and those after the last
 pub left_words : (words : List Token) (number at first : ℕ) (start front rest one two : List Token) → start ≡ [] → at ≡ place_of_token number words → first ≡ first_gone words at → front ≡ take first words → rest ≡ back words first at
     → one ≡ start ++ front → two ≡ one ++ rest → two ≡ without_token words number
 unfolding without_token

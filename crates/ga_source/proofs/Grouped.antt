@@ -149,7 +149,7 @@ module _ (p : Packer) (asked : List LocatedRequest) (item : Item) (line : ℕ) (
   put_begun : (items : List Item) → items ≡ list → items ≢ []
   put_begun items is empty = let size : length (p.filling.items ++ item ∷ []) ≡ 0 = ap length (sym pushed ∙ (sym is ∙ empty)) in let more = length_push p.filling.items item in absurd (omega (arith, size, more))
 
-  -- the cell goes on
+  -- the cell continues
   pub put_open : (q : Packer) → q.filling.items ≡ list → q.lines.items ≡ numbers → q.spot.at ≡ p.spot.at → q.groups.items ≡ p.groups.items → q.labels.items ≡ p.labels.items → IsGrouped q asked
   put_open q filling lines at groups labels_are = record {
     places = λ labels e.
@@ -245,7 +245,7 @@ lines_of address slot (item ∷ items) [] size = absurd (omega (arith, size))
 later : (slot : ℕ) → (suc slot == 0) ≡ false
 later slot = ne_eqb (suc slot) 0 (λ e. absurd (omega arith))
 
--- behind slot 0 the cell goes on to where another begins
+-- after slot 0 the cell continues up to the beginning of the next one
 front_of : (address slot : ℕ) (items : List Item) (lines : List ℕ) (rest : List Placed) → up_to_next rest ≡ [] → up_to_next (places_in address (suc slot) items lines ++ rest) ≡ places_in address (suc slot) items lines
 unfolding places_in up_to_next
 front_of address slot [] lines rest none = none

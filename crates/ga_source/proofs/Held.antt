@@ -25,7 +25,7 @@ use Rattle.ga_source.proofs.Laying.{behind-same, behind-slot, Stand-push, taken-
 abbrev dots : Option ℕ → ℕ → Bool
 dots word slot = (nat_lt 1 slot || has_op word 1 Nop) && (nat_lt 2 slot || has_op word 2 Nop) && has_op word 3 Nop
 
--- ---- an item that stands
+-- ---- an item in place
 
 has_op_by : (word slot : ℕ) (op : Op) → slot < 4 → opcode word slot ≡ op → has_op (Some word) slot op ≡ true
 has_op_by word slot op l e = and_from (nat_lt slot 4) (code_of (opcode word slot) == code_of op) (lt-ltb slot 4 l) (eq-eqb (code_of (opcode word slot)) (code_of op) (ap code_of e))
@@ -72,7 +72,7 @@ holds_taken given spot (Back op label) at rest cell h = subst (Holds given) (eqb
 holds_taken given spot (Ahead op label) at rest cell h = subst (Holds given) (eqb-true (spot.at % 512) cell h) at
 holds_taken given spot (Cell value) at rest cell h = subst (Holds given) (eqb-true (spot.at % 512) cell h) at
 
--- behind some items the cell is one that they take, or nothing of it is read
+-- after some items the cell is one that they take, or nothing of it is read
 end_held : (given : List (Option ℕ)) (spot : PackingSpot) (items : List Item) → (spot.slot ≡ 0) ⊎ Holds given (spot.at % 512) → ((cell : ℕ) → taken spot items cell ≡ true → Holds given cell) → ((behind_all spot items).slot ≡ 0) ⊎ Holds given ((behind_all spot items).at % 512)
 unfolding taken behind_all
 end_held given spot [] at held = at
@@ -166,7 +166,7 @@ taken_at spot (first ∷ rest) (suc i) cell l h = or_right (takes spot first cel
 pub group_at : (groups : List Group) (i cell : ℕ) (none : Group) → i < length groups → takes_group cell (slice_index_or groups i none) ≡ true → are_taken groups cell ≡ true
 group_at groups i cell none l h = list_any_at (takes_group cell) groups i none l h
 
--- one more item of the group stands
+-- one more item of the group is in place
 pub stand_more : (node : NodeState) (labels : List (Option ℕ)) (address word : ℕ) (items : List Item) (i : ℕ) → i < length items → length items ≤ 4 → IsFit labels address items → IsWordOf labels items word → word_in node address ≡ Some word → HasRest node labels (spot_in address items i) (slice_index_or items i nothing) → Stand node labels (begin_at address) (take i items) → Stand node labels (begin_at address) (take (i + 1) items)
 stand_more node labels address word items i l few fit is_word at rest h =
     let spot = spot_in address items i in
@@ -188,7 +188,7 @@ held_more labels given address items i l fit at rest held cell h =
 dot_by : (node : NodeState) (address word k : ℕ) → word_in node address ≡ Some word → k < 4 → opcode word k ≡ Nop → has_op (word_in node address) k Nop ≡ true
 dot_by node address word k at l e = subst (λ (w : Option ℕ). has_op w k Nop ≡ true) (sym at) (has_op_by word k Nop l e)
 
--- behind the last item stands `.`
+-- after the last item there is `.`
 dots_by : (node : NodeState) (address word size : ℕ) → word_in node address ≡ Some word → 0 < size → size < 4 → ((k : ℕ) → size ≤ k → k < 4 → opcode word k ≡ Nop) → dots (word_in node address) size ≡ true
 dots_by node address word size at some few nops =
     let w = word_in node address in
@@ -218,7 +218,7 @@ filled_at node labels address word n items spot size few fit is_word at is_spot 
       (dots_by node address word (n + 1) at (omega arith) small (λ k h m. is_word.dots k (omega arith) m (ap (λ (j : ℕ). ends_cell (slice_index_or items j nothing)) end ∙ parts.2)))))
 ]
 
--- the group is read when each of its items stands
+-- the group is read if each of its items is in place
 pub group_loaded : (node : NodeState) (labels given : List (Option ℕ)) (group : Group) (word : ℕ) → group.broken ≡ None → 0 < length group.items.items → length group.items.items ≤ 4 → IsFit labels group.address group.items.items → IsWordOf labels group.items.items word → word_in node group.address ≡ Some word → Stand node labels (begin_at group.address) group.items.items → ((cell : ℕ) → taken (begin_at group.address) group.items.items cell ≡ true → Holds given cell) → IsLoadedGroup node labels given group
 group_loaded node labels given group word whole some few fit is_word at h held =
     let items = group.items.items in

@@ -1,4 +1,4 @@
--- Items and requests one behind the other, one more of them, and the words of groups.
+-- Items and requests in sequence, one more of them, and the words of groups.
 use Rattle.std.specs.Prelude.{◌==◌, ◌&&◌, ◌||◌, not, nat_lt, cond, IfSome}
 use Rattle.std.proofs.Common.{◌≡◌, ◌≢◌, ◌∙◌, ℕ, ◌+◌, ◌⊎◌, inl, inr, refl, sym, ap, subst, Bool, true, false, List, [], ◌∷◌, ◌++◌, Option, Some, None, slice_index_or, arith, ◌-◌, ◌%◌, ◌<◌, ◌≤◌, length}
 use Rattle.std.proofs.lemmas.Bool.{or_cases, or_left, or_right, and_from, or_parts, cond-true, cond-false, true≢false, cases_eq, eqb-false, eq-eqb, ne_eqb, and_parts, eqb-true, ltb-true}
@@ -72,7 +72,7 @@ chosen_slot : (b : Bool) (p slot : ℕ) (next : PackingSpot) → next.slot ≡ s
 chosen_slot true p slot next e h = absurd (h refl)
 chosen_slot false p slot next e h = (e, refl)
 
--- the spot behind an item is in the same cell, or at the begin of another
+-- the spot after an item is in the same cell, or at the beginning of another
 pub behind-same : (spot : PackingSpot) (item : Item) → (spot_after spot item).slot ≢ 0 → (spot_after spot item).at ≡ spot.at
 behind-same spot item h = chosen_cell (ends_cell item || spot.slot == 3) (p_behind spot.p item) spot.at (record { at = spot.at; slot = spot.slot + 1; p = p_behind spot.p item; is_moved = spot.is_moved || moves_p item }) refl h
 

@@ -60,7 +60,7 @@ assembled_empty chip programs all = record { ram = empty_ram chip programs all; 
 
 -- ---- one more node with its program
 
--- a program marked as begun stands in another node than one that isn't
+-- a program marked as begun is of another node than one that isn't
 apart : (begun : List Bool) (n : ℕ) (program : Program) → slice_index_or begun n false ≡ false → HasBegun begun program → program.node.number ≢ n
 apart begun n program fresh h = λ e. let two = ap (λ k. slice_index_or begun k false) e in cc
 

@@ -27,7 +27,7 @@ use Rattle.ga_parser.specs.declared.item.Request.TheVariants.{Put, Go}
 use Rattle.ga_parser.specs.declared.item.LocatedRequest.{LocatedRequest}
 use Rattle.ga_source.specs.Made.{with_cell, with_asked, address_behind, with_requests}
 
--- what stands above some bits decides the bits of the word without its mask above them
+-- the bits above some bits determine those of the word without its mask above them
 above : (k v w : ℕ) → v / 2 ^ k ≡ w / 2 ^ k → bit_xor v opcode_mask / 2 ^ k ≡ bit_xor w opcode_mask / 2 ^ k
 above k v w e = xor_shr v opcode_mask k ∙ (ap (λ x. bit_xor x (opcode_mask / 2 ^ k)) e ∙ sym (xor_shr w opcode_mask k))
 

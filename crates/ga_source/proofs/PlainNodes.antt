@@ -101,7 +101,7 @@ words_plain plain more first second is found = elim (cases_Bool (bytes_eq second
   ]
 ]
 
--- the words behind two that are plain
+-- the words after two that are plain
 behind_plain : (words : List (List ℕ)) (all : Plain) (more : Option Plain) → ((m : Plain) → more ≡ Some m → IsPlain m) → ((m : Plain) → IsPlain m → plain_from m words ≡ Some all → IsPlain all) → (more >>= (λ m. plain_from m words)) ≡ Some all → IsPlain all
 behind_plain words all None first again is = absurd (no_some is)
 behind_plain words all (Some m) first again is = again m (first m refl) is
@@ -154,7 +154,7 @@ register_same : (labels : List (Option ℕ)) (given : Option RegisterValue) (bou
 register_same labels None bound before is = refl
 register_same labels (Some given) bound before is = value_same labels given.value bound before is
 
--- what is given goes before what was there
+-- given values go on top of those that were there
 above_all : (value : Operand) (bound before other : ℕ) → IsNumber bound (Some value) → number_or (Some value) before ≡ number_or (Some value) other
 above_all (Number n) bound before other is = refl
 above_all (Label k) bound before other is = absurd is
@@ -210,7 +210,7 @@ fresh_rom_size : (p : ℕ) → length (fresh_node p).rom ≡ 64
 unfolding fresh_node
 fresh_rom_size p = length-replicate {A = ℕ} 64 0
 
--- the words behind one `node`
+-- the words after one `node`
 body_made : (chip : List NodeState) (words : List (List ℕ)) (program : Program) → IsOf words program → IsLoaded chip program → HasPlain chip words
 body_made chip words program of loaded n plain name is =
     let same : program.node.number ≡ n = some_same program.node.number n (sym of.node ∙ name) in

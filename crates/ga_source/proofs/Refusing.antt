@@ -76,7 +76,7 @@ first_is begun (a ∷ b ∷ words) d some sound =
 
 -- ---- the words that are left
 
--- the bodies behind the first, whose node has begun
+-- the bodies after the first, whose node has begun
 rest_sound : (begun : List Bool) (body : List (List ℕ)) (bodies : List (List (List ℕ))) (n : ℕ) → yxx_in (slice_index_or body 0 []) ≡ Some n → AreSound begun (body ∷ bodies) → AreSound (set begun n true) bodies
 rest_sound begun body bodies n named sound = record {
   each = All-tail IsSoundBody body bodies sound.each;
@@ -151,7 +151,7 @@ module _ (begun : List Bool) (words : List Token) (d : Token) (name : List ℕ) 
       let found = first_is begun words d some sound in
       both_ways (slice_index_or begun n false) (found.fresh n (ap yxx_in (sym is_name) ∙ named)) (ap (λ (k : ℕ). slice_index_or begun k false) (sym same) ∙ twice)
 
-  -- the words behind it are sound
+  -- the words after it are sound
   pub first_refused : (Goal : Type 0) (behind body : List Token) (count : ℕ) → behind ≡ drop 2 words → body ≡ take count behind → texts_of (take count behind) ≡ body_in (texts_of behind)
       → ((plain : Plain) → All (λ token. token.kind ≡ Word) body → plain_of (texts_of body) ≡ Some plain → AreDistinctCells (cells_from 0 plain.requests) → Goal) → IsSoundFrom begun words → Goal
   first_refused Goal behind body count is_behind is_body front refused sound =

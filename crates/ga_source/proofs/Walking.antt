@@ -127,7 +127,7 @@ filled_here p before node labels w read = subst (λ (s : PackingSpot). is_filled
 
 -- ---- a new cell
 
--- what is behind a closed cell, and not yet in the next one
+-- what comes after a closed cell, and is not yet in the next one
 pub settled : (p q : Packer) (labels_now : List (Option ℕ)) (s : PackingSpot) (before : List LocatedRequest) (one : LocatedRequest) → IsWalked p before → IsClosed p q → Extends p.labels.items labels_now → s ≡ begin_at s.at → ((labels : List (Option ℕ)) → after_request labels p.spot one.request ≡ s) → ((node : NodeState) (labels : List (Option ℕ)) → Extends labels_now labels → is_filled node p.spot ≡ true → is_met node labels p.spot one.request ≡ true) → (r : Packer) → r.groups.items ≡ q.groups.items → r.filling.items ≡ q.filling.items → r.labels.items ≡ labels_now → r.spot ≡ s → IsWalked r (before ++ one ∷ [])
 settled p q labels_now s before one w closed more_now begins after met_one r groups filling labels_are spot_is =
     let more = λ (labels : List (Option ℕ)) (e : Extends r.labels.items labels). λ (k address : ℕ) (known : slice_index_or p.labels.items k None ≡ Some address). e k address (subst (λ (list : List (Option ℕ)). slice_index_or list k None ≡ Some address) (sym labels_are) (more_now k address known)) in
@@ -222,7 +222,7 @@ module _ (p : Packer) (asked : List LocatedRequest) (item : Item) (list : List I
     | inr b ↦ w.named labels cell more (inr (inr (subst (λ (s : PackingSpot). takes s item cell ≡ true) w.here b)))
   ]
 
-  -- the cell goes on
+  -- the cell continues
   pub added_open : (s : PackingSpot) → s ≡ spot_after p.spot item → s.slot ≢ 0 → (q : Packer) → q.filling.items ≡ list → q.spot ≡ s → q.groups.items ≡ p.groups.items → q.labels.items ≡ p.labels.items → q.broken ≡ p.broken → IsWalked q asked
   added_open s is_behind opened q filling spot_is groups labels_are broken =
       let spot_at : q.spot ≡ spot_after p.spot item = spot_is ∙ is_behind in

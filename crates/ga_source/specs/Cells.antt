@@ -19,12 +19,12 @@ use Rattle.ga_source.specs.declared.group.Group.{Group}
 abbrev pub is_at : ℕ → ℕ → Bool
 is_at address cell = address % 512 == cell
 
--- the item stands in the cell, or its literal does
+-- the item is in the cell, or its literal is
 abbrev pub takes : PackingSpot → Item → ℕ → Bool
 takes spot (Literal _) cell = is_at spot.at cell || is_at spot.p cell
 takes spot _ cell = is_at spot.at cell
 
--- what the request asks for stands in the cell
+-- what the request demands is in the cell
 abbrev pub asks_for : List (Option ℕ) → PackingSpot → Request → ℕ → Bool
 asks_for labels spot (Put item) cell = takes (spot_of labels spot item) item cell
 asks_for labels spot (Unext _) cell = is_at spot.at cell
@@ -65,7 +65,7 @@ pub record Placed : Type 0 where
 abbrev pub placed_at : PackingSpot → Item → ℕ → Placed
 placed_at spot item line = record { address = spot.at; slot = spot.slot; item = item; line = line }
 
--- the item that a request asks for, where the walk stands at this spot
+-- the item of a request, if the walk is at this spot
 abbrev pub placed_by : List (Option ℕ) → PackingSpot → Request → ℕ → List Placed
 placed_by labels spot (Put item) line = placed_at (spot_of labels spot item) item line ∷ []
 placed_by labels spot (Unext _) line = placed_at spot (Opcode UnextOp) line ∷ []
@@ -89,7 +89,7 @@ unfoldable pub up_to_next : List Placed → List Placed
 up_to_next [] = []
 up_to_next (one ∷ rest) = if one.slot == 0 then [] else one ∷ up_to_next rest
 
--- a first item and those behind it in its cell
+-- a first item and those after it in its cell
 abbrev pub laid_of : Placed → List Placed → Laid
 laid_of first behind = record {
   address = first.address;

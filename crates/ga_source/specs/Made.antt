@@ -30,7 +30,7 @@ abbrev pub with_asked : NodeState → ℕ → Request → NodeState
 with_asked node at (Put (Cell (Number n))) = with_cell node (classified at) n
 with_asked node at _ = node
 
--- the address behind a request
+-- the address after a request
 abbrev pub address_behind : ℕ → Request → ℕ
 address_behind at (Put _) = advanced at
 address_behind at (Go address) = address
@@ -63,7 +63,7 @@ pub record IsNode (made node : NodeState) : Type 0 where
   pub rom : (k : ℕ) → k < 64 → slice_index node.rom k ≡ slice_index made.rom k
   pub rest : node ≡ record made { ram = node.ram; rom = node.rom }
 
--- where the words behind a `node` are plain, its node is the one at load with what they ask for
+-- if the words after a `node` are plain, its node is the one at load with their requests
 abbrev pub HasPlain : List NodeState → List (List ℕ) → Type 0
 HasPlain chip words = (n : ℕ) (plain : Plain) → yxx_in (slice_index_or words 0 []) ≡ Some n → plain_of (drop 1 words) ≡ Some plain → IsNode (plain_node (node_at default_chip n) plain) (node_at chip n)
 
@@ -97,7 +97,7 @@ pub record AreDistinctCells (cells : List (ℕ × ℕ)) : Type 0 where
   pub memory : (k : ℕ) → k < length cells → IsMemoryAddress (cell_of cells k).0
   pub apart : (j k : ℕ) → j < k → k < length cells → (cell_of cells k).0 % 512 ≢ (cell_of cells j).0 % 512
 
--- the words behind a `node` name one, and the others are plain and give each cell once
+-- the words after a `node` name one, and the others are plain and give each cell once
 pub record IsSoundBody (words : List (List ℕ)) : Type 0 where
   pub number : ℕ
   pub plain : Plain
@@ -109,7 +109,7 @@ pub record IsSoundBody (words : List (List ℕ)) : Type 0 where
 abbrev pub node_number_of_words : List (List (List ℕ)) → ℕ → Option ℕ
 node_number_of_words bodies k = yxx_in (slice_index_or (slice_index_or bodies k []) 0 [])
 
--- No line has a fault, the words begin with `node`, each node is named once, and what is asked of it is plain and has room.
+-- No line has a fault, the words begin with `node`, each node is named once, and its requests are plain and have room.
 pub record IsSoundSource (source : List ℕ) : Type 0 where
   pub whole : list_all is_word (said_in source) ≡ true
   pub begins : body_in (words_in source) ≡ []

@@ -29,7 +29,7 @@ unfoldable pub said_body : List TokenContent → List TokenContent
 said_body [] = []
 said_body (said ∷ words) = if is_node said.text then [] else said ∷ said_body words
 
--- for each `node` the words behind it, up to the next
+-- for each `node` the words after it, up to the next
 unfoldable pub said_bodies : List TokenContent → List (List TokenContent)
 said_bodies [] = []
 said_bodies (said ∷ words) = if is_node said.text then said_body words ∷ said_bodies words else said_bodies words
@@ -40,12 +40,12 @@ said_bodies (said ∷ words) = if is_node said.text then said_body words ∷ sai
 abbrev pub requests_in : Program → NodeRequests
 requests_in program = record { asked = program.asked; names = program.names; registers = program.registers }
 
--- The program begins on this line, and asks for just what the words behind its node's name ask for.
+-- The program begins on this line, and has exactly the requests of the words after its node's name.
 pub record AsksFor (line : ℕ) (words : List TokenContent) (program : Program) : Type 0 where
   pub begins : program.line ≡ line
   pub requests : AreRequestsOf line words (requests_in program)
 
--- the program of the words behind a `node`: the first is its node's name
+-- the program of the words after a `node`: the first is its node's name
 abbrev pub IsAsked : List TokenContent → Program → Type 0
 IsAsked [] program = ⊥
 IsAsked (name ∷ words) program = (yxx_in name.text ≡ Some program.node.number) × AsksFor name.line words program
@@ -57,14 +57,14 @@ AreAskedBy (words ∷ rest) (program ∷ programs) = IsAsked words program × Ar
 AreAskedBy [] (program ∷ programs) = ⊥
 AreAskedBy (words ∷ rest) [] = ⊥
 
--- each program is that of the words behind a `node` of the source, in order
+-- each program is that of the words after a `node` of the source, in order
 abbrev pub AreAsked : List ℕ → List Program → Type 0
 AreAsked source programs = AreAskedBy (said_bodies (said_in source)) programs
 
 -- ---- what they ask for as plain words
 
--- The program is that of the words behind a `node`: they begin with its node's name, and where the others are plain it asks for
--- what they ask for, and has no label.
+-- The program is that of the words after a `node`: they begin with its node's name, and if the others are plain it has their
+-- requests, and no label.
 pub record IsOf (words : List (List ℕ)) (program : Program) : Type 0 where
   pub node : yxx_in (slice_index_or words 0 []) ≡ Some program.node.number
   pub asks : (plain : Plain) → plain_of (drop 1 words) ≡ Some plain → asked_by program.asked.items program.registers ≡ plain

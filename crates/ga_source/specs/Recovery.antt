@@ -31,7 +31,7 @@ abbrev pub place_in : Option ℕ → ℕ → ℕ
 place_in (Some k) end = min k end
 place_in None end = end
 
--- the place of the word with this number, behind all words where none has it
+-- the place of the word with this number, after all words if none has it
 abbrev pub place_of_token : ℕ → List Token → ℕ
 place_of_token number words = place_in (position (is_numbered number) words) (length words)
 
@@ -39,9 +39,9 @@ place_of_token number words = place_in (position (is_numbered number) words) (le
 abbrev pub token_text : List Token → ℕ → List ℕ
 token_text words k = slice_index_or (map (λ word. word.text.now) words) k []
 
--- ---- what goes with a word
+-- ---- what is removed with a word
 
--- a directive with a name or a value behind it
+-- a directive with a name or a value after it
 abbrev pub takes_word : Option Directive → Bool
 takes_word (Some Label) = true
 takes_word (Some Address) = true
@@ -52,11 +52,11 @@ takes_word _ = false
 abbrev pub is_leading : List ℕ → Bool
 is_leading text = is_node text || takes_word (directive_in text)
 
--- the first word that goes: the one at fault, or the one that takes it
+-- the first word that is removed: the one at fault, or the one that takes it
 abbrev pub first_gone : List Token → ℕ → ℕ
 first_gone words at = if nat_lt 0 at && is_leading (token_text words (at - 1)) then at - 1 else at
 
--- the place behind the word at fault, and behind a `,` that makes it a cell
+-- the place after the word at fault, and after a `,` that makes it a cell
 abbrev pub behind_gone : List Token → ℕ → ℕ
 behind_gone words at = if bytes_eq (token_text words (at + 1)) (codes ",") then at + 2 else at + 1
 
@@ -64,7 +64,7 @@ behind_gone words at = if bytes_eq (token_text words (at + 1)) (codes ",") then 
 abbrev pub begins_node : Token → Bool
 begins_node word = is_node word.text.now
 
--- the words behind so many, where there are as many
+-- the words after the first `count`, if there are that many
 abbrev pub tokens_past : List Token → ℕ → List Token
 tokens_past words count = drop (min count (length words)) words
 
@@ -76,7 +76,7 @@ from_node words = drop (place_in (position begins_node words) (length words)) wo
 abbrev pub is_head : List Token → ℕ → Bool
 is_head words first = first == 0 || is_node (token_text words first)
 
--- the words behind those that go: of a node's beginning all up to the next `node` goes
+-- the words after those that are removed: of a node's beginning all up to the next `node` is removed
 abbrev pub back : List Token → ℕ → ℕ → List Token
 back words first at = if is_head words first then from_node (tokens_past words (if first == at then at + 1 else at)) else tokens_past words (behind_gone words at)
 

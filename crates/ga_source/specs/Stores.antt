@@ -27,7 +27,7 @@ cell_index address = if nat_lt (address % 256) 128 then address % 256 % 64 else 
 abbrev pub with_code_line : List ℕ → ℕ → ℕ → List ℕ
 with_code_line code address line = slice_set code (cell_index address) line
 
--- so does the cell of a literal, which stands at P
+-- so does the cell of a literal, which is at P
 abbrev pub with_literal : List ℕ → ℕ → ℕ → Item → List ℕ
 with_literal code p line (Literal _) = with_code_line code p line
 with_literal code p line _ = code
@@ -37,7 +37,7 @@ unfoldable pub with_literals : List ℕ → List ℕ → ℕ → ℕ → List It
 with_literals code lines p i [] = code
 with_literals code lines p i (item ∷ items) = with_literals (with_literal code p (slice_index lines i) item) lines (p_behind p item) (i + 1) items
 
--- an instruction word, and its literals behind it
+-- an instruction word, followed by its literals
 abbrev pub with_code_word : List ℕ → Group → List ℕ
 with_code_word code group =
     with_literals (with_code_line code group.address (slice_index group.lines.items 0)) group.lines.items (advanced group.address) 0 group.items.items
@@ -62,7 +62,8 @@ store_address known StoreA = known.a
 store_address known StorePlus = known.a
 store_address known _ = None
 
--- `a!` and `b!` take the literal right before them, `!+` and `@+` count A up, `+*` changes it, and behind a way out nothing is known
+-- `a!` and `b!` take the literal just before them, `!+` and `@+` increment A, `+*` changes it, and after a way out nothing is
+-- known
 abbrev pub known_after : Known → Op → Known
 known_after known AStore = record { a = known.literal; b = known.b; literal = None }
 known_after known BStore = record { a = known.a; b = known.literal; literal = None }
@@ -75,7 +76,7 @@ known_after known Jump = nothing_known
 known_after known Call = nothing_known
 known_after known _ = record { a = known.a; b = known.b; literal = None }
 
--- behind the end of a loop, which may move A more than once
+-- after the end of a loop, which may move A more than once
 abbrev pub known_past_loop : Known → Op → Known
 known_past_loop known op = record { a = None; b = (known_after known op).b; literal = None }
 

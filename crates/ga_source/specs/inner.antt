@@ -45,22 +45,22 @@ nothing = Opcode Return
 
 -- ---- the items of a cell
 
--- the spot behind items
+-- the spot after items
 unfoldable pub behind_all : PackingSpot → List Item → PackingSpot
 behind_all spot [] = spot
 behind_all spot (item ∷ rest) = behind_all (spot_after spot item) rest
 
--- the items stand one behind the other
+-- the items are in place, in sequence
 unfoldable pub Stand : NodeState → List (Option ℕ) → PackingSpot → List Item → Type 0
 Stand node labels spot [] = Unit {0}
 Stand node labels spot (item ∷ rest) = (item_stands node labels spot item ≡ true) × Stand node labels (spot_after spot item) rest
 
--- one of the items or its literal stands in the cell
+-- one of the items or its literal is in the cell
 unfoldable pub taken : PackingSpot → List Item → ℕ → Bool
 taken spot [] cell = false
 taken spot (item ∷ rest) cell = takes spot item cell || taken (spot_after spot item) rest cell
 
--- the cell reads as these items, with `.` behind
+-- the cell reads as these items, followed by `.`
 pub record IsReadAt (node : NodeState) (labels : List (Option ℕ)) (address : ℕ) (items : List Item) : Type 0 where
   pub items_stand : Stand node labels (begin_at address) items
   pub filled : is_filled node (behind_all (begin_at address) items) ≡ true
@@ -93,7 +93,7 @@ are_taken groups cell = list_any (takes_group cell) groups
 
 -- ---- requests
 
--- the spot behind requests
+-- the spot after requests
 unfoldable pub after_all : List (Option ℕ) → PackingSpot → List LocatedRequest → PackingSpot
 after_all labels spot [] = spot
 after_all labels spot (asked ∷ rest) = after_all labels (after_request labels spot asked.request) rest
@@ -109,7 +109,7 @@ AreMet node labels spot (asked ∷ rest) = (is_met node labels spot asked.reques
 abbrev pub Extends : List (Option ℕ) → List (Option ℕ) → Type 0
 Extends before after = (k address : ℕ) → slice_index_or before k None ≡ Some address → slice_index_or after k None ≡ Some address
 
--- a jump back goes to a label that is known
+-- a jump back leads to a label that is known
 abbrev pub IsKnown : List (Option ℕ) → Item → Type 0
 IsKnown labels (Back _ label) = slice_index_or labels label None ≢ None
 IsKnown labels _ = Unit {0}
@@ -191,7 +191,7 @@ pub record IsGrouped (packer : Packer) (asked : List LocatedRequest) : Type 0 wh
   pub lines : length packer.lines.items ≡ length packer.filling.items
   pub whole : packer.filling.items ≡ [] → packer.broken ≡ None
 
--- A packer has taken one request more behind those that it had taken.
+-- A packer has taken one more request after those that it had taken.
 pub record TakesOn (old new : Packer) (asked : LocatedRequest) : Type 0 where
   pub cell : IsInCell new
   pub walked : (before : List LocatedRequest) → IsWalked old before → IsWalked new (before ++ asked ∷ [])
@@ -242,7 +242,7 @@ MayEnd slot (Ahead _ _) = slot < 3
 MayEnd slot (Cell _) = slot ≡ 0
 MayEnd slot _ = Unit {0}
 
--- the word has each item in its slot, and `.` behind
+-- the word has each item in its slot, followed by `.`
 pub record IsWordOf (labels : List (Option ℕ)) (items : List Item) (word : ℕ) : Type 0 where
   pub has : (k : ℕ) → k < length items → HasItem labels word k (slice_index_or items k nothing)
   pub dots : (k : ℕ) → length items ≤ k → k < 4 → ends_cell (slice_index_or items (length items - 1) nothing) ≡ false → opcode word k ≡ Nop
@@ -270,7 +270,7 @@ abbrev pub HoldsRest : List (Option ℕ) → PackingSpot → Item → Type 0
 HoldsRest given spot (Literal _) = Holds given (spot.p % 512)
 HoldsRest given spot _ = Unit {0}
 
--- the word of a group stands in its cell
+-- the word of a group is in its cell
 pub record HasWord (node : NodeState) (labels : List (Option ℕ)) (address : ℕ) (items : List Item) : Type 0 where
   pub word : ℕ
   pub is_word : IsWordOf labels items word
@@ -327,7 +327,7 @@ pub record AreNumbers (p a b : Option Operand) : Type 0 where
   pub a_below : IsNumber 0x40000 a
   pub b_below : IsNumber 0x200 b
 
--- the address behind requests
+-- the address after requests
 unfoldable pub address_after : ℕ → List Request → ℕ
 address_after at [] = at
 address_after at (request ∷ requests) = address_after (address_behind at request) requests

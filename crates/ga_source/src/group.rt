@@ -6,7 +6,7 @@ ghost use Rattle.ga_source.specs.Reading.{is_data_cell};
 use arrayvec::ArrayVec;
 use ga_parser::Item;
 
-/// A slot of a cell, with P behind the cell and its literals so far, unless an opcode moved it.
+/// A slot of a cell, with P after the cell and its literals so far, unless an opcode moved it.
 #[derive(Clone, Copy, PartialEq, Eq)]
 pub(crate) struct PackingSpot {
     pub at: u32,

@@ -7,7 +7,7 @@ ghost use Rattle.ga_grid.specs.Grid.{default_chip};
 ghost use Rattle.ga_parser.specs.Plain.{Plain, yxx_in, plain_of};
 ghost use Rattle.ga_source.specs.Made.{HasPlain, plain_node};
 
-/// Where the words behind a `node` are plain, the whole node is the one at load with what they ask for.
+/// If the words after a `node` are plain, the whole node is the one at load with their requests.
 pub fn plain_words_make_nodes()
     ensures { (chip : List NodeState) (words : List (List ℕ)) (n : ℕ) (plain : Plain) → HasPlain chip words →
         yxx_in (slice_index_or words 0 []) ≡ Some n → plain_of (drop 1 words) ≡ Some plain → HasSizes (record_of (node_at chip n)) →

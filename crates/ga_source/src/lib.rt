@@ -1,7 +1,7 @@
 //! Programs as texts, assembled into a chip.
 //!
-//! The requests of each node are packed into groups (an instruction word and the literals behind it), and groups are loaded into the
-//! node's memory.
+//! The requests of each node are packed into groups (an instruction word and the literals after it), and groups are loaded into
+//! the node's memory.
 #![tactic(auto)]
 
 mod group;

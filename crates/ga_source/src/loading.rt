@@ -71,7 +71,7 @@ fn all_nop() -> [Op; 4]
     [Op::Nop; 4]
 }
 
-/// The opcodes of items, and `.` behind.
+/// The opcodes of items, followed by `.`.
 fn opcodes_in(items: &[Item]) -> [Op; 4]
     requires { length items.now ≤ 4 }
     ensures size { length result ≡ 4 }
@@ -85,7 +85,7 @@ fn opcodes_in(items: &[Item]) -> [Op; 4]
     ops
 }
 
-/// The instruction word with the opcodes of some items, and `.` behind.
+/// The instruction word with the opcodes of some items, followed by `.`.
 fn opcode_word(items: &[Item]) -> Word18
     requires few { length items.now ≤ 4 }
     requires last { length items.now ≡ 4 → code_of (op_in (slice_index_or items.now 3 nothing)) % 4 ≡ 0 }

@@ -35,11 +35,11 @@ struct Packer {
     lines: ArrayVec<u32, 4>,
     /// The line of an `unext` in that cell that can't stand there.
     broken: Option<u32>,
-    /// Where the walk through the requests is: in the cell that is being filled, behind its items.
+    /// Where the walk through the requests is: in the cell that is being filled, after its items.
     spot: PackingSpot,
 }
 
-/// The line of an `unext` that can't stand in its cell, where it, the last one, goes to the cell's label.
+/// The line of an `unext` that has no place in its cell, if it, the last one, jumps to the cell's label.
 fn broken_by(before: Option<u32>, line: u32, is_loop: bool) -> Option<u32>
     ensures { result ≡ None → (before ≡ None) × IsTrue is_loop }
 {
@@ -91,7 +91,7 @@ impl Packer {
         Ok(())
     }
 
-    /// Goes on in the next cell where the item has no room in this one.
+    /// Continues in the next cell if the item has no room in this one.
     fn make_room(&mut self, item: Item) -> Result<(), AllocError>
         requires { IsInCell self.old }
         ensures cell { OnOk result (IsInCell self.new) }
@@ -192,7 +192,7 @@ impl Packer {
         Ok(())
     }
 
-    /// Ends the cell, and goes on in the one at a spot.
+    /// Ends the cell, and continues in the one at a spot.
     fn go(&mut self, asked: LocatedRequest, spot: PackingSpot) -> Result<(), Fault<'static>>
         requires cell { IsInCell self.old }
         requires begin { spot.slot ≡ 0 }
@@ -227,7 +227,7 @@ impl Packer {
     }
 }
 
-/// Packs requests, which name so many labels.
+/// Packs requests, which name `labels` labels.
 pub(crate) fn pack(
     alloc: Global,
     asked: &[LocatedRequest],

@@ -236,7 +236,7 @@ fn none_begun() -> [bool; NODES]
     [false; NODES]
 }
 
-/// Assembles the program of the node whose words come first, and tells how many words it has.
+/// Assembles the program of the node whose words come first, and returns how many words it has.
 fn assemble_first<'s>(
     alloc: Global,
     chip: &mut Chip,
@@ -280,15 +280,15 @@ fn assemble_first<'s>(
     Ok(count + 2)
 }
 
-/// The chip of words. What is told of a line is told of the number that stands in its place.
+/// The chip of words. A fault's line is the number in its place.
 ///
 /// # Errors
-/// A fault of the first node that has one: the first of its words, or else of its names, or else of its cells.
+/// A fault of the first node that has one: the first of its words, otherwise of its names, otherwise of its cells.
 pub fn assemble_words<'s>(alloc: Global, words: &[Token<'s>]) -> Result<Assembled<'s>, Fault<'s>>
     // Each node that is named has its program and its registers, and all else of the chip is as at load.
     ensures programs { IfOk result (λ all. IsAssembled all.chip all.programs.items) }
 
-    // Each program is that of the words behind a `node`, in order, and asks for just what these ask for.
+    // Each program is that of the words after a `node`, in order, and has exactly their requests.
     ensures asked { IfOk result (λ all. AreAskedBy (said_bodies (token_contents words.now)) all.programs.items) }
 
     // The groups of each program are the cells that its requests make, in order.
@@ -321,8 +321,8 @@ pub fn assemble(alloc: Global, source: &[u8]) -> Result<Assembled<'_>, Fault<'_>
     // Each node that is named has its program and its registers, and all else of the chip is as at load.
     ensures programs { IfOk result (λ all. IsAssembled all.chip all.programs.items) }
 
-    // Each program is that of the words behind a `node`, in order, and asks for just what these ask for: the requests with their lines,
-    // the labels and the registers.
+    // Each program is that of the words after a `node`, in order, and has exactly their requests with their lines, the labels
+    // and the registers.
     ensures asked { IfOk result (λ all. AreAsked source.now all.programs.items) }
 
     // The groups of each program are the cells that its requests make, in order: each has just their items, each with its request's line.
@@ -331,7 +331,7 @@ pub fn assemble(alloc: Global, source: &[u8]) -> Result<Assembled<'_>, Fault<'_>
     // Each program asks for what its words ask for as plain words, where they are.
     ensures read { IfOk result (λ all. AreRead source.now all.programs.items) }
 
-    // The words behind a `node` make its node, where they are plain, and a node that isn't named is as at load.
+    // The words after a `node` make its node, if they are plain, and a node that isn't named is as at load.
     ensures made { IfOk result (λ all. IsChipOfSource source.now all.chip) }
 
     // A source of plain words that give each cell once is refused for want of memory alone.

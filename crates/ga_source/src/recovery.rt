@@ -16,7 +16,7 @@ pub const MAX_FAULTS: usize = 200;
 pub struct PartialAssembly<'s> {
     /// The chip of the words that are left; none where the faults are as many as are passed over.
     pub assembled: Option<Assembled<'s>>,
-    /// The faults, in the order in which they were told. What is told of a line is told of the number of a word.
+    /// The faults, in the order in which they were found. The line of each is the number of a word.
     pub faults: Vec<Fault<'s>>,
 }
 
@@ -70,7 +70,7 @@ fn first_numbered(words: &[Token<'_>], number: u32) -> Option<usize>
     words.iter().position(|word| is_numbered(word, number))
 }
 
-/// The place of the word with this number, behind all words where none has it.
+/// The place of the word with this number, after all words if none has it.
 fn place_of(words: &[Token<'_>], number: u32) -> usize
     ensures place { result ≡ place_by number words.now }
     ensures in_range { result ≤ length words.now }
@@ -108,7 +108,7 @@ fn leads(text: &[u8]) -> bool
     }
 }
 
-/// The place of the first word that goes with the one at a place.
+/// The place of the first word that is removed with the one at a place.
 fn first_gone(words: &[Token<'_>], at: usize) -> usize
     ensures first { result ≡ first_of words.now at }
     ensures in_range { result ≤ at }
@@ -120,7 +120,7 @@ fn first_gone(words: &[Token<'_>], at: usize) -> usize
     }
 }
 
-/// The place behind the last word that goes with the one at a place, within a node.
+/// The place after the last word that is removed with the one at a place, within a node.
 fn behind_gone(words: &[Token<'_>], at: usize) -> usize
     requires { at ≤ length words.now }
     ensures { result ≡ behind_of words.now at }
@@ -139,7 +139,7 @@ fn is_head(words: &[Token<'_>], first: usize) -> bool
     first == 0 || is_node(text_at(words, first))
 }
 
-/// The words behind so many, where there are as many.
+/// The words after the first `count`, if there are that many.
 fn words_after<'a, 's>(words: &'a [Token<'s>], count: usize) -> &'a [Token<'s>]
     ensures { result.now ≡ tokens_past words.now count }
 {
@@ -160,7 +160,7 @@ fn from_node<'a, 's>(words: &'a [Token<'s>]) -> &'a [Token<'s>]
     words.split_at(place_in(first_begin(words), words.len())).1
 }
 
-/// The words that stand behind those that go with the one at a place.
+/// The words after those that are removed with the one at a place.
 fn back<'a, 's>(words: &'a [Token<'s>], first: usize, at: usize) -> &'a [Token<'s>]
     requires { at ≤ length words.now }
     ensures { result.now ≡ back_of words.now first at }
@@ -201,10 +201,10 @@ fn is_memory(fault: Fault<'_>) -> bool
     }
 }
 
-/// The chip of words. What is told of a line is told of the number of a word, from 1 on.
+/// The chip of words. A fault's line is the number of a word, from 1 on.
 ///
 /// # Errors
-/// A fault of the first node that has one: the first of its words, or else of its names, or else of its cells.
+/// A fault of the first node that has one: the first of its words, otherwise of its names, otherwise of its cells.
 pub fn assemble_by_word_number<'s>(
     alloc: Global,
     words: &[Token<'s>],

@@ -29,7 +29,7 @@ pub struct Store {
 struct Known {
     a: Option<u32>,
     b: Option<u32>,
-    /// The literal that stands right before.
+    /// The literal just before.
     literal: Option<u32>,
 }
 
@@ -51,7 +51,7 @@ impl Known {
         }
     }
 
-    /// What is known behind an opcode.
+    /// What is known after an opcode.
     fn after(self, op: Op) -> Self
         ensures { result ≡ known_after self op }
     {
@@ -71,7 +71,7 @@ impl Known {
         }
     }
 
-    /// What is known behind the end of a loop, which may move A more than once.
+    /// What is known after the end of a loop, which may move A more than once.
     fn past_loop(self, op: Op) -> Self
         ensures { result ≡ known_past_loop self op }
     {
@@ -82,7 +82,7 @@ impl Known {
         }
     }
 
-    /// What is known behind what a request asks for. A named label may be reached from elsewhere.
+    /// What is known after a request. A named label may be reached from elsewhere.
     fn behind(self, program: &Program<'_>, request: Request) -> Self
         ensures { result ≡ known_behind program.now self request }
     {
@@ -146,7 +146,7 @@ fn note_literal(code: &mut [u32], p: u32, line: u32, item: Item)
     }
 }
 
-/// P behind the literal of an item.
+/// P after the literal of an item.
 fn p_behind(p: u32, item: Item) -> u32
     ensures { result ≡ p_behind_of p item }
 {

@@ -31,7 +31,7 @@ Answers result asks came = MatchResult result (λ x. asks ≡ Ok (came x)) (λ f
 
 -- ---- what the words say that were read so far (docs/REFERENCE.md, "Source"; the notation is this project's own)
 
--- Of a line, what stands before a rest was told: the rest says what is left, within a comment or not.
+-- Of a line, what comes before a rest has been listed: the rest has the tokens that are left, within a comment or not.
 pub record IsTold (line : ℕ) (text : List ℕ) (before now : List TokenContent) (is_open : Bool) (rest : List ℕ) : Type 0 where
   pub says : now ++ spoken line is_open (source_words rest) ≡ before ++ spoken line false (source_words text)
   pub whole : list_all is_word (spoken line is_open (source_words rest)) ≡ list_all is_word (spoken line false (source_words text))
@@ -73,7 +73,7 @@ may_give plain P n = may_be plain.p n 0x400
 may_give plain A n = may_be plain.a n 0x40000
 may_give plain B n = may_be plain.b n 0x200
 
--- what is next behind a directive that plain words have
+-- what comes next after a directive that plain words have
 abbrev pub next_of : Directive → Option Expect
 next_of Label = None
 next_of GoesOn = Some Address
@@ -97,7 +97,7 @@ hear heard word next = elim heard.expect as (λ _. Option Heard) [
   | Nothing ↦ Some (record { expect = Word; plain = heard.plain })
 ]
 
--- what is asked for where the words end
+-- the requests where the words end
 abbrev pub end_of : Heard → Option Plain
 end_of heard = elim heard.expect as (λ _. Option Plain) [
   | Word ↦ Some heard.plain
@@ -116,7 +116,7 @@ hear_all heard (word ∷ words) = hear heard word (slice_index_or words 0 []) >>
 abbrev pub texts_of : List Token → List (List ℕ)
 texts_of tokens = map (λ token. token.text.now) tokens
 
--- what is asked is what was heard, and no name
+-- the requests are those that were heard, and no name
 pub record HasHeard (now : ParseState) (heard : Heard) : Type 0 where
   pub expect : now.expect ≡ heard.expect
   pub plain : asked_by now.asked now.registers ≡ heard.plain
