@@ -24,6 +24,7 @@ NAME = r"[^\W\d]['\w-]*"
 WORD = re.compile(rf"{NAME}(?:\.{NAME})*")
 HEAD = re.compile(rf"(?:abbrev |unfoldable )?pub (?:(?:data|record) )?({NAME}|◌\S+◌)(?= *(?:[:({{]|$))", re.M)
 CLAUSE = re.compile(rf"({NAME})(?= |$)")
+MUTUAL = re.compile(r"^(?:abbrev )?mutual\n((?:  .*\n|\n)*)", re.M)
 # Quoted text of definitions and of clauses; a comment there, which begins outside of a name; and what begins one that isn't read here.
 QUOTED = r'"(?:[^"\\\n]|\\[^\n])*"'
 DASHES = r'(?<![^ \n(){}.;,@"»])--[^\n]*'
@@ -59,6 +60,11 @@ def is_inner(module):
     return "inner" in module.split(".")
 
 
+def dedented(text):
+    """A text of definitions with those of each `mutual` block at its margin."""
+    return MUTUAL.sub(lambda it: re.sub(r"^  ", "", it[1], flags=re.M), text)
+
+
 class Module:
     """A file of definitions, or of code: what its `use` lines bring, and its own definitions with their texts."""
 
@@ -74,7 +80,7 @@ class Module:
                 first, _, last = item.partition(" as ")
                 self.brought[last or first].append((use.start(), module, first))
         if name:
-            for part in re.split(r"\n(?=\S)", "\n" + USE.sub("", self.text)):
+            for part in re.split(r"\n(?=\S)", "\n" + USE.sub("", dedented(self.text))):
                 head = HEAD.match(part) or CLAUSE.match(part)
                 if head and (head.re is HEAD or head[1] in self.own):
                     self.own[head[1]] = self.own.get(head[1], "") + "\n" + part
@@ -196,7 +202,7 @@ class Reader:
         """The definitions that the clauses of a file of code name, of these items or of those that others see."""
         here, seen = self.code[path], only or self.exported(path)
         impl = (None, False)
-        item = r"^impl(?:<.*>)? (?:(?:[\w:<>]+ (for) )?(\w+))|^( *)(pub )?(?:const )?fn (\w+)|ghost Value = ([^;]*);"
+        item = r"^impl(?:<.*>)? (?:(?:[\w:<>]+ (for) )?(\w+))|^( *)(pub )?(?:const )?fn (\w+)|ghost Value = ([^;]*)"
         for it in re.finditer(item, here.text, re.M):
             if it[2]:
                 impl = (it[2], it[1])

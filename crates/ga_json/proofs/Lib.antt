@@ -1,0 +1,5 @@
+pub mod Characters
+pub mod Grammar
+pub mod Says
+pub mod Texts
+pub mod Written

@@ -1,0 +1,106 @@
+-- The text of fields, rows and answers, part by part.
+use Rattle.std.proofs.Common.{◌≡◌, ◌≢◌, ℕ, zero, suc, ◌≤◌, ◌<◌, List, [], ◌∷◌, ◌++◌, Bool, true, false, codes, ap, ◌∙◌, refl, append_assoc, arith}
+use Rattle.std.specs.Prelude.{map, ◌==◌, nat_le}
+use Rattle.std.proofs.lemmas.List.{append-nil}
+use Rattle.std.proofs.lemmas.Bool.{and_parts}
+use Rattle.std.proofs.lemmas.Bool.Decides.{nat_tests}
+use Rattle.ga_text.specs.Lines.{Text}
+use Rattle.ga_json.specs.Values.{JsonItems, no_items, item, array, JsonMembers, no_members, member}
+use Rattle.ga_json.specs.Names.{is_name, is_name_byte, are_name_bytes}
+use Rattle.ga_json.specs.Compact.{escape_text, escaped, quoted, comma_if, compact, items_text, members_text, json_line}
+use Rattle.ga_json.specs.FieldValues.{value_json}
+use Rattle.ga_json.specs.Fields.{named, with_members, row_json, report_json}
+use Rattle.ga_json.specs.inner.{fields_text, rows_lead, row_lead}
+use Rattle.ga_json.specs.declared.field.Field.{Field}
+
+-- ---- a name needs no escape
+
+pub escape_plain : (b : ℕ) → 32 ≤ b → b ≢ 34 → b ≢ 92 → escape_text b ≡ b ∷ []
+escape_plain b low not_quote not_solidus =
+    let e : b == 34 ≡ false = grind (arith, nat_tests) in
+    let f : b == 92 ≡ false = grind (arith, nat_tests) in
+    let g : nat_le 32 b ≡ true = grind (arith, nat_tests) in
+    rw (e, f, g) refl
+
+pub name_byte : (b : ℕ) → is_name_byte b ≡ true → (32 ≤ b) × (b < 128) × (b ≢ 34) × (b ≢ 92)
+name_byte b is = (grind (arith, nat_tests), grind (arith, nat_tests), grind (arith, nat_tests), grind (arith, nat_tests))
+
+escaped_name : (name : Text) → are_name_bytes name ≡ true → escaped name ≡ name
+escaped_name [] is = refl
+escaped_name (b ∷ bs) is =
+    let parts = and_parts (is_name_byte b) (are_name_bytes bs) is in
+    let (low, high, not_quote, not_solidus) = name_byte b parts.0 in
+    ap (λ (z : Text). z ++ escaped bs) (escape_plain b low not_quote not_solidus) ∙ ap (λ (z : Text). b ∷ z) (escaped_name bs parts.1)
+
+-- a field, after its name
+pub field_splits : (later : Bool) (name value : Text) → is_name name ≡ true
+    → comma_if later ++ (quoted name ++ 58 ∷ value) ≡ (comma_if later ++ (34 ∷ (name ++ 34 ∷ 58 ∷ []))) ++ value
+field_splits later name value is =
+    ap (λ (z : Text). comma_if later ++ ((34 ∷ (z ++ 34 ∷ [])) ++ 58 ∷ value)) (escaped_name name (and_parts (nat_le _ 24) (are_name_bytes name) is).1)
+    ∙ simp append_assoc
+
+-- ---- fields and what comes after them
+
+ends_later : Bool → List Field → Bool
+ends_later later [] = later
+ends_later later (field ∷ fields) = true
+
+ends_true : (fields : List Field) → ends_later true fields ≡ true
+unfolding ends_later
+ends_true [] = refl
+ends_true (field ∷ fields) = refl
+
+members_fields : (later : Bool) (fields : List Field) (more : JsonMembers)
+    → members_text later (with_members (map named fields) more) ≡ fields_text later fields ++ members_text (ends_later later fields) more
+unfolding ends_later
+members_fields later [] more = refl
+members_fields later (field ∷ fields) more =
+    ap (λ (z : Text). comma_if later ++ (quoted field.name.now ++ 58 ∷ (compact (value_json field.value) ++ z)))
+    (members_fields true fields more ∙ ap (λ (b : Bool). fields_text true fields ++ members_text b more) (ends_true fields))
+    ∙ simp append_assoc
+
+members_all : (fields : List Field) → members_text false (with_members (map named fields) no_members) ≡ fields_text false fields
+members_all fields = members_fields false fields no_members ∙ append-nil (fields_text false fields)
+
+pub object_splits : (fields : List Field) → json_line (row_json fields) ≡ codes "{" ++ (fields_text false fields ++ codes "}\n")
+object_splits fields = ap (λ (z : Text). (123 ∷ (z ++ 125 ∷ [])) ++ 10 ∷ []) (members_all fields) ∙ simp append_assoc
+
+-- ---- the rows of an answer
+
+rows_member : Bool → Text
+rows_member later = comma_if later ++ codes "\"rows\":["
+
+lead_is : (head : List Field) → rows_member (ends_later false head) ≡ rows_lead head
+unfolding ends_later rows_member
+lead_is [] = refl
+lead_is (field ∷ fields) = refl
+
+rows_text : (later : Bool) (rows : JsonItems) → members_text later (member (codes "rows") (array rows) no_members) ≡ rows_member later ++ (items_text false rows ++ codes "]")
+unfolding rows_member
+rows_text later rows = simp (append_assoc, append-nil)
+
+pub report_splits : (head : List Field) (rows : JsonItems)
+    → json_line (report_json head rows) ≡ (codes "{" ++ (fields_text false head ++ rows_lead head)) ++ (items_text false rows ++ codes "]}\n")
+report_splits head rows =
+    ap (λ (z : Text). (123 ∷ (z ++ 125 ∷ [])) ++ 10 ∷ [])
+    (members_fields false head (member (codes "rows") (array rows) no_members) ∙ ap (λ (z : Text). fields_text false head ++ z)
+    (rows_text (ends_later false head) rows ∙ ap (λ (z : Text). z ++ (items_text false rows ++ codes "]")) (lead_is head)))
+    ∙ simp append_assoc
+
+row_splits : (later : Bool) (fields : List Field) → comma_if later ++ compact (row_json fields) ≡ row_lead later ++ (fields_text false fields ++ codes "}")
+row_splits true fields = ap (λ (z : Text). 44 ∷ 123 ∷ (z ++ 125 ∷ [])) (members_all fields)
+row_splits false fields = ap (λ (z : Text). 123 ∷ (z ++ 125 ∷ [])) (members_all fields)
+
+regroup : (a b c d : Text) → (a ++ (b ++ c)) ++ d ≡ (a ++ b) ++ (c ++ d)
+regroup a b c d = simp append_assoc
+
+pub next_row : (later : Bool) (fields : List Field) (rows : JsonItems) (end : Text)
+    → items_text later (item (row_json fields) rows) ++ end ≡ (row_lead later ++ (fields_text false fields ++ codes "}")) ++ (items_text true rows ++ end)
+next_row later fields rows end =
+    regroup (comma_if later) (compact (row_json fields)) (items_text true rows) end
+    ∙ ap (λ (z : Text). z ++ (items_text true rows ++ end)) (row_splits later fields)
+
+-- how many rows
+abbrev pub count_items : JsonItems → ℕ
+count_items no_items = zero
+count_items (item value items) = suc (count_items items)

@@ -1,0 +1,74 @@
+-- The text that is written of a JSON value: without white space, and with the shortest escapes (this project's own, by RFC 8259).
+use Rattle.std.specs.Prelude.{ℕ, ◌^◌, ◌<◌, nat_abs, Bool, true, false, if◌then◌else◌, ◌==◌, nat_le, [], ◌∷◌, ◌++◌, flat_map, codes}
+use Rattle.std.specs.Fmt.{signed_decimal}
+use Rattle.std.specs.Str.{IsUtf8}
+use Rattle.ga_text.specs.Lines.{Text}
+use Rattle.ga_text.specs.Digits.{hex2_of}
+use Rattle.ga_json.specs.Values.{JsonValue, null, boolean, number, string, array, object, JsonItems, no_items, item, JsonMembers, no_members, member}
+
+-- a control character: by its letter, or by its four digits
+abbrev pub control_text : ℕ → Text
+control_text b =
+    if b == 8 then codes "\\b"
+    else if b == 9 then codes "\\t"
+    else if b == 10 then codes "\\n"
+    else if b == 12 then codes "\\f"
+    else if b == 13 then codes "\\r"
+    else codes "\\u00" ++ hex2_of b
+
+-- a byte of a string
+abbrev pub escape_text : ℕ → Text
+escape_text b =
+    if b == 34 then 92 ∷ 34 ∷ []
+    else if b == 92 then 92 ∷ 92 ∷ []
+    else if nat_le 32 b then b ∷ []
+    else control_text b
+
+abbrev pub escaped : Text → Text
+escaped bytes = flat_map escape_text bytes
+
+abbrev pub quoted : Text → Text
+quoted bytes = 34 ∷ (escaped bytes ++ 34 ∷ [])
+
+-- a comma, where something is before
+abbrev pub comma_if : Bool → Text
+comma_if later = if later then 44 ∷ [] else []
+
+abbrev mutual
+  pub compact : JsonValue → Text
+  compact null = codes "null"
+  compact (boolean b) = if b then codes "true" else codes "false"
+  compact (number z) = signed_decimal z
+  compact (string bytes) = quoted bytes
+  compact (array items) = 91 ∷ (items_text false items ++ 93 ∷ [])
+  compact (object members) = 123 ∷ (members_text false members ++ 125 ∷ [])
+
+  pub items_text : Bool → JsonItems → Text
+  items_text later no_items = []
+  items_text later (item value items) = comma_if later ++ (compact value ++ items_text true items)
+
+  pub members_text : Bool → JsonMembers → Text
+  members_text later no_members = []
+  members_text later (member name value members) = comma_if later ++ (quoted name ++ 58 ∷ (compact value ++ members_text true members))
+
+-- a line of JSON Lines: a value and a line feed
+abbrev pub json_line : JsonValue → Text
+json_line value = compact value ++ codes "\n"
+
+-- the integers have 64 bits, and the texts are UTF-8
+abbrev mutual
+  pub IsWritable : JsonValue → Type 0
+  IsWritable null = Unit {0}
+  IsWritable (boolean b) = Unit {0}
+  IsWritable (number z) = nat_abs z < 2 ^ 64
+  IsWritable (string bytes) = IsUtf8 bytes
+  IsWritable (array items) = AreWritableItems items
+  IsWritable (object members) = AreWritableMembers members
+
+  pub AreWritableItems : JsonItems → Type 0
+  AreWritableItems no_items = Unit {0}
+  AreWritableItems (item value items) = IsWritable value × AreWritableItems items
+
+  pub AreWritableMembers : JsonMembers → Type 0
+  AreWritableMembers no_members = Unit {0}
+  AreWritableMembers (member name value members) = IsUtf8 name × IsWritable value × AreWritableMembers members

@@ -1,0 +1,31 @@
+-- Fields, rows and answers as JSON values (this project's own).
+use Rattle.std.specs.Prelude.{List, [], ◌∷◌, map, codes}
+use Rattle.ga_text.specs.Lines.{Text}
+use Rattle.ga_json.specs.Values.{JsonValue, array, object, JsonItems, no_items, item, JsonMembers, no_members, member}
+use Rattle.ga_json.specs.FieldValues.{value_json}
+use Rattle.ga_json.specs.declared.field.Field.{Field}
+
+-- a name with its value
+abbrev pub NamedValue : Type 0
+NamedValue = Text × JsonValue
+
+abbrev pub named : Field → NamedValue
+named field = (field.name.now, value_json field.value)
+
+-- these as members, and more after them
+abbrev pub with_members : List NamedValue → JsonMembers → JsonMembers
+with_members [] more = more
+with_members (first ∷ rest) more = member first.0 first.1 (with_members rest more)
+
+abbrev pub json_object : List NamedValue → JsonValue
+json_object fields = object (with_members fields no_members)
+
+-- an answer with rows: its head, and the rows as an array
+abbrev pub json_report : List NamedValue → JsonItems → JsonValue
+json_report head rows = object (with_members head (member (codes "rows") (array rows) no_members))
+
+abbrev pub row_json : List Field → JsonValue
+row_json fields = json_object (map named fields)
+
+abbrev pub report_json : List Field → JsonItems → JsonValue
+report_json head rows = json_report (map named head) rows

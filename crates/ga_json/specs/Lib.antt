@@ -1,0 +1,7 @@
+pub mod Compact
+pub mod FieldValues
+pub mod Fields
+pub mod Grammar
+pub mod Names
+pub mod Values
+pub mod inner

@@ -1,0 +1,13 @@
+//! Answers as JSON: named fields, and the writer of one object for each answer.
+#![tactic(auto)]
+
+mod cursor;
+mod field;
+mod fields;
+pub mod laws;
+mod report;
+mod strings;
+
+pub use cursor::Cursor;
+pub use field::{Field, FieldValue, MAX_FIELDS, RowFields, row_fields};
+pub use report::{write_object, write_report};
