@@ -1,7 +1,7 @@
 -- Fields, rows and answers as JSON values (this project's own).
 use Rattle.std.specs.Prelude.{List, [], ◌∷◌, map, codes}
 use Rattle.ga_text.specs.Lines.{Text}
-use Rattle.ga_json.specs.Values.{JsonValue, array, object, JsonItems, no_items, item, JsonMembers, no_members, member}
+use Rattle.ga_json.specs.Values.{JsonValue, array, object, JsonItems, JsonMembers, no_members, member}
 use Rattle.ga_json.specs.FieldValues.{value_json}
 use Rattle.ga_json.specs.declared.field.Field.{Field}
 
