@@ -130,7 +130,7 @@ def wrong_inputs(room):
     }
     # conditions that are no text; null is none
     others = [5, True, ["1"], {}, None]
-    kinds = {"condition": ["condition: a register or [HH], then = != < <= > or >=, then a number"] * 4, "hitCondition": ["hitCondition: N, >= N or % N, from 1 on"] * 4}
+    kinds = {"condition": ["condition: a register or [HH], then = != < <= > or >=, then a number, port or label"] * 4, "hitCondition": ["hitCondition: N, >= N or % N, from 1 on"] * 4}
     runs = stands + request(4, "continue", threadId=1000)
     found = {
         "nothing": (b"", 0, []),

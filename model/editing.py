@@ -176,7 +176,8 @@ class Session:
         for asked in self.arguments.get("breakpoints", []):
             self.ids += 1
             found, more = place(asked) or (None, {})
-            test, fault = asked_with(asked, len(self.points)) if found else (None, why)
+            label = lambda text: self.notes.address(found["node"], text)
+            test, fault = asked_with(asked, len(self.points), label) if found else (None, why)
             told.append({"id": self.ids} | ({"message": fault, "verified": False} if fault else {"verified": True} | more))
             self.points += [] if fault else [found | test | {"id": self.ids, "set": kind}]
         self.respond({"breakpoints": told})

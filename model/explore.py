@@ -2,6 +2,7 @@
 
 import re
 
+from conditions import SIGN, SIGNS, number_in, test_in
 from listing import NAMES
 from machine import Machine, NODES, name
 from node import FETCH_DUE, Node, SIDES, neighbour, target_of
@@ -15,8 +16,8 @@ MOST = (1 << 32) - 1
 LONGEST = 200
 STORES = {"0c": ("!p", "p"), "0d": ("!+", "a"), "0e": ("!b", "b"), "0f": ("!", "a")}
 CONDITION = re.compile(
-    rf"pass {NODE} {NODE} (?:= {W}|{NUMBER})|step {NODE} {NUMBER}|stop|stop {NODE}|wait {NODE}|mem {NODE} {HH} = {W}|p {NODE} {PLACE}"
-    rf"|reach {NODE} {PLACE}|change {NODE} {HH}(?: = {W})?"
+    rf"pass {NODE} {NODE} (?:{SIGN} (?P<passed>.+)|{NUMBER})|step {NODE} {NUMBER}|stop|stop {NODE}|wait {NODE}|mem (?P<of>{NODE}) {HH} = (?P<held>.+)|p {NODE} {PLACE}"
+    rf"|reach {NODE} {PLACE}|change (?P<in>{NODE}) {HH}(?: = (?P<stored>.+))?|(?P<node>{NODE}) (?P<test>.+)", re.DOTALL
 )
 MOST_CONDITIONS = 8
 RUN = re.compile(rf"run(?: (greedy|random ({NUMBER})))?(?: ({NUMBER}))?(?: until (.+))?")
@@ -133,7 +134,29 @@ class Explorer(Machine):
 
     def is_condition(self, text):
         kind, *words = text.split(" ")
-        return bool(CONDITION.fullmatch(text)) and (kind not in ("p", "reach") or self.address(*words) is not None)
+        said = CONDITION.fullmatch(text)
+        if said and said["test"] is not None:
+            return self.test(said["node"], said["test"])[0] is not None
+        if said and said["passed"] is not None:
+            return self.is_word(None, said["passed"])
+        for node, word in (("of", "held"), ("in", "stored")):
+            if said and said[word] is not None:
+                return self.is_word(said[node], said[word])
+        return bool(said) and (kind not in ("p", "reach") or self.address(*words) is not None)
+
+    def label(self, node):
+        """The addresses of a node's labels."""
+        return lambda text: node and self.notes.address(number_of(node), text)
+
+    def number(self, node, text):
+        return number_in(text, self.label(node))
+
+    def is_word(self, node, text):
+        number = self.number(node, text)
+        return number is not None and number < 1 << 18
+
+    def test(self, node, text):
+        return test_in(text, self.label(node))
 
     @staticmethod
     def written(conditions):
@@ -143,10 +166,11 @@ class Explorer(Machine):
     @command(
         "run [greedy|random SEED] [N] [until COND]",
         "make up to N events, in rounds or in this order\n"
-        "COND: pass NNN MMM = W, pass NNN MMM J, step NNN K, stop, stop NNN, wait NNN,\n"
-        "      mem NNN HH = W, p NNN X, reach NNN X, change NNN HH [= W], COND or COND\n"
-        "X: an address, a label, line N",
-        "reached M EVENT, made M, quiet M or full M: how many events, and why no more", "run 1000 until stop or reach 001 000012", 230,
+        "COND: NNN VALUE OP N, pass NNN MMM OP N, pass NNN MMM J, step NNN K, stop, stop NNN,\n"
+        "      wait NNN, mem NNN HH = N, p NNN X, reach NNN X, change NNN HH [= N], COND or COND\n"
+        "VALUE: t s r p a b i, d2 to d9, r1 to r8, io, slot, carry, step, [HH]\n"
+        "OP: = != < <= > >=   N: a number, a port, a label   X: an address, a label, line N",
+        "reached M EVENT, made M, quiet M or full M: how many events, and why no more", "run 1000 until stop or 001 t = 0x150", 230,
     )  # fmt: skip
     def run(self, order, seed, most, conditions):
         turn, state = 0, seed
@@ -183,15 +207,19 @@ class Explorer(Machine):
         if kind == "pass" and len(words) == 3:
             return len(self.sent(*map(number_of, words[:2]))) == int(words[2])
         if kind == "pass":
-            return event[5] == words[3].lower()
+            return SIGNS[words[2]](int(event[5], 16), self.number(None, words[3]))
         if kind == "step":
             ends = [event[:2]] if own else [event[1:3], event[3:5]]
             return words in ends
         if kind in ("stop", "wait"):
             return own and event[2] == kind and (not words or event[0] == words[0])
+        if re.fullmatch(NODE, kind):
+            node = number_of(kind)
+            return self.test(kind, " ".join(words))[0](self.chip[node], self.steps[node])
         node = number_of(words[0])
+        asked = self.number(words[0], " ".join(words[3:])) if kind in ("mem", "change") and words[3:] else None
         if kind == "mem":
-            return self.mem(node, int(words[1], 16)).split(" ")[3] == words[3].lower()
+            return int(self.mem(node, int(words[1], 16)).split(" ")[3], 16) == asked
         if kind == "p":
             return self.chip[node].p == self.address(*words)
         if words[0] not in ([event[0]] if own else event[1:4:2]):
@@ -199,7 +227,7 @@ class Explorer(Machine):
         if kind == "reach":
             it = self.chip[node]
             return not it.wait and not it.stop and it.slot == FETCH_DUE and it.p == self.address(*words)
-        return self.wrote(before[node], told, int(words[1], 16)) and [it.lower() for it in words[3:]] in ([], [self.mem(node, int(words[1], 16)).split(" ")[3]])
+        return self.wrote(before[node], told, int(words[1], 16)) and asked in (None, int(self.mem(node, int(words[1], 16)).split(" ")[3], 16))
 
     @staticmethod
     def wrote(before, told, address):

@@ -12,6 +12,7 @@ import subprocess
 import sys
 from itertools import zip_longest
 
+from conditions import generated_test, value_of
 from explore import FORMS, NODE, OFTEN, ROWS, STORES, Explorer, number_of
 from files import answer, load_of
 from machine import name
@@ -130,7 +131,8 @@ class Session:
         if words[0] == "pass":
             _, writer, _, reader, its, word = words
             number = len(machine.sent(number_of(writer), number_of(reader)))
-            return [f"pass {writer} {reader} = {word.upper()}", f"pass {writer} {reader} {number}", f"step {reader} {its}"]
+            compared = f"pass {writer} {reader} {pick(('<=', '>', '!=', '=='))} {pick((word, str(int(word, 16)), 'right'))}"
+            return [f"pass {writer} {reader} = {word.upper()}", compared, f"pass {writer} {reader} {number}", f"step {reader} {its}"]
         held = machine.chip[number_of(words[0])]
         ended = ["stop", f"{words[2]} {words[0]}"] if words[2] in ("wait", "stop") else []
         ended += [f"{kind} {words[0]} {label}" for kind in ("p", "reach") for label, address in self.places(held.number) if address == held.p]
@@ -141,6 +143,8 @@ class Session:
             store = machine.chip[number_of(node)]
             cell = pick([at for at in range(64) if store.ram[at] != self.machine.chip[number_of(node)].ram[at]] or [0x22])
             ended += [f"change {node} {cell:02x}", f"change {node} {cell + 0x40:02x} = {store.ram[cell]:06X}"]
+        value = pick(("t", "s", "r", "a", "p", "slot", "carry", "d4", "r1", "[22]", "step"))
+        ended += [f"{words[0]} {generated_test(self.random, value, value_of(held, int(words[1]), value))}"] * 3
         return [f"step {words[0]} {words[1]}", f"p {words[0]} {held.p:06x}", f"mem {words[0]} 22 = {held.ram[0x22]:06x}"] + ended
 
     def conditions(self, order):
@@ -158,7 +162,8 @@ class Session:
             f"{passing} = {self.word():06X}", f"{passing} {len(self.machine.sent(writer, reader)) + pick((0, 1, 2))}", "stop", f"stop {name(node)}",
             f"wait {name(node)}", f"mem {name(node)} {self.address():02x} = {self.word():06X}",
             f"{pick(('p', 'reach'))} {name(node)} {pick([f'{self.random.randrange(12):06x}', *(place for place, _ in self.places(node)), f'line {self.random.randrange(20)}'])}",
-            f"change {name(node)} {self.address():02x}" + pick(("", f" = {self.word():06X}")),
+            f"change {name(node)} {self.address():02x}" + pick(("", f" = {self.word():06X}", f" = {self.word()}")), f"{name(node)} {generated_test(self.random)}",
+            f"{passing} {generated_test(self.random, 't')[2:]}",
         ))  # fmt: skip
 
     def run(self):

@@ -17,5 +17,5 @@ pub use faults::{
     report_unrepresented,
 };
 pub use line::Lines;
-pub use notes::{CellSource, DebugInfo, LabelAddress};
+pub use notes::{CellSource, DebugInfo, LabelAddress, label_address};
 pub use wording::{DisplayedWord, SlotWord};

@@ -151,11 +151,7 @@ impl DebugInfo {
     pub fn address_of(&self, node: NodeId, text: &[u8]) -> Option<u32>
         ensures { result ≡ address_of self.now.names.items node text.now }
     {
-        let place = name_place(self.names.as_slice(), node, text)?;
-        match self.names.get(place) {
-            Some(name) => Some(name.address),
-            None => None,
-        }
+        label_address(self.names.as_slice(), node, text)
     }
 }
 
@@ -199,6 +195,17 @@ fn name_place(names: &[LabelAddress], node: NodeId, text: &[u8]) -> Option<usize
     ensures { result ≡ position (is_node_name node text.now) names.now }
 {
     names.iter().position(|name| is_named(name, node, text))
+}
+
+/// The address of a label of a node, of the labels of all nodes.
+pub fn label_address(names: &[LabelAddress], node: NodeId, text: &[u8]) -> Option<u32>
+    ensures { result ≡ address_of names.now node text.now }
+{
+    let place = name_place(names, node, text)?;
+    match names.get(place) {
+        Some(name) => Some(name.address),
+        None => None,
+    }
 }
 
 /// The slot whose word is shown: for a fetch, which has slot 4, the first.

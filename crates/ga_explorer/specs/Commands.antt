@@ -22,7 +22,8 @@ use Rattle.ga_explorer_text.specs.Around.{around_text}
 use Rattle.ga_explorer_text.specs.Trees.{TellsWhence}
 use Rattle.ga_explorer_text.specs.Because.{because_text}
 use Rattle.ga_explorer_text.specs.Races.{TellsRaces}
-use Rattle.ga_explorer.specs.Reading.{step_meant, run_in, back_in, most_events, no_condition, node_and_step, two_nodes, node_and_cell, node_and_steps}
+use Rattle.ga_explorer.specs.Reading.{step_meant, run_in, back_in, most_events, node_and_step, two_nodes, node_and_cell, node_and_steps}
+use Rattle.ga_conditions.specs.Conditions.{no_condition}
 use Rattle.ga_explorer.specs.Forms.{CommandForm, entry, place_from, form_rows_text, about_found}
 use Rattle.ga_explorer.specs.Opening.{ExplorerState}
 use Rattle.ga_explorer.specs.declared.commands.ExplorerCommand.{ExplorerCommand}
@@ -35,7 +36,7 @@ use Rattle.ga_explorer.specs.declared.commands.Query.TheVariants as told
 -- the commands of exploring and those of the debugger, in the order of `help`
 unfoldable pub command_table : List CommandForm
 command_table =
-    entry (codes "run") (codes "run [greedy|random SEED] [N] [until COND]") (codes "\n                      make up to N events, in rounds or in this order\nCOND: pass NNN MMM = W, pass NNN MMM J, step NNN K, stop, stop NNN, wait NNN,\n      mem NNN HH = W, p NNN X, reach NNN X, change NNN HH [= W], COND or COND\nX: an address, a label, line N\n") (codes "answers: reached M EVENT, made M, quiet M or full M: how many events, and why no more\nexample: run 1000 until stop or reach 001 000012\n")
+    entry (codes "run") (codes "run [greedy|random SEED] [N] [until COND]") (codes "\n                      make up to N events, in rounds or in this order\nCOND: NNN VALUE OP N, pass NNN MMM OP N, pass NNN MMM J, step NNN K, stop, stop NNN,\n      wait NNN, mem NNN HH = N, p NNN X, reach NNN X, change NNN HH [= N], COND or COND\nVALUE: t s r p a b i, d2 to d9, r1 to r8, io, slot, carry, step, [HH]\nOP: = != < <= > >=   N: a number, a port, a label   X: an address, a label, line N\n") (codes "answers: reached M EVENT, made M, quiet M or full M: how many events, and why no more\nexample: run 1000 until stop or 001 t = 0x150\n")
     ∷ entry (codes "chip") (codes "chip") (codes "                  what each node does\n") (codes "answers: rows 7 to 0 of nodes: . made no step, * runs, x stopped, @ waits for code, ? reads, ! writes\nexample: chip\n")
     ∷ entry (codes "who") (codes "who") (codes "                   who waits for whom, and which nodes can never go on\n") (codes "answers: for each that waits what it does, and the nodes that it awaits; then stuck, ring and idle\nexample: who\n")
     ∷ entry (codes "effects") (codes "effects NNN K") (codes "         what rewind NNN K would take\n") (codes "answers: effects X N, and for each of N nodes its first step that would go, and how many would\nexample: effects 001 last\n")

@@ -6,10 +6,10 @@ ghost use Rattle.ga_explorer.specs.inner.{explorer_state, IsTold, entry_of};
 
 use crate::arguments::{node_and_cell, node_and_step, node_and_steps, two_nodes};
 use crate::back_request::parse_back;
-use crate::conditions_request::{Conditions, no_condition};
 use crate::forms::{Row, place_of, say_command, say_help};
 use crate::run_request::{MOST_EVENTS, parse_run};
 use crate::which::StepSelector;
+use ga_conditions::{Conditions, no_condition};
 use ga_debug_info::DebugInfo;
 use ga_explorer_text::{
     chip_overview, write_at, write_because, write_effects, write_races, write_save, write_whence,
@@ -231,8 +231,8 @@ static ROWS: &[Row] = &[
     Row {
         name: b"run",
         form: b"run [greedy|random SEED] [N] [until COND]",
-        does: b"\n                      make up to N events, in rounds or in this order\nCOND: pass NNN MMM = W, pass NNN MMM J, step NNN K, stop, stop NNN, wait NNN,\n      mem NNN HH = W, p NNN X, reach NNN X, change NNN HH [= W], COND or COND\nX: an address, a label, line N\n",
-        more: b"answers: reached M EVENT, made M, quiet M or full M: how many events, and why no more\nexample: run 1000 until stop or reach 001 000012\n",
+        does: b"\n                      make up to N events, in rounds or in this order\nCOND: NNN VALUE OP N, pass NNN MMM OP N, pass NNN MMM J, step NNN K, stop, stop NNN,\n      wait NNN, mem NNN HH = N, p NNN X, reach NNN X, change NNN HH [= N], COND or COND\nVALUE: t s r p a b i, d2 to d9, r1 to r8, io, slot, carry, step, [HH]\nOP: = != < <= > >=   N: a number, a port, a label   X: an address, a label, line N\n",
+        more: b"answers: reached M EVENT, made M, quiet M or full M: how many events, and why no more\nexample: run 1000 until stop or 001 t = 0x150\n",
         usage: "",
     },
     Row {

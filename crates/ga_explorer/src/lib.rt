@@ -5,8 +5,6 @@ mod arguments;
 mod back_request;
 mod beginning;
 mod commands;
-mod condition_request;
-mod conditions_request;
 mod explorer;
 mod forms;
 pub mod laws;

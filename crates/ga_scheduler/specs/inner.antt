@@ -6,7 +6,7 @@ use Rattle.ga_event.specs.Told.{made_in}
 use Rattle.ga_event.specs.declared.made.Made.{Made}
 use Rattle.ga_lab.specs.Machine.{State, outcomes_of_kept, earlier}
 use Rattle.ga_scheduler.specs.declared.condition.Condition.{Condition}
-use Rattle.ga_scheduler.specs.declared.condition.Condition.TheVariants.{Holds, ComesTo, Reaches, Writes, PassesNumber, Passes, Steps, Stops, StopsAt, WaitsAt, Never}
+use Rattle.ga_scheduler.specs.declared.condition.Condition.TheVariants.{Holds, Reaches, Writes, PassesNumber, Passes, Steps, Stops, StopsAt, WaitsAt, Never}
 use Rattle.ga_scheduler.specs.Conditions.{holds, is_pass, is_step, is_own, is_own_at, is_stop, is_wait}
 use Rattle.ga_scheduler.specs.Backward.{is_among}
 use Rattle.std.specs.List.{slice_get}
@@ -30,8 +30,7 @@ use Rattle.ga_scheduler.specs.Running.{Running, next_made, run_moved, held_next,
 
 -- the node whose registers or memory a condition asks for, and node 000 where it asks for none
 abbrev pub asked_node : Condition → NodeId
-asked_node (Holds node address word) = node
-asked_node (ComesTo node address) = node
+asked_node (Holds node test) = node
 asked_node (Reaches node address) = node
 asked_node (Writes node address word) = node
 asked_node other = node_id 0
@@ -93,7 +92,7 @@ WereCounted until s told words = (k : ℕ) (one : Condition) → slice_get until
 -- whether a condition holds by the event itself, given how many words of its link are in the history; what it requires of a
 -- node is not considered
 abbrev pub is_decided_by : Condition → Made → ℕ → Bool
-is_decided_by (Passes writer reader word) told words = is_pass writer.number reader.number word told
+is_decided_by (Passes writer reader comparison word) told words = is_pass writer.number reader.number comparison word told
 is_decided_by (PassesNumber writer reader number) told words = is_over writer.number reader.number told && (words == number)
 is_decided_by (Steps node step) told words = is_step node.number step told
 is_decided_by Stops told words = is_own is_stop told
@@ -161,14 +160,13 @@ lacks needs n (kind.Stop code) = false
 -- what a condition needs is among the needs
 abbrev pub Covers : Needs → Condition → Type 0
 Covers needs Never = Unit
-Covers needs (Passes writer reader word) = Unit
+Covers needs (Passes writer reader comparison word) = Unit
 Covers needs (PassesNumber writer reader number) = Unit
 Covers needs (Steps node step) = 256 ≤ needs.opcodes
 Covers needs Stops = Unit
 Covers needs (StopsAt node) = Unit
 Covers needs (WaitsAt node) = Unit
-Covers needs (Holds node address word) = 256 ≤ needs.opcodes
-Covers needs (ComesTo node address) = 256 ≤ needs.opcodes
+Covers needs (Holds node test) = 256 ≤ needs.opcodes
 Covers needs (Reaches node address) = needs.slot ≡ 4
 Covers needs (Writes node address word) = 4 ≤ needs.opcodes
 

@@ -7,7 +7,7 @@ use Rattle.std.proofs.lemmas.Grind.{take-set_at}
 use Rattle.ga_debug_info.specs.declared.notes.DebugInfo.{DebugInfo}
 use Rattle.ga_scheduler.specs.declared.condition.Condition.{Condition}
 use Rattle.ga_scheduler.specs.declared.condition.Condition.TheVariants.{Never}
-use Rattle.ga_explorer.specs.Reading.{behind_or, cut_here, or_cut, or_split, condition_in, with_front, with_first, others_by, conditions_by, conditions_within}
+use Rattle.ga_conditions.specs.Conditions.{behind_or, cut_here, or_cut, or_split, condition_in, with_front, with_first, others_by, conditions_by, conditions_within}
 use Rattle.ga_text.specs.Parsing.{in_front}
 
 pub at_or : (text : List ℕ) (i : ℕ) (rest : List ℕ) → i < length text → ((k : ℕ) → k < i → behind_or (drop k text) ≡ None) → behind_or (drop i text) ≡ Some rest

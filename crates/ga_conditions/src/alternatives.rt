@@ -1,19 +1,18 @@
-//! Some conditions with `or` between them, as lines spell them.
+//! Some conditions with `or` between them, as text.
 
 ghost use Rattle.std.specs.Prelude.{◌≡◌, ◌≤◌, length, drop, if◌then◌else◌, IsTrue, Some, None, option_map};
-ghost use Rattle.ga_explorer.specs.Reading.{behind_or, or_cut, or_split, conditions_in, no_condition, until_in};
+ghost use Rattle.ga_conditions.specs.Conditions.{behind_or, or_cut, or_split, conditions_in, no_condition, until_in};
 
-use crate::condition_request::parse_run_condition;
+use crate::condition::parse_run_condition;
 use ga_debug_info::DebugInfo;
 use ga_scheduler::{Condition, MAX_CONDITIONS};
 use ga_text::split_at_space;
 
-/// As many conditions as a run watches at most. Those that are given come first, and in the places that are left stand those that hold
-/// never.
-pub(crate) type Conditions = [Condition; MAX_CONDITIONS];
+/// As many conditions as a run watches at most: the given ones, and then ones that never hold.
+pub type Conditions = [Condition; MAX_CONDITIONS];
 
 /// The conditions where none is given: each holds never.
-pub(crate) fn no_condition() -> Conditions
+pub fn no_condition() -> Conditions
     ensures size { length result ≡ 8 }
     ensures value { result ≡ no_condition }
 {
@@ -21,7 +20,7 @@ pub(crate) fn no_condition() -> Conditions
 }
 
 /// Whether a text begins with ` or `.
-#[tactic(auto, unfolding(crate::specs::Reading::behind_or))]
+#[tactic(auto, unfolding(crate::specs::Conditions::behind_or))]
 fn begins_or(text: &[u8]) -> bool
     ensures rest { behind_or text.now ≡ (if result then Some (drop 4 text.now) else None) }
     ensures long { IsTrue result → 4 ≤ length text.now }
@@ -57,7 +56,7 @@ fn or_split(text: &[u8]) -> (&[u8], Option<&[u8]>)
 }
 
 /// The conditions of a text, at most as many as a run watches; or none.
-pub(crate) fn parse_conditions(notes: &Option<DebugInfo>, text: &[u8]) -> Option<Conditions>
+pub fn parse_conditions(notes: &Option<DebugInfo>, text: &[u8]) -> Option<Conditions>
     ensures { result ≡ conditions_in notes.now text.now }
 {
     let mut conditions = no_condition();
@@ -74,8 +73,8 @@ pub(crate) fn parse_conditions(notes: &Option<DebugInfo>, text: &[u8]) -> Option
 }
 
 /// `until` and the conditions that follow it.
-#[tactic(auto, unfolding(crate::specs::Reading::until_in))]
-pub(crate) fn parse_until(notes: &Option<DebugInfo>, text: &[u8]) -> Option<Conditions>
+#[tactic(auto, unfolding(crate::specs::Conditions::until_in))]
+pub fn parse_until(notes: &Option<DebugInfo>, text: &[u8]) -> Option<Conditions>
     ensures { result ≡ until_in notes.now text.now }
 {
     let (name, rest) = split_at_space(text)?;

@@ -1,11 +1,13 @@
-//! Conditions, as lines spell them.
+//! One condition of a run or of a search back, as text.
 
 ghost use Rattle.std.specs.Prelude.{◌≡◌};
-ghost use Rattle.ga_explorer.specs.Reading.{condition_in, lone_condition, named_condition, steps_condition, passes_in, passed_in, holds_in, node_and_place, writes_to_in, written_in, address_or_label, noted_in, cell_of_line, begun_in, label_in, equal_in, hex_word_in};
+ghost use Rattle.ga_conditions.specs.Conditions.{condition_in, lone_condition, named_condition, tested_in, possible_test, steps_condition, passes_in, passed_in, compared_in, names_in, cell_holds_in, holds_in, node_and_place, comes_to, writes_to_in, written_in, address_or_label, noted_in, cell_of_line, begun_in, word_equal_in, word_in};
 
-use ga_debug_info::DebugInfo;
+use crate::numbers::{parse_hex_word, parse_operand};
+use crate::tests_of_values::{parse_comparison, parse_test};
+use ga_debug_info::{DebugInfo, LabelAddress, label_address};
 use ga_grid::NodeId;
-use ga_scheduler::Condition;
+use ga_scheduler::{Comparison, Condition, NodeValue, ValueTest};
 use ga_text::{parse_hex_byte, parse_node, parse_number, split_at_space};
 use ga_word::Word18;
 
@@ -19,7 +21,7 @@ pub(crate) fn parse_run_condition(notes: &Option<DebugInfo>, text: &[u8]) -> Opt
     }
 }
 
-#[tactic(auto, unfolding(crate::specs::Reading::lone_condition))]
+#[tactic(auto, unfolding(crate::specs::Conditions::lone_condition))]
 fn lone_condition(name: &[u8]) -> Option<Condition>
     ensures { result ≡ lone_condition name.now }
 {
@@ -29,7 +31,7 @@ fn lone_condition(name: &[u8]) -> Option<Condition>
     }
 }
 
-#[tactic(auto, unfolding(crate::specs::Reading::named_condition))]
+#[tactic(auto, unfolding(crate::specs::Conditions::named_condition))]
 fn named_condition(notes: &Option<DebugInfo>, name: &[u8], rest: &[u8]) -> Option<Condition>
     ensures { result ≡ named_condition notes.now name.now rest.now }
 {
@@ -42,22 +44,62 @@ fn named_condition(notes: &Option<DebugInfo>, name: &[u8], rest: &[u8]) -> Optio
     } else if name == b"pass".as_slice() {
         passes_of(rest)
     } else if name == b"mem".as_slice() {
-        holds_of(rest)
+        holds_of(notes, rest)
     } else if name == b"p".as_slice() {
         let (node, address) = node_and_place(notes, rest)?;
-        Some(Condition::ComesTo { node, address })
+        Some(comes_to(node, address))
     } else if name == b"reach".as_slice() {
         let (node, address) = node_and_place(notes, rest)?;
         Some(Condition::Reaches { node, address })
     } else if name == b"change".as_slice() {
-        changes_of(rest)
+        changes_of(notes, rest)
     } else {
-        None
+        tested(notes, parse_node(name)?, rest)
+    }
+}
+
+/// The labels of a program, where there is source.
+fn names(notes: &Option<DebugInfo>) -> &[LabelAddress]
+    ensures { result.now ≡ names_in notes.now }
+{
+    match notes {
+        Some(notes) => notes.names.as_slice(),
+        None => &[],
+    }
+}
+
+/// The test, if its number is a word or counts steps.
+fn possible(test: ValueTest) -> Option<ValueTest>
+    ensures { result ≡ possible_test test }
+{
+    if test.is_possible() { Some(test) } else { None }
+}
+
+/// `VALUE OP NUMBER` of a node
+#[tactic(auto, unfolding(crate::specs::Conditions::tested_in))]
+fn tested(notes: &Option<DebugInfo>, node: NodeId, text: &[u8]) -> Option<Condition>
+    ensures { result ≡ tested_in notes.now node text.now }
+{
+    let test = possible(parse_test(names(notes), node, text)?)?;
+    Some(Condition::Holds { node, test })
+}
+
+/// P of the node is this address.
+fn comes_to(node: NodeId, address: u32) -> Condition
+    ensures { result ≡ comes_to node address }
+{
+    Condition::Holds {
+        node,
+        test: ValueTest {
+            value: NodeValue::P,
+            comparison: Comparison::Equal,
+            number: address,
+        },
     }
 }
 
 /// `NNN K`
-#[tactic(auto, unfolding(crate::specs::Reading::steps_condition))]
+#[tactic(auto, unfolding(crate::specs::Conditions::steps_condition))]
 fn steps_of(text: &[u8]) -> Option<Condition>
     ensures { result ≡ steps_condition text.now }
 {
@@ -68,8 +110,8 @@ fn steps_of(text: &[u8]) -> Option<Condition>
     })
 }
 
-/// `NNN MMM = W` or `NNN MMM J`
-#[tactic(auto, unfolding(crate::specs::Reading::passes_in))]
+/// `NNN MMM OP NUMBER` or `NNN MMM J`
+#[tactic(auto, unfolding(crate::specs::Conditions::passes_in))]
 fn passes_of(text: &[u8]) -> Option<Condition>
     ensures { result ≡ passes_in text.now }
 {
@@ -78,16 +120,12 @@ fn passes_of(text: &[u8]) -> Option<Condition>
     passed_of(parse_node(writer)?, parse_node(reader)?, rest)
 }
 
-/// `= W` or `J`
+/// `OP NUMBER` or `J`
 fn passed_of(writer: NodeId, reader: NodeId, text: &[u8]) -> Option<Condition>
     ensures { result ≡ passed_in writer reader text.now }
 {
     match split_at_space(text) {
-        Some(_) => Some(Condition::Passes {
-            writer,
-            reader,
-            word: equal_of(text)?,
-        }),
+        Some((sign, word)) => compared(writer, reader, sign, word),
         None => Some(Condition::PassesNumber {
             writer,
             reader,
@@ -96,22 +134,41 @@ fn passed_of(writer: NodeId, reader: NodeId, text: &[u8]) -> Option<Condition>
     }
 }
 
-/// `NNN HH = W`
-#[tactic(auto, unfolding(crate::specs::Reading::holds_in))]
-fn holds_of(text: &[u8]) -> Option<Condition>
-    ensures { result ≡ holds_in text.now }
+/// `OP NUMBER` of a word that passes
+#[tactic(auto, unfolding(crate::specs::Conditions::compared_in))]
+fn compared(writer: NodeId, reader: NodeId, sign: &[u8], word: &[u8]) -> Option<Condition>
+    ensures { result ≡ compared_in writer reader sign.now word.now }
+{
+    Some(Condition::Passes {
+        writer,
+        reader,
+        comparison: parse_comparison(sign)?,
+        word: word_of(&[], reader, word)?,
+    })
+}
+
+/// `NNN HH = NUMBER`
+#[tactic(auto, unfolding(crate::specs::Conditions::holds_in))]
+fn holds_of(notes: &Option<DebugInfo>, text: &[u8]) -> Option<Condition>
+    ensures { result ≡ holds_in notes.now text.now }
 {
     let (node, rest) = split_at_space(text)?;
     let (address, rest) = split_at_space(rest)?;
+    let node = parse_node(node)?;
+    let address = parse_hex_byte(address)?;
+    let word = word_equal(names(notes), node, rest)?;
     Some(Condition::Holds {
-        node: parse_node(node)?,
-        address: parse_hex_byte(address)?,
-        word: equal_of(rest)?,
+        node,
+        test: ValueTest {
+            value: NodeValue::Cell(address),
+            comparison: Comparison::Equal,
+            number: word.get(),
+        },
     })
 }
 
 /// `NNN X`
-#[tactic(auto, unfolding(crate::specs::Reading::node_and_place))]
+#[tactic(auto, unfolding(crate::specs::Conditions::node_and_place))]
 fn node_and_place(notes: &Option<DebugInfo>, text: &[u8]) -> Option<(NodeId, u32)>
     ensures { result ≡ node_and_place notes.now text.now }
 {
@@ -121,23 +178,23 @@ fn node_and_place(notes: &Option<DebugInfo>, text: &[u8]) -> Option<(NodeId, u32
     Some((node, address))
 }
 
-/// `NNN HH` or `NNN HH = W`
-#[tactic(auto, unfolding(crate::specs::Reading::writes_to_in))]
-fn changes_of(text: &[u8]) -> Option<Condition>
-    ensures { result ≡ writes_to_in text.now }
+/// `NNN HH` or `NNN HH = NUMBER`
+#[tactic(auto, unfolding(crate::specs::Conditions::writes_to_in))]
+fn changes_of(notes: &Option<DebugInfo>, text: &[u8]) -> Option<Condition>
+    ensures { result ≡ writes_to_in notes.now text.now }
 {
     let (node, rest) = split_at_space(text)?;
-    written_of(parse_node(node)?, rest)
+    written_of(names(notes), parse_node(node)?, rest)
 }
 
-/// `HH` or `HH = W`
-fn written_of(node: NodeId, text: &[u8]) -> Option<Condition>
-    ensures { result ≡ written_in node text.now }
+/// `HH` or `HH = NUMBER`
+fn written_of(names: &[LabelAddress], node: NodeId, text: &[u8]) -> Option<Condition>
+    ensures { result ≡ written_in names.now node text.now }
 {
     match split_at_space(text) {
         Some((address, rest)) => {
             let address = parse_hex_byte(address)?;
-            let word = equal_of(rest)?;
+            let word = word_equal(names, node, rest)?;
             Some(Condition::Writes {
                 node,
                 address,
@@ -159,7 +216,7 @@ fn written_of(node: NodeId, text: &[u8]) -> Option<Condition>
 fn address_of(notes: &Option<DebugInfo>, node: NodeId, text: &[u8]) -> Option<u32>
     ensures { result ≡ address_or_label notes.now node text.now }
 {
-    match word_of(text) {
+    match parse_hex_word(text) {
         Some(word) => Some(word.get()),
         None => noted_of(notes, node, text),
     }
@@ -171,12 +228,12 @@ fn noted_of(notes: &Option<DebugInfo>, node: NodeId, text: &[u8]) -> Option<u32>
 {
     match split_at_space(text) {
         Some((name, line)) => line_of(notes, node, name, line),
-        None => label_of(notes, node, text),
+        None => label_address(names(notes), node, text),
     }
 }
 
 /// `line N`: the address of the first instruction word of the node that this line begins.
-#[tactic(auto, unfolding(crate::specs::Reading::cell_of_line))]
+#[tactic(auto, unfolding(crate::specs::Conditions::cell_of_line))]
 fn line_of(notes: &Option<DebugInfo>, node: NodeId, name: &[u8], line: &[u8]) -> Option<u32>
     ensures { result ≡ cell_of_line notes.now node name.now line.now }
 {
@@ -196,40 +253,21 @@ fn begun_by(notes: &Option<DebugInfo>, node: NodeId, line: u32) -> Option<u32>
     }
 }
 
-/// The address of a label.
-fn label_of(notes: &Option<DebugInfo>, node: NodeId, text: &[u8]) -> Option<u32>
-    ensures { result ≡ label_in notes.now node text.now }
+/// A number that is a word.
+fn word_of(names: &[LabelAddress], node: NodeId, text: &[u8]) -> Option<Word18>
+    ensures { result ≡ word_in names.now node text.now }
 {
-    match notes {
-        Some(notes) => notes.address_of(node, text),
-        None => None,
-    }
+    Word18::new(parse_operand(names, node, text)?)
 }
 
-/// `= W`
-#[tactic(auto, unfolding(crate::specs::Reading::equal_in))]
-fn equal_of(text: &[u8]) -> Option<Word18>
-    ensures { result ≡ equal_in text.now }
+/// `= NUMBER`
+#[tactic(auto, unfolding(crate::specs::Conditions::word_equal_in))]
+fn word_equal(names: &[LabelAddress], node: NodeId, text: &[u8]) -> Option<Word18>
+    ensures { result ≡ word_equal_in names.now node text.now }
 {
     let (sign, word) = split_at_space(text)?;
     match sign {
-        b"=" => word_of(word),
-        _ => None,
-    }
-}
-
-/// A word of six hexadecimal digits, in either case.
-#[tactic(auto, unfolding(crate::specs::Reading::hex_word_in))]
-fn word_of(text: &[u8]) -> Option<Word18>
-    ensures { result ≡ hex_word_in text.now }
-{
-    match text {
-        [a, b, c, d, e, f] => {
-            let high = parse_hex_byte(&[*a, *b])?;
-            let middle = parse_hex_byte(&[*c, *d])?;
-            let low = parse_hex_byte(&[*e, *f])?;
-            Word18::new(65536 * u32::from(high) + 256 * u32::from(middle) + u32::from(low))
-        }
+        b"=" => word_of(names, node, word),
         _ => None,
     }
 }

@@ -1,6 +1,6 @@
 use Rattle.std.proofs.Common.{◌≡◌, length}
-use Rattle.ga_explorer.proofs.Alternatives.{IsGiven, IsLeft}
-use Rattle.ga_explorer.proofs.conditions_request.parse_conditions.Given as goal
+use Rattle.ga_conditions.proofs.Alternatives.{IsGiven, IsLeft}
+use Rattle.ga_conditions.proofs.alternatives.parse_conditions.Given as goal
 
 abbrev pub invariant-loop-place : goal.invariant-loop-place
 invariant-loop-place l = record {

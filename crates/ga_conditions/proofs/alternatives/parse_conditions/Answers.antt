@@ -1,8 +1,8 @@
 use Rattle.std.proofs.Common.{◌≡◌, ◌∙◌, List, ℕ, Bor, Some, None, rules, length-set, sym, ap}
 use Rattle.std.specs.Prelude.{Option, option_map}
-use Rattle.ga_explorer.specs.Reading.{condition_in, or_split}
-use Rattle.ga_explorer.proofs.Alternatives.{given_more, left_more, all_given, none_given, too_many}
-use Rattle.ga_explorer.proofs.conditions_request.parse_conditions.Goals as goal
+use Rattle.ga_conditions.specs.Conditions.{condition_in, or_split}
+use Rattle.ga_conditions.proofs.Alternatives.{given_more, left_more, all_given, none_given, too_many}
+use Rattle.ga_conditions.proofs.alternatives.parse_conditions.Goals as goal
 
 pub returns-in_err-conditions : goal.returns-in_err-conditions
 returns-in_err-conditions c =
