@@ -90,6 +90,13 @@ def mixed(state):
     word = (word ^ word >> 27) * 0x94D049BB133111EB % (1 << 64)
     return word ^ word >> 31, state
 
+def next_node(machine, order, turn, state):
+    """The node, of those that have an event, that makes the next one: the first from the turn on, round the chip, or one that is drawn."""
+    if order == "random":
+        nodes = [it for it in range(NODES) if machine.next(it) is not None]
+        return nodes[mixed(state)[0] % len(nodes)] if nodes else None
+    return next((it % NODES for it in range(turn, turn + NODES) if machine.next(it % NODES) is not None), None)
+
 class Explorer(Machine):
     notes = Notes()
     # what to do where no further event is kept
@@ -175,12 +182,8 @@ class Explorer(Machine):
     def run(self, order, seed, most, conditions):
         turn, state = 0, seed
         written = self.written(conditions)
-        if order == "random":
-            word, state = mixed(state)
-            turn = word % NODES
         for made in range(most):
-            nodes = [(turn + at) % NODES for at in range(NODES)]
-            node = next((it for it in nodes if self.next(it) is not None), None)
+            node = next_node(self, order, turn, state)
             if node is None:
                 return f"quiet {made}"
             if len(self.events) == self.limit:
@@ -191,8 +194,7 @@ class Explorer(Machine):
             if held:
                 return f"reached {made + 1}{f' by {held}' if len(conditions) > 1 else ''} {told}"
             if order == "random":
-                word, state = mixed(state)
-                turn = word % NODES
+                state = mixed(state)[1]
             else:
                 turn = node if order == "greedy" else (node + 1) % NODES
         return f"made {most}"

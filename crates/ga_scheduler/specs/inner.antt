@@ -1,5 +1,5 @@
 -- What private contracts, invariants and bridges cite.
-use Rattle.std.specs.Prelude.{ℕ, zero, suc, ◌+◌, ◌&&◌, if◌then◌else◌, max, List, [], ◌∷◌, Bool, false, Option, Some, None, ◌≡◌, ◌-◌, length, slice_index, ◌/◌, ◌%◌, ◌==◌, ◌≢◌, ◌<◌, true, ◌⊎◌, ◌≤◌, nat_lt, not}
+use Rattle.std.specs.Prelude.{ℕ, zero, suc, ◌+◌, ◌&&◌, if◌then◌else◌, max, List, [], ◌∷◌, Bool, false, Option, Some, None, ◌≡◌, ◌-◌, length, slice_index, ◌/◌, ◌%◌, ◌==◌, ◌≢◌, ◌<◌, true, ◌⊎◌, ◌≤◌, nat_lt, not, IfSome}
 use Rattle.ga_grid.specs.declared.node_id.NodeId.{NodeId}
 use Rattle.ga_grid.specs.Grid.{node_id, neighbour_of}
 use Rattle.ga_event.specs.Told.{made_in}
@@ -13,6 +13,8 @@ use Rattle.std.specs.List.{slice_get}
 use Rattle.ga_scheduler.specs.Words.{is_over, one_over, word_count}
 use Rattle.std.specs.Int.{bit_at}
 use Rattle.ga_scheduler.specs.declared.numbers.NumberSet.{NumberSet}
+use Rattle.ga_scheduler.specs.declared.drawing.Known.{Known}
+use Rattle.ga_scheduler.specs.Schedules.{numbers_below}
 use Rattle.ga_ports.specs.declared.side.Side.{Side}
 use Rattle.ga_node.specs.Record.{NodeRecord}
 use Rattle.ga_node.specs.Table.{refusal}
@@ -124,6 +126,11 @@ HoldsReady chip ready = (n : ℕ) → IsRight chip ready n
 pub record IsAlone (ready : NumberSet) (node : NodeId) : Type 0 where
   pub here : has ready node.number ≡ true
   pub others : (n : ℕ) → n < 144 → n ≢ node.number → has ready n ≡ false
+
+-- what is known of a set of nodes is so
+pub record IsKnown (ready : NumberSet) (known : Known) : Type 0 where
+  pub alone : IfSome known.alone (IsAlone ready)
+  pub listed : known.is_listed ≡ true → known.numbers.items ≡ numbers_below (has ready) 144
 
 -- a set stays right about each number about which it was right
 abbrev pub StaysRight : List NodeRecord → NumberSet → NumberSet → Type 0

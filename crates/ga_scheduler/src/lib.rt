@@ -2,6 +2,7 @@
 #![tactic(auto)]
 
 mod condition;
+mod drawing;
 mod edges;
 mod effects;
 mod idle;
