@@ -338,8 +338,8 @@ class Explorer(Machine):
                 yield ring
 
     @command(
-        "effects NNN K", "what rewind NNN K would take",
-        "effects X N, and for each of N nodes its first step that would go, and how many would", "effects 001 last", 50,
+        "effects NNN K", "what rewind NNN K would remove",
+        "effects X N, and for each of N nodes its first step that it would remove, and their number", "effects 001 last", 50,
     )  # fmt: skip
     def answer_effects(self, node, step):
         place = self.place(node, step)
@@ -355,7 +355,7 @@ class Explorer(Machine):
         return [told for event, told in zip(self.events, self.told) if event == (writer, reader)]
 
     @command(
-        "words NNN MMM", "the words that went from NNN to MMM",
+        "words NNN MMM", "the words transferred from NNN to MMM",
         "words NNN MMM C, and for each of C words its number, the steps of both nodes and the word", "words 000 001", 60,
     )  # fmt: skip
     def answer_words(self, writer, reader):
@@ -376,7 +376,7 @@ class Explorer(Machine):
 
     @command(
         "writes NNN HH", "the steps that wrote the cell HH of NNN, the newest first",
-        "for each the step, the opcode and the word that stood there then", "writes 001 20", 70,
+        "for each the step, the opcode and the word", "writes 001 20", 70,
     )  # fmt: skip
     def answer_writes(self, node, address):
         """The steps by which a node wrote a cell of its RAM: one of four opcodes, at an address that names the cell."""
@@ -406,8 +406,8 @@ class Explorer(Machine):
         return NAMES[int(words[3], 16)] if words[2] == "run" else " ".join(words[2:])
 
     @command(
-        "at NNN K [N]", "N steps before and behind step K of NNN, with registers",
-        "for each the step, what it did, and the registers t, s, r, a, b and p behind it", "at 001 last 5", 80,
+        "at NNN K [N]", "N steps before and after step K of NNN, with registers",
+        "for each the step, what it did, and the registers t, s, r, a, b and p after it", "at 001 last 5", 80,
     )  # fmt: skip
     def answer_at(self, node, step, around):
         if not 1 <= step <= self.steps[node]:
@@ -563,8 +563,8 @@ class Explorer(Machine):
         return [line for look, change in pairs if only is None or self.events[look] == (only,) for line in self.reading(words[look], look, change)]
 
     @command(
-        "races [NNN]", "steps that could have come out otherwise, and how",
-        "races N, and for each of N steps what else it could have got, and two commands that lead there", "races 001", 40,
+        "races [NNN]", "steps that yield another word in another order, and how",
+        "races N, and for each of N steps the other word, and two commands that lead there", "races 001", 40,
     )  # fmt: skip
     def answer_races(self, only):
         """The steps that could have come out otherwise, of a node or of all, and what holds of other orders."""
@@ -585,8 +585,8 @@ class Explorer(Machine):
         return "\n".join([f"races {len(lines)}"] + lines + last)
 
     @command(
-        "save", "the kept events as lines of debug",
-        "step NNN for each kept event, the oldest first", "save", 10,
+        "save", "the history as lines of debug",
+        "step NNN for each event, the oldest first", "save", 10,
     )  # fmt: skip
     def answer_save(self):
         return "\n".join(f"step {name(event[0])}" for event in self.events)
@@ -602,23 +602,23 @@ class Explorer(Machine):
 # Those of the debugger, of which `back until` is one of exploring.
 COMMANDS += [
     ("step NNN", "make the next event of NNN",
-     "NNN K and what the step did, or pass WWW K RRR J W: the word W went from WWW to RRR", "step 001"),
+     "NNN K and what the step did, or pass WWW K RRR J W: it moved the word W from WWW to RRR", "step 001"),
     ("back [[NNN] until COND]",
-     "take the newest event back; or that behind which COND held last,\n"
-     "                      with all since; or such a step of NNN, with what depends on it",
-     "removed X kept M: X events went, and M are left; or none, and nothing changes, where COND held behind no event", "back until change 001 20", 40),
-    ("rewind NNN K", "take step K of NNN back, with all that depends on it",
-     "removed X kept M: X events went, and M are left", "rewind 001 4"),
-    ("node NNN", "what NNN holds",
+     "undo the newest event; or the newest after which COND held, and all\n"
+     "                      later ones; or such a step of NNN, with its dependents",
+     "removed X kept M: X events were removed, and M are left; or none if there is no such event", "back until change 001 20", 40),
+    ("rewind NNN K", "remove step K of NNN, with its dependents",
+     "removed X kept M: X events were removed, and M are left", "rewind 001 4"),
+    ("node NNN", "the state of NNN",
      "the state, the registers and both stacks, the top first", "node 001"),
     ("mem NNN HH", "the word at HH of the memory of NNN",
      "mem NNN HH W: RAM below 80, ROM from there on", "mem 001 20"),
     ("trace NNN", "the steps of NNN",
      "trace NNN C, and C events, the oldest first", "trace 001"),
     ("why NNN K MMM J", "by which events step K of NNN led to step J of MMM",
-     "chain C, and C events from the cause to what came of it; or independent",
-     "why 000 3 001 7, the cause first: did step 3 of 000 lead to step 7 of 001?"),
-    ("count", "how many events are kept and were made",
+     "chain C, and C events from the cause to its effect; or independent",
+     "why 000 3 001 7, did step 3 of 000 lead to step 7 of 001?"),
+    ("count", "how many events the history has, and how many were made",
      "kept K made M limit L", "count"),
     ("dump", "the chip as an image",
      "an image of format 2, which every command reads", "dump"),

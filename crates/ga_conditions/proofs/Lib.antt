@@ -1,1 +1,1 @@
-pub mod Alternatives
+pub mod OrLemmas

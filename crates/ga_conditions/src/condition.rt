@@ -1,7 +1,7 @@
 //! One condition of a run or of a search back, as text.
 
 ghost use Rattle.std.specs.Prelude.{◌≡◌};
-ghost use Rattle.ga_conditions.specs.Conditions.{condition_in, lone_condition, named_condition, tested_in, possible_test, steps_condition, passes_in, passed_in, compared_in, names_in, cell_holds_in, holds_in, node_and_place, comes_to, writes_to_in, written_in, address_or_label, noted_in, cell_of_line, begun_in, word_equal_in, word_in};
+ghost use Rattle.ga_conditions.specs.Conditions.{condition_in, lone_condition, named_condition, tested_in, possible_test, steps_condition, passes_in, passed_in, compared_in, names_in, holds_in, node_and_place, comes_to, writes_to_in, written_in, address_or_label, noted_in, cell_of_line, begun_in, word_equal_in, word_in};
 
 use crate::numbers::{parse_hex_word, parse_operand};
 use crate::tests_of_values::{parse_comparison, parse_test};

@@ -1,7 +1,7 @@
 //! Notes of cells, and the names of addresses.
 
 ghost use Rattle.std.specs.Prelude.{◌≡◌, position};
-ghost use Rattle.ga_debug_info.specs.Notes.{is_note_of, is_begun, is_node_name, worded_slot as slot_worded_by, is_slot_word, is_nearer as is_nearer_word, nearer_word};
+ghost use Rattle.ga_debug_info.specs.Notes.{is_note_of, is_begun, is_node_name, worded_slot as slot_worded_by, is_slot_word, is_nearer as is_nearer_word, nearer_word, address_of};
 
 use crate::wording::{DisplayedWord, SlotWord};
 use ga_grid::NodeId;

@@ -1,6 +1,6 @@
 use Rattle.std.proofs.Common.{◌≡◌, ◌∙◌, cond, drop, take, Some, None, sym, ap, arith}
 use Rattle.ga_conditions.specs.Conditions.{behind_or}
-use Rattle.ga_conditions.proofs.Alternatives.{at_or, no_or, none_more}
+use Rattle.ga_conditions.proofs.OrLemmas.{at_or, no_or, none_more}
 use Rattle.ga_conditions.proofs.alternatives.or_cut.Goals as goal
 
 pub returns-then-begins_or : goal.returns-then-begins_or

@@ -1,7 +1,7 @@
 use Rattle.std.proofs.Common.{◌≡◌, ◌∙◌, List, ℕ, Bor, Some, None, rules, length-set, sym, ap}
 use Rattle.std.specs.Prelude.{Option, option_map}
 use Rattle.ga_conditions.specs.Conditions.{condition_in, or_split}
-use Rattle.ga_conditions.proofs.Alternatives.{given_more, left_more, all_given, none_given, too_many}
+use Rattle.ga_conditions.proofs.OrLemmas.{given_more, left_more, all_given, none_given, too_many}
 use Rattle.ga_conditions.proofs.alternatives.parse_conditions.Goals as goal
 
 pub returns-in_err-conditions : goal.returns-in_err-conditions

@@ -1,5 +1,5 @@
 use Rattle.std.proofs.Common.{◌≡◌, length}
-use Rattle.ga_conditions.proofs.Alternatives.{IsGiven, IsLeft}
+use Rattle.ga_conditions.proofs.OrLemmas.{IsGiven, IsLeft}
 use Rattle.ga_conditions.proofs.alternatives.parse_conditions.Given as goal
 
 abbrev pub invariant-loop-place : goal.invariant-loop-place
