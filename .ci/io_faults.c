@@ -1,8 +1,8 @@
-/* Loaded before a program (LD_PRELOAD), this stands between it and its standard input and standard output. READ_SIZES says how many bytes
-   the first read hands out at most, the second and so on; the last of them holds for the rest. A write takes at most WRITE_MOST bytes. The
-   read and the write whose numbers are READ_FAILS and WRITE_FAILS, from 1 on, fail; that write takes nothing and says so where WRITE_EMPTY
-   is there. With READ_END_FAILS a read at the end of the input fails. Each call adds a line to the file CALLS: `r` or `w`, and how many
-   bytes went, or -1 where it failed. Nothing else is changed. */
+/* A library for LD_PRELOAD. It changes the results of read on standard input and of write on standard output. READ_SIZES has the maximum
+   sizes of the first read, the second and so on; the last size is also that of all later reads. WRITE_MOST is the maximum size of a write.
+   READ_FAILS and WRITE_FAILS are the numbers, from 1 on, of the read and the write that fail; with WRITE_EMPTY that write returns 0 instead
+   of an error. With READ_END_FAILS a read at the end of the input fails. Each call appends a line to the file CALLS: `r` or `w`, and the
+   number of bytes, or -1 for a failure. Nothing else changes. */
 #define _GNU_SOURCE
 #include <dlfcn.h>
 #include <errno.h>
@@ -19,7 +19,7 @@ static long number(const char *name, long otherwise) {
     return value ? strtol(value, NULL, 10) : otherwise;
 }
 
-/* How many bytes the next read may hand out. */
+/* The maximum size of the next read. */
 static size_t next_size(void) {
     static const char *left;
     static size_t size = (size_t)-1;
@@ -32,7 +32,7 @@ static size_t next_size(void) {
     return size;
 }
 
-static ssize_t told(char what, ssize_t count, Writer write_on) {
+static ssize_t logged(char what, ssize_t count, Writer write_on) {
     static int file = -1;
     char line[32];
     int length = snprintf(line, sizeof line, "%c %zd\n", what, count);
@@ -48,8 +48,8 @@ ssize_t write(int to, const void *bytes, size_t size) {
     size_t most = number("WRITE_MOST", -1);
     if (!next) next = (Writer)dlsym(RTLD_NEXT, "write");
     if (to != 1) return next(to, bytes, size);
-    if (++calls == number("WRITE_FAILS", 0)) return told('w', getenv("WRITE_EMPTY") ? 0 : -1, next);
-    return told('w', next(to, bytes, size < most ? size : most), next);
+    if (++calls == number("WRITE_FAILS", 0)) return logged('w', getenv("WRITE_EMPTY") ? 0 : -1, next);
+    return logged('w', next(to, bytes, size < most ? size : most), next);
 }
 
 ssize_t read(int from, void *bytes, size_t size) {
@@ -62,5 +62,5 @@ ssize_t read(int from, void *bytes, size_t size) {
     most = next_size();
     count = ++calls == number("READ_FAILS", 0) ? -1 : next(from, bytes, size < most ? size : most);
     if (count == 0 && size && getenv("READ_END_FAILS")) count = -1;
-    return told('r', count, (Writer)dlsym(RTLD_NEXT, "write"));
+    return logged('r', count, (Writer)dlsym(RTLD_NEXT, "write"));
 }

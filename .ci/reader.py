@@ -1,8 +1,8 @@
-"""What stands in the crates, as contracts see it: files of definitions and of code, which definitions a text names, the clauses of a
-function, and what is public.
+"""A parser of the crates for questions about contracts: files of definitions and of code, the definitions that a text names, the clauses of
+a function, and what is public.
 
-A definition is read by name: what its text names, by its file's own definitions and its `use` lines. A clause is that of a public
-function, or the value that contracts see of a public type. What a type of the code holds is not followed.
+A definition depends on what its text names, by its file's own definitions and its `use` lines. Clauses are those of a public function, and
+the value of a public type in contracts. The fields of a type in code are not followed.
 """
 import os
 import re
@@ -12,9 +12,9 @@ from functools import cached_property
 
 TOP = os.path.dirname(os.path.dirname(os.path.abspath(__file__)))
 CRATES = f"{TOP}/crates"
-# The promises that a reader may want to follow to the last definition, and whose clauses they are; the functions of a file that others
-# see, where none is named.
-PROMISES = {
+# The interfaces whose definitions a reader may want to read in full: the files, and the names of types or functions with the clauses, or None
+# for all that other crates see.
+INTERFACES = {
     "Lab": [(f"ga_lab/src/{it}.rt", {"Lab", "Walk", "Backward"}) for it in ("lab", "lab/backward", "lab/explaining", "lab/listing", "lab/steps", "lab/walking")],
     "session": [("ga_console/src/run.rt", {"session"})],
     "Shared": [(f"ga_shared/src/{it}.rt", None) for it in ("shared", "locked", "workers", "racing", "closing")],
@@ -25,11 +25,12 @@ WORD = re.compile(rf"{NAME}(?:\.{NAME})*")
 HEAD = re.compile(rf"(?:abbrev |unfoldable )?pub (?:(?:data|record) )?({NAME}|◌\S+◌)(?= *(?:[:({{]|$))", re.M)
 CLAUSE = re.compile(rf"({NAME})(?= |$)")
 MUTUAL = re.compile(r"^(?:abbrev )?mutual\n((?:  .*\n|\n)*)", re.M)
-# Quoted text of definitions and of clauses; a comment there, which begins outside of a name; and what begins one that isn't read here.
+# Quoted text of definitions and of clauses; a comment there, which begins outside of a name; and the beginning of a block comment, which is
+# a fault.
 QUOTED = r'"(?:[^"\\\n]|\\[^\n])*"'
 DASHES = r'(?<![^ \n(){}.;,@"»])--[^\n]*'
 DEFINED = re.compile(f"{QUOTED}|{DASHES}|{{-")
-# Quoted text of code, and a comment that has its line for itself.
+# Quoted text of code, and a comment on a line of its own.
 CODED = re.compile(r"""[bc]?r(#*)".*?"\1|"(?:[^"\\]|\\.)*"|'(?:[^'\\\n]|\\[^\n])'|^ *//[^\n]*""", re.M | re.S)
 CONSTANT = re.compile(r"\b(?:const|static) ([A-Z]\w*): .*?=\s(.*?);\n", re.S)
 BRACE = re.compile(f"{QUOTED}|{DASHES}|[{{}}]")
@@ -43,10 +44,10 @@ def read(path):
 
 
 def without_comments(path, text):
-    """The text of a file without its comments; what is quoted stays."""
+    """The text of a file without its comments. Quoted text stays."""
     kind = DEFINED if path.endswith(".antt") else CODED
     if kind is DEFINED and any(it[0] == "{-" for it in DEFINED.finditer(text)):
-        sys.exit(f"{path}: a comment between {{- and -}} isn't read here: write -- before each line")
+        sys.exit(f"{path}: this script can't read comments between {{- and -}}: write -- before each line")
     return kind.sub(lambda it: "" if it[0].lstrip(" ").startswith(("--", "//")) else it[0], text)
 
 
@@ -56,17 +57,17 @@ def files_in(folder, ending):
 
 
 def is_inner(module):
-    """Whether its definitions serve private contracts alone."""
+    """Whether only private contracts may use the definitions of a module."""
     return "inner" in module.split(".")
 
 
 def dedented(text):
-    """A text of definitions with those of each `mutual` block at its margin."""
+    """A text of definitions without `mutual` lines, and with their blocks unindented."""
     return MUTUAL.sub(lambda it: re.sub(r"^  ", "", it[1], flags=re.M), text)
 
 
 class Module:
-    """A file of definitions, or of code: what its `use` lines bring, and its own definitions with their texts."""
+    """A file of definitions or of code: the names that its `use` lines import, and its own definitions with their texts."""
 
     def __init__(self, path, text, name=None):
         self.name, self.path = name, path
@@ -90,8 +91,8 @@ class Module:
         return {module for brought in self.brought.values() for _, module, _ in brought} | set(self.aliases.values())
 
     def origins(self, text):
-        """What each name is that a text has from a `use` line, or that has another name where it is from: also what the kit's libraries
-        define. A text has an operator where it has its parts."""
+        """Lines `NAME is MODULE.NAME` for the imported names in a text, and for each imported name that has another one in its module. These
+        include names of the kit's libraries. A text contains an operator if it contains its parts."""
         words = {word.split(".")[0] for word in WORD.findall(text)}
         for name, brought in self.brought.items():
             parts = name.split("◌")
@@ -113,7 +114,7 @@ def texts_of_crates():
 
 
 class Reader:
-    """All that the crates say, or what these texts do, by their paths in `crates`."""
+    """The modules of all crates, or of these texts, by their paths in `crates`."""
 
     def __init__(self, texts=None):
         self.modules, self.code = {}, {}
@@ -126,15 +127,15 @@ class Reader:
 
     @cached_property
     def constants(self):
-        """Of each name the values that constants of the code have by it."""
-        found = defaultdict(set)
+        """The values of the code's constants by name."""
+        values = defaultdict(set)
         for here in self.code.values():
             for name, value in CONSTANT.findall(here.text):
-                found[name].add(" ".join(value.split()))
-        return found
+                values[name].add(" ".join(value.split()))
+        return values
 
     def values(self, text):
-        """The values of the constants that a text names, and of those that these stand on."""
+        """The values of the constants that a text names, and of the constants in these values."""
         seen, todo = set(), [text]
         while todo:
             for name in set(re.findall(r"\b[A-Z][A-Z_0-9]+\b", todo.pop())) & self.constants.keys() - seen:
@@ -143,7 +144,7 @@ class Reader:
         return {f"{name} = {value}" for name in seen for value in self.constants[name]}
 
     def found(self, module, name):
-        """The definition that a name of a module is: itself, or that of which it is a constructor or a field."""
+        """The definition with a name in a module, or the one that has a constructor or a field of that name."""
         here = self.modules.get(module)
         if here and name in here.own:
             yield (module, name)
@@ -151,7 +152,7 @@ class Reader:
             yield (module, here.parts[name])
 
     def named(self, here, text, at=None):
-        """The definitions that a text names: of a file of definitions, or of a file of code at a place."""
+        """The definitions that a text names: a text of a file of definitions, or the text at an offset of a file of code."""
         for clause in re.split(r"\n(?=\S)", text):
             bound = bound_in(clause)
             for word in WORD.findall(clause) + ["◌>>=◌"] * (" = do\n" in clause) + ["◌▷◌"] * (" ▷ " in clause):
@@ -169,7 +170,7 @@ class Reader:
                         yield from self.found(module, name)
 
     def closed(self, roots):
-        """All definitions that these stand on."""
+        """These definitions and all that they depend on."""
         seen, todo = set(), list(roots)
         while todo:
             module, name = it = todo.pop()
@@ -179,27 +180,27 @@ class Reader:
         return seen
 
     def reached(self):
-        """Of each of `PROMISES` the definitions that its clauses stand on."""
-        return {promise: self.closed([it for path, only in places for it in self.clauses(path, only)]) for promise, places in PROMISES.items()}
+        """The definitions that the clauses of each of `INTERFACES` depend on."""
+        return {interface: self.closed([it for path, only in places for it in self.clauses(path, only)]) for interface, places in INTERFACES.items()}
 
     def in_order(self, modules):
-        """Files of definitions in an order to read: each behind those that it imports, else as crates.txt and the alphabet have them."""
+        """Files of definitions in an order to read: each after those that it imports, else in the order of crates.txt and the alphabet."""
         crates = named_crates()
-        left, found = sorted(modules, key=lambda it: (crates.index(it.split(".")[1]), it)), []
+        left, ordered = sorted(modules, key=lambda it: (crates.index(it.split(".")[1]), it)), []
         while left:
-            found.append(next(it for it in left if not (self.modules[it].imports() - {it}) & {*left}))
-            left.remove(found[-1])
-        return found
+            ordered.append(next(it for it in left if not (self.modules[it].imports() - {it}) & {*left}))
+            left.remove(ordered[-1])
+        return ordered
 
     def exported(self, path):
-        """The items of a file that other crates see: what the crate's root passes on, or all of a public module."""
+        """The items of a file that other crates see: those that the crate's root exports, or all of a public module."""
         root = self.code.get(path.split("/")[0] + "/src/lib.rt")
         if root and re.search(rf"^pub mod {os.path.basename(path)[:-3]};", root.text, re.M):
             return set(re.findall(r"(?:fn|struct|enum) (\w+)", self.code[path].text))
         return set(re.findall(r"\w+", " ".join(re.findall(r"^pub use ([^;]*);", root.text, re.M)))) if root else set()
 
     def clauses(self, path, only=None):
-        """The definitions that the clauses of a file of code name, of these items or of those that others see."""
+        """The definitions named in the clauses of a file of code: of the items `only`, or of those that other crates see."""
         here, seen = self.code[path], only or self.exported(path)
         impl = (None, False)
         item = r"^impl(?:<.*>)? (?:(?:[\w:<>]+ (for) )?(\w+))|^( *)(pub )?(?:const )?fn (\w+)|ghost Value = ([^;]*)"
@@ -214,7 +215,7 @@ class Reader:
 
 
 def bound_in(clause):
-    """The variables of a clause, which are no definitions: on its left, under a λ, behind a `let`, in the brackets of a type."""
+    """The variables of a clause, which are no definitions: on its left, of a λ, of a `let`, in the brackets of a type."""
     left = re.match(r"(?!data|record|pub|abbrev|unfoldable)([^\s:][^:\n]*?) =(?=\s)", clause)
     bound = set(re.findall(r"(?<![.\w])[a-z_]['\w]*(?![.\w'-])", left[1])) if left else set()
     for names in re.findall(r"λ ([^.]*)\.|[({]([^\W\d][^:(){}]*) :|\blet (\w+) =", clause):
@@ -223,7 +224,7 @@ def bound_in(clause):
 
 
 def end_of(text, at):
-    """Where the brackets end that open there."""
+    """The end of the brackets that open at `at`."""
     depth = 0
     for it in BRACE.finditer(text, at):
         depth += {"{": 1, "}": -1}.get(it[0], 0)
@@ -233,7 +234,7 @@ def end_of(text, at):
 
 
 def signature(text, at):
-    """Where the signature of a function, whose name ends there, and its clauses end; and the clauses."""
+    """The end of the signature and clauses of the function whose name ends at `at`; and the clauses."""
     depth, clauses = 0, []
     while True:
         it = SIGNED.search(text, at)
@@ -248,7 +249,7 @@ def signature(text, at):
 
 
 def named_crates():
-    """The crates as crates.txt has them."""
+    """The crates in the order of crates.txt."""
     return [row.split(":")[0].split()[0] for row in read(f"{TOP}/crates.txt").split("\n") if row.split("#")[0].strip()]
 
 

@@ -1,8 +1,7 @@
-/* Loaded before a program (LD_PRELOAD), this refuses the growth of its memory whose number is REFUSED, or so many from it on as REFUSED_MANY
-   says, and makes the file REFUSED_TOLD then.
-   Counted is what the program itself asks for, from its first growth on, or from the first of so many bytes as REFUSED_FROM says: with one
-   of one byte crates/ga_bench begins to count. What the C library asks for, as where it starts a thread, isn't counted. Nothing else is
-   changed. */
+/* A library for LD_PRELOAD. It makes the allocation with the number REFUSED fail, and REFUSED_MANY in all from that one on (by default one),
+   and creates the file REFUSED_TOLD then. Only the program's own allocations are numbered, not those of the C library, for example for a
+   thread. Number 1 is the first, or the first of REFUSED_FROM bytes: ga_bench allocates one byte where the numbers shall begin. Nothing else
+   changes. */
 #define _GNU_SOURCE
 #include <dlfcn.h>
 #include <fcntl.h>
@@ -11,10 +10,10 @@
 #include <string.h>
 #include <unistd.h>
 
-static int begun;
-static unsigned grown;
+static int is_counting;
+static unsigned allocations;
 
-/* Whether the program asks there, and no library. */
+/* Whether the caller is in the program, and not in a library. */
 static int is_own(void *caller) {
     Dl_info from;
     return dladdr(caller, &from) && !strstr(from.dli_fname, ".so");
@@ -25,13 +24,13 @@ static unsigned number(const char *name) {
     return value ? (unsigned)strtoul(value, NULL, 10) : 0;
 }
 
-/* Whether the growth that is asked for there is the one to refuse. */
+/* Whether this allocation must fail. Counts it. */
 static int is_refused(void *caller, size_t size) {
     unsigned from = number("REFUSED_FROM");
     if (!is_own(caller)) return 0;
-    if (!from || size == from) __atomic_store_n(&begun, 1, __ATOMIC_SEQ_CST);
-    if (!__atomic_load_n(&begun, __ATOMIC_SEQ_CST)) return 0;
-    unsigned many = number("REFUSED_MANY"), at = __atomic_add_fetch(&grown, 1, __ATOMIC_SEQ_CST), first = number("REFUSED");
+    if (!from || size == from) __atomic_store_n(&is_counting, 1, __ATOMIC_SEQ_CST);
+    if (!__atomic_load_n(&is_counting, __ATOMIC_SEQ_CST)) return 0;
+    unsigned many = number("REFUSED_MANY"), at = __atomic_add_fetch(&allocations, 1, __ATOMIC_SEQ_CST), first = number("REFUSED");
     if (at < first || at >= first + (many ? many : 1)) return 0;
     if (getenv("REFUSED_TOLD")) close(open(getenv("REFUSED_TOLD"), O_CREAT | O_WRONLY, 0600));
     return 1;

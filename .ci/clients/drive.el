@@ -1,7 +1,7 @@
 ;;; drive.el --- drives `ga144 dap' by dap-mode in batch -*- lexical-binding: t -*-
 
-;; SOURCE=FILE LINE=NUMBER emacs -Q --batch -l drive.el: a breakpoint, a step, its undo, and back to the load. The start-up file is that of
-;; docs/EDITORS.md and nothing else, in an empty home; `ga144' is on the PATH. The last line is `dap: ended 0' where all is well.
+;; SOURCE=FILE LINE=NUMBER emacs -Q --batch -l drive.el: sets a breakpoint, makes a step, undoes it, and goes back to the load. The start-up
+;; file is that of docs/EDITORS.md, in an empty home; `ga144' is on the PATH. The last line is `dap: ended 0' if all is well.
 
 ;;; Code:
 
@@ -39,20 +39,20 @@
     (kill-emacs 1)))
 
 (defun await (what is-so)
-  "Wait until IS-SO says so of WHAT."
+  "Wait until IS-SO returns true. WHAT is the name of the condition."
   (let ((end (+ (float-time) 20)))
     (while (not (funcall is-so))
       (demand (< (float-time) end) "late:" what)
       (accept-process-output nil 0.02))))
 
-(defun stands (session)
-  "Wait until SESSION stands, and give the number of the line."
+(defun stopped-line (session)
+  "Wait until SESSION is stopped, and return the number of the line."
   (await "a stop" (lambda () (and (dap--debug-session-thread-id session) (dap--debug-session-active-frame session))))
   (gethash "line" (dap--debug-session-active-frame session)))
 
 (defun go (command session)
   (funcall command session)
-  (stands session))
+  (stopped-line session))
 
 (find-file source)
 (demand (eq major-mode 'f18-mode) "the mode of the buffer is" major-mode)
@@ -61,15 +61,15 @@
 (dap-breakpoint-add)
 (dap-debug (cdr (assoc "GA144" dap-debug-template-configurations)))
 (let ((session (dap--cur-session)))
-  (stands session)
+  (stopped-line session)
   (dap-continue session (dap--debug-session-thread-id session))
-  (demand (= (stands session) line) "the breakpoint stands elsewhere")
-  (demand (= (go #'dap-next session) (1+ line)) "no line on")
+  (demand (= (stopped-line session) line) "stopped on another line than that of the breakpoint")
+  (demand (= (go #'dap-next session) (1+ line)) "not on the next line")
   (when (gethash "supportsStepBack" (dap--debug-session-current-capabilities session))
     (demand (= (go #'ga144-step-back session) line) "not back on the line")
     (go #'ga144-reverse-continue session)
     (demand (string-match-p "^rewind " (with-current-buffer (dap--debug-session-output-buffer session) (buffer-string)))
-            "what went isn't told"))
+            "no answer to the rollback"))
   (let* ((frame (gethash "id" (dap--debug-session-active-frame session)))
          (scopes (gethash "scopes" (dap-request session "scopes" :frameId frame))))
     (demand (= (length scopes) 6) "scopes:" (length scopes)))

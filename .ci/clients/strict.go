@@ -1,5 +1,5 @@
-// Drives a debug adapter with Google's types of the protocol: each message is decoded into the struct of its command or event, which may
-// leave no member out. strict ADAPTER [WORD..] SOURCE LINE. Says nothing where all is well.
+// Drives a debug adapter with Google's types of the protocol. Each message is decoded into the struct of its command or event; a member that
+// the struct doesn't have is a fault. Usage: strict ADAPTER [WORD..] SOURCE LINE. Prints nothing if all is well.
 package main
 
 import (
@@ -29,7 +29,7 @@ func demand(holds bool, why ...interface{}) {
 	}
 }
 
-// read gives the next message. Of what is announced, go-dap knows less than the protocol.
+// read returns the next message.
 func (c *client) read() dap.Message {
 	content, err := dap.ReadBaseMessage(c.in)
 	demand(err == nil, "no message:", err)
@@ -42,7 +42,7 @@ func (c *client) read() dap.Message {
 	return message
 }
 
-// ask gives the response to a request, which has to be carried out; events before it are kept.
+// ask returns the response to a request, which must succeed. It keeps the events before the response.
 func (c *client) ask(request dap.Message) dap.Message {
 	c.seq++
 	of := reflect.ValueOf(request).Elem()
@@ -52,8 +52,8 @@ func (c *client) ask(request dap.Message) dap.Message {
 	for {
 		got := c.read()
 		if response, ok := got.(dap.ResponseMessage); ok {
-			said := response.GetResponse()
-			demand(said.RequestSeq == c.seq && said.Success, said.Command, said.Message)
+			body := response.GetResponse()
+			demand(body.RequestSeq == c.seq && body.Success, body.Command, body.Message)
 			return got
 		}
 		c.kept = append(c.kept, got)
@@ -74,13 +74,13 @@ func (c *client) event(name string) dap.Message {
 	}
 }
 
-// stopped waits until the chip stands, and gives the first frame of the node that it stands for.
+// stopped waits until the run stops for a reason, and returns the thread and its first frame.
 func (c *client) stopped(reason string) (int, dap.StackFrame) {
 	body := c.event("stopped").(*dap.StoppedEvent).Body
-	demand(body.Reason == reason, "stands for", body.Reason, "and not for", reason)
-	asked := dap.StackTraceArguments{ThreadId: body.ThreadId}
-	told := c.ask(&dap.StackTraceRequest{Request: of("stackTrace"), Arguments: asked}).(*dap.StackTraceResponse)
-	return body.ThreadId, told.Body.StackFrames[0]
+	demand(body.Reason == reason, "stopped for", body.Reason, "instead of", reason)
+	arguments := dap.StackTraceArguments{ThreadId: body.ThreadId}
+	trace := c.ask(&dap.StackTraceRequest{Request: of("stackTrace"), Arguments: arguments}).(*dap.StackTraceResponse)
+	return body.ThreadId, trace.Body.StackFrames[0]
 }
 
 func of(command string) dap.Request { return dap.Request{Command: command} }
@@ -108,10 +108,10 @@ func main() {
 	c.stopped("entry")
 	c.ask(&dap.ContinueRequest{Request: of("continue"), Arguments: dap.ContinueArguments{ThreadId: 1000}})
 	thread, frame := c.stopped("breakpoint")
-	demand(frame.Line == line, "stands on line", frame.Line)
+	demand(frame.Line == line, "stopped on line", frame.Line)
 	c.ask(&dap.NextRequest{Request: of("next"), Arguments: dap.NextArguments{ThreadId: thread}})
 	_, ahead := c.stopped("step")
-	demand(ahead.Line > 0, "no line behind a step")
+	demand(ahead.Line > 0, "no line after a step")
 	if able.SupportsStepBack {
 		c.ask(&dap.StepBackRequest{Request: of("stepBack"), Arguments: dap.StepBackArguments{ThreadId: thread}})
 		c.event("output")
@@ -122,16 +122,16 @@ func main() {
 	demand(len(threads) == 8, len(threads), "threads")
 	scopes := c.ask(&dap.ScopesRequest{Request: of("scopes"), Arguments: dap.ScopesArguments{FrameId: frame.Id}}).(*dap.ScopesResponse).Body.Scopes
 	for _, scope := range scopes {
-		asked := dap.VariablesArguments{VariablesReference: scope.VariablesReference}
-		held := c.ask(&dap.VariablesRequest{Request: of("variables"), Arguments: asked}).(*dap.VariablesResponse).Body.Variables
-		demand(len(held) > 4, "too few variables of", scope.Name)
+		arguments := dap.VariablesArguments{VariablesReference: scope.VariablesReference}
+		variables := c.ask(&dap.VariablesRequest{Request: of("variables"), Arguments: arguments}).(*dap.VariablesResponse).Body.Variables
+		demand(len(variables) > 4, "too few variables of", scope.Name)
 	}
-	asks := dap.EvaluateArguments{Expression: "count", Context: "repl"}
-	demand(c.ask(&dap.EvaluateRequest{Request: of("evaluate"), Arguments: asks}).(*dap.EvaluateResponse).Body.Result != "", "no count")
+	count := dap.EvaluateArguments{Expression: "count", Context: "repl"}
+	demand(c.ask(&dap.EvaluateRequest{Request: of("evaluate"), Arguments: count}).(*dap.EvaluateResponse).Body.Result != "", "no count")
 	if able.SupportsDisassembleRequest {
 		cells := dap.DisassembleArguments{MemoryReference: frame.InstructionPointerReference, InstructionCount: 4}
-		told := c.ask(&dap.DisassembleRequest{Request: of("disassemble"), Arguments: cells}).(*dap.DisassembleResponse).Body.Instructions
-		demand(len(told) == 4, len(told), "instructions")
+		instructions := c.ask(&dap.DisassembleRequest{Request: of("disassemble"), Arguments: cells}).(*dap.DisassembleResponse).Body.Instructions
+		demand(len(instructions) == 4, len(instructions), "instructions")
 	}
 	if able.SupportsExceptionInfoRequest {
 		c.ask(&dap.ExceptionInfoRequest{Request: of("exceptionInfo"), Arguments: dap.ExceptionInfoArguments{ThreadId: thread}})
