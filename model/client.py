@@ -1,10 +1,10 @@
-"""A client of the Debug Adapter Protocol that checks each message, both ways: its framing byte for byte, its number, that its text is the
-shortest with the members in order, and that it is what the protocol's schema says.
+"""A client of the Debug Adapter Protocol that checks each message in both directions: the framing byte for byte, the number, the text (the
+shortest one, with sorted members), and the protocol's schema.
 
 The schema is that of Debian's python3-pydevd, which is generated from the protocol's own: a class for each message and each type, with the
-schema of its members in `__props__`, and those that it has to have as parameters of its constructor. Where that isn't installed, the
-schema is not checked. A message or a member that it doesn't name is a fault, but for those in `LATER`, and for the arguments of `launch`,
-which each server has of its own.
+schema of its members in `__props__`, and the required members as parameters of its constructor. If the package isn't installed, the schema
+is not checked. An unknown message or member is a fault, except the members in `LATER` and the arguments of `launch`, which differ between
+servers.
 """
 
 import inspect
@@ -22,7 +22,7 @@ try:
 except ImportError:
     base = None
 
-# What the protocol has and that schema, which is of 2021, has not.
+# Members of the protocol that are newer than this schema, which is of 2021.
 LATER = {"response disassemble.body.instructions.presentationHint"}
 FREE = "request launch.arguments"
 HEADER = b"Content-Length: "
@@ -38,7 +38,7 @@ KINDS = {
 
 
 class Wrong(Exception):
-    """A message that is not as it should be."""
+    """A message with a fault."""
 
 
 def demand(holds, text):
@@ -47,7 +47,7 @@ def demand(holds, text):
 
 
 def text_of(message):
-    """A message as it has to be written."""
+    """The required text of a message."""
     return json.dumps(message, sort_keys=True, separators=(",", ":"), ensure_ascii=False)
 
 
@@ -57,20 +57,20 @@ def framed(text):
 
 
 def parted(data):
-    """The messages of what was written, each a whole one, or Wrong."""
-    found = []
+    """The contents of the messages in some bytes. Raises Wrong if one is incomplete."""
+    contents = []
     while data:
         head, end, rest = data.partition(b"\r\n\r\n")
         demand(end and head.startswith(HEADER) and head[len(HEADER) :].isdigit(), f"a header {head[:80]!r}")
         size = int(head[len(HEADER) :])
         demand(head == HEADER + b"%d" % size and len(rest) >= size, f"a header {head!r} before {len(rest)} bytes")
-        found.append(rest[:size])
+        contents.append(rest[:size])
         data = rest[size:]
-    return found
+    return contents
 
 
 class Schema:
-    """What the protocol says of a message."""
+    """The protocol's schema: its methods raise Wrong for a message that doesn't agree with it."""
 
     is_there = base is not None
 
@@ -90,7 +90,7 @@ class Schema:
 
     @staticmethod
     def needed(of):
-        """What a class can't be made without."""
+        """The required members of a class."""
         given = list(inspect.signature(of.__init__).parameters.items())[1:]
         return [it for it, how in given if it in of.__props__ and how.default is how.empty and how.kind is how.POSITIONAL_OR_KEYWORD]
 
@@ -134,7 +134,7 @@ class Schema:
 
 
 class Client:
-    """A server as a process. What it writes is read by a thread, so that a client is never kept from asking."""
+    """A server as a process. A thread reads its messages, so that a client can always send a request."""
 
     def __init__(self, words, cwd=None, seconds=20):
         self.server = subprocess.Popen(words, stdin=subprocess.PIPE, stdout=subprocess.PIPE, cwd=cwd)
@@ -167,11 +167,11 @@ class Client:
         return content
 
     def checked(self, content):
-        """A message that the server wrote."""
+        """The message of the server with this content, after checks."""
         message = json.loads(content.decode())
         demand(text_of(message).encode() == content, f"not the shortest text with members in order: {content[:300]!r}")
         self.came += 1
-        demand(message.get("seq") == self.came, f"seq {message.get('seq')}, and not {self.came}")
+        demand(message.get("seq") == self.came, f"seq {message.get('seq')} instead of {self.came}")
         self.schema.message(message)
         return message
 
@@ -189,60 +189,60 @@ class Client:
         return framed(text_of(request))
 
     def send(self, command, arguments=None):
-        """Sends a request, and says its number."""
+        """Sends a request, and returns its number."""
         data = self.frame(command, arguments)
-        # (in two parts, cut elsewhere each time)
+        # in two parts, cut at another place each time
         cut = 37 * self.sent % len(data)
         self.raw(data[:cut])
         self.raw(data[cut:])
         return self.sent
 
     def next(self, seconds=None):
-        """The next message; None at the end of what the server writes."""
+        """The next message, or None at the end of the server's output."""
         try:
             message = self.ready.get(timeout=seconds or self.seconds)
         except queue.Empty:
-            raise Wrong("nothing is written") from None
+            raise Wrong("no message in time") from None
         if isinstance(message, Wrong):
             raise message
         return message
 
     def ask(self, command, arguments=None, refused=False):
-        """The response to a request, and the events before it. It has to be carried out, or refused."""
-        asked, events = self.send(command, arguments), []
+        """The response to a request, and the events before it. The request must succeed, or fail if `refused`."""
+        number, events = self.send(command, arguments), []
         while (message := self.next()) is not None:
             if message["type"] != "response":
                 events.append(message)
                 continue
-            demand(message["request_seq"] == asked and message["command"] == command, f"a response to {message['request_seq']} {message['command']}")
+            demand(message["request_seq"] == number and message["command"] == command, f"a response to {message['request_seq']} {message['command']}")
             demand(message["success"] is not refused, f"{command} {arguments}: {text_of(message)[:300]}")
             return message, events
         raise Wrong(f"an end before a response to {command}")
 
     def event(self, name):
-        """The next event of a name, and those before it."""
+        """The next event with a name, and the events up to it."""
         events = []
         while (message := self.next()) is not None:
-            demand(message["type"] == "event", f"a response, and no event {name}")
+            demand(message["type"] == "event", f"a response instead of an event {name}")
             events.append(message)
             if message["event"] == name:
                 return message, events
         raise Wrong(f"an end before the event {name}")
 
     def end(self):
-        """Sees that the server ends well behind `disconnect`, by itself."""
+        """Sends `disconnect`, and checks that the server ends then, with status 0."""
         self.ask("disconnect")
-        left = self.next()
-        demand(left is None, f"{left} behind disconnect")
-        # (it ends by itself, while its input is open)
+        message = self.next()
+        demand(message is None, f"{message} after disconnect")
+        # it must end while its input is open
         try:
             status = self.server.wait(self.seconds)
         except subprocess.TimeoutExpired:
-            raise Wrong("no end behind disconnect") from None
-        demand(status == 0, f"status {status} behind disconnect")
+            raise Wrong("no end after disconnect") from None
+        demand(status == 0, f"status {status} after disconnect")
 
     def stop(self):
-        """Ends the server, whatever it does."""
+        """Kills the server."""
         self.server.kill()
         self.server.wait()
         self.reader.join()

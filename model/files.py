@@ -1,11 +1,12 @@
 #!/usr/bin/env python3
-"""Answers sessions that stand in files by the replay machine.
+"""Answers sessions in files with the replay machine.
 
-files.py FILE..: prints what the machine answers to each.
-files.py --compare FILE..: compares that with FILE.stdout. A file is skipped where FILE.stdout says that its image is refused or, of
-a session of `ga144 debug`, that one of its lines is no command; just such a file may not be read here.
-The limit is N for a file in a folder limit-N. A session in a folder explore is one of `ga144 explore`, which may begin with source; in a
-folder chip FILE.image has the chip.
+files.py FILE..: prints the machine's answers to each.
+files.py --compare FILE..: compares the answers with FILE.stdout. A file is skipped if FILE.stdout refuses its image or, in a session of
+`ga144 debug`, a line that is no command. Exactly these files must be refused here too.
+
+The limit is N for a file in a folder limit-N. A session in a folder explore is one of `ga144 explore`, which may begin with source. In a
+folder chip, FILE.image has the chip.
 """
 
 import os
@@ -42,7 +43,7 @@ def demand(holds, line):
 
 
 def put(node, given, line):
-    """Puts what a field line gives into a node; `given` are the fields and cells that it has so far."""
+    """Writes the values of a field line into a node. `given` has the fields and cells of its earlier lines."""
     field, *words = line.split(" ")
     values = [int(word, 16) for word in words] if field != "wait" else []
     demand(all(value <= GREATEST.get(field, WORD) for value in values), line)
@@ -63,7 +64,7 @@ def put(node, given, line):
 
 
 def load_of(lines):
-    """The nodes that an image gives."""
+    """The nodes of an image."""
     load, blocks, node = [Node(number) for number in range(NODES)], {}, None
     demand(len(lines) > 1 and lines[0] in FIELDS and lines[-1] == "end", "header or end")
     for line in lines[1:-1]:
@@ -95,21 +96,21 @@ def answer(machine, line):
     command, *words = line.split(" ")
     if command == "mem":
         return machine.mem(NUMBERS[words[0]], int(words[1], 16))
-    # a node, or nodes with a step behind each
+    # nodes and step numbers in turn
     arguments = [int(it) if at % 2 else NUMBERS[it] for at, it in enumerate(words)]
     demand(all(it < 1 << 32 for it in arguments), line)
     return getattr(machine, command)(*arguments)
 
 
 def settle(machine):
-    """Makes the first event of each node that comes to wait for code by it."""
+    """Makes the first event of each node that then waits for code."""
     for number, it in enumerate(machine.chip):
         if not it.stop and not it.wait and it.slot == FETCH_DUE and target_of(it.p)[0] == "ports":
             machine.step(number)
 
 
 def opened(path):
-    """The machine of a session at its load, where the folder is `settled` at rest, and the commands up to `quit`, or Unread."""
+    """The machine of a session at its load, after `settle` in a folder `settled`; and the commands up to `quit`. Raises Unread."""
     folder = os.path.basename(os.path.dirname(path))
     with open(path, encoding="latin-1", newline="") as file:
         lines = file.read().removesuffix("\n").split("\n")
@@ -132,26 +133,26 @@ def opened(path):
 
 
 def answers_of(path):
-    """What is answered to a session, or Unread."""
+    """The answers to a session. Raises Unread."""
     machine, commands = opened(path)
-    # where nothing is kept, `save` says nothing
+    # with an empty history, `save` prints nothing
     return "".join(line + "\n" for line in ["ready"] + [answer(machine, it) for it in commands] if line)
 
 
 def difference(path):
-    """Whether a file is skipped, and what the machine answers otherwise than its output says, or None."""
+    """Whether a file is skipped, and the difference of the machine's answers from its output, or None."""
     with open(f"{path}.stdout", encoding="latin-1", newline="") as file:
         wanted = file.read()
     skipped = not wanted.startswith("ready\n") or any(it in wanted.split("\n") for it in NO_COMMANDS)
     try:
         got = answers_of(path)
     except Unread as error:
-        return skipped, None if skipped else f"not read: {error}"
+        return skipped, None if skipped else f"refused: {error}"
     if skipped:
-        return skipped, "read, and its output refuses it"
+        return skipped, "accepted, but its output refuses it"
     for line, (ours, its) in enumerate(zip_longest(got.split("\n"), wanted.split("\n")), 1):
         if ours != its:
-            return skipped, f"line {line}: the machine answers '{ours}', the file says '{its}'"
+            return skipped, f"line {line}: the machine answers '{ours}', the file has '{its}'"
     return skipped, None
 
 
@@ -163,14 +164,14 @@ def main():
             try:
                 sys.stdout.write(answers_of(path))
             except Unread as error:
-                sys.exit(f"{path}: not read: {error}")
+                sys.exit(f"{path}: refused: {error}")
         return
-    found = {path: difference(path) for path in sys.argv[2:]}
-    wrong = [f"{path}: {what}" for path, (_, what) in found.items() if what]
+    results = {path: difference(path) for path in sys.argv[2:]}
+    wrong = [f"{path}: {what}" for path, (_, what) in results.items() if what]
     if wrong:
         sys.exit("\n".join(wrong))
-    count = sum(skipped for skipped, _ in found.values())
-    print(f"{len(found) - count} files: all answers agree; {count} skipped, with refused images or lines that are no commands")
+    count = sum(skipped for skipped, _ in results.values())
+    print(f"{len(results) - count} files: all answers agree; {count} skipped, with refused images or lines that are no commands")
 
 
 if __name__ == "__main__":

@@ -1,4 +1,4 @@
-"""The replay machine of README.md, to the letter: it keeps a load and a list of events, and replays the list.
+"""The replay machine: it keeps a load and a list of events, and replays the list. Part of the reference model of docs/REFERENCE.md.
 
 Answers are the texts of docs/REFERENCE.md. An event is a tuple of the nodes that it touches: one, or writer and reader.
 """
@@ -62,7 +62,7 @@ class Machine:
         return word
 
     def next(self, node):
-        """The event that a step of the node makes, or None where it waits or is stopped."""
+        """The event that a step of the node makes, or None if the node waits or is stopped."""
         wait = self.chip[node].wait
         if self.chip[node].stop:
             return None
@@ -87,7 +87,7 @@ class Machine:
         return self.looked[later] and any(neighbour(after[0], side) in before for side in SIDES)
 
     def dependents(self, place):
-        """Which events depend on the one at this place, itself among them."""
+        """For each event, whether it depends on the one at this place. That one depends on itself."""
         marked = [False] * len(self.events)
         marked[place] = True
         for later in range(place + 1, len(self.events)):
@@ -95,12 +95,12 @@ class Machine:
         return marked
 
     def place(self, node, step):
-        """Where the node's step stands in the list, or None."""
+        """The place of the node's step in the list, or None."""
         places = [at for at, event in enumerate(self.events) if node in event]
         return places[step - 1] if 1 <= step <= len(places) else None
 
     def step_at(self, place):
-        """A node of the event at this place, and the number of that step of it."""
+        """A node of the event at this place, and the number of its step."""
         node = self.events[place][-1]
         return node, sum(node in event for event in self.events[: place + 1])
 
@@ -159,8 +159,8 @@ class Machine:
         return f"mem {name(node)} {address:02x} {memory[address & 0x3F]:06x}"
 
     def trace(self, node):
-        told = [text for text, event in zip(self.told, self.events) if node in event]
-        return "\n".join([f"trace {name(node)} {len(told)}"] + told)
+        lines = [text for text, event in zip(self.told, self.events) if node in event]
+        return "\n".join([f"trace {name(node)} {len(lines)}"] + lines)
 
     def count(self):
         return f"kept {len(self.events)} made {self.made} limit {self.limit}"
@@ -171,7 +171,7 @@ class Machine:
 
 
 def block_of(node):
-    """The lines of format 2 for what a node holds otherwise than at load, in their order."""
+    """The lines of format 2 for the differences of a node from its load, in their order."""
     load = Node(node.number)
     lines = [f"node {name(node.number)}"]
     differs = [it for it in vars(node) if getattr(node, it) != getattr(load, it)]

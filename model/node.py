@@ -1,6 +1,6 @@
-"""One node of the GA144: a second reading of docs/REFERENCE.md, apart from the crates' definitions.
+"""One node of the GA144. Part of the reference model of docs/REFERENCE.md, which is independent of the crates' definitions.
 
-A stack is a list with its top first. A wait is a pair of a kind and a set of sides, which is a string of letters of 'rdlu'.
+A stack is a list with its top first. A wait is a pair of a kind and a set of sides, as a string of letters of 'rdlu'.
 """
 
 import functools
@@ -13,7 +13,7 @@ FETCH_DUE = 4
 
 @functools.cache
 def neighbour(node, side):
-    """The node over a link, or None at the edge of the grid."""
+    """The node on a side, or None at the edge of the grid."""
     row, column = divmod(node, 18)
     if side in "rl":
         column += 1 if (column % 2 == 0) == (side == "r") else -1
@@ -23,12 +23,12 @@ def neighbour(node, side):
 
 
 def port(sides):
-    """The address that names these ports."""
+    """The address of the ports of these sides."""
     return sum(0x80 >> SIDES.index(side) for side in sides) ^ 0x155
 
 
 def target_of(address):
-    """What the low nine bits of an address name: a memory with its cell, 'io', the ports of some sides, or nothing."""
+    """The target of an address, in its low nine bits: a memory with a cell, 'io', the ports of some sides, or nothing."""
     address &= 0x1FF
     if address < 0x100:
         return ("ram" if address < 0x80 else "rom", address & 0x3F)
@@ -41,7 +41,7 @@ def target_of(address):
 
 
 def advanced(address):
-    """P or A counted up: not past the end of its memory, and not where it names a port."""
+    """P or A after an increment: it wraps at the end of its memory, and an address with bit 8 (ports, `io`) stays the same."""
     return address if address & 0x100 else address & ~0x7F | (address + 1) & 0x7F
 
 
@@ -55,13 +55,13 @@ def push(stack, word):
 
 
 def pop(stack):
-    """Drops the top. What comes in at the bottom is the word that a ring of eight cells has there."""
+    """Removes and returns the top. The new bottom word is that of a ring of eight cells."""
     stack.append(stack[len(stack) - 8])
     return stack.pop(0)
 
 
 class Halt(Exception):
-    """The access of an event that comes to nothing but a wait or a stop."""
+    """Raised by an access that makes the node wait or stop."""
 
 
 class Node:
@@ -82,7 +82,7 @@ class Node:
     def waits(self, kinds, side):
         return self.wait is not None and self.wait[0] in kinds and side in self.wait[1]
 
-    # Accesses. `seen` is called for the word of `io`.
+    # Accesses. `seen` is a function that returns the word of `io`.
 
     def read(self, address, kind, seen):
         what, where = target_of(address)
@@ -113,7 +113,7 @@ class Node:
     # Events.
 
     def own(self, seen):
-        """Makes the node's own event, and says what it was."""
+        """Makes the node's own event, and returns its text."""
         try:
             if self.slot == FETCH_DUE:
                 self.i = self.read(self.p, "fetch", seen)

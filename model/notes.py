@@ -1,4 +1,4 @@
-"""What source says of each cell of a chip: a second reading of "Exploring" in docs/REFERENCE.md."""
+"""Debug info, the map from cells and slots to source. Part of the reference model, for "Exploring" in docs/REFERENCE.md."""
 
 from node import advanced, target_of
 from source import NODE_NAMES, programs_of
@@ -8,7 +8,7 @@ LONGEST, WHITE = 40, " \t\r\f"
 
 
 class Notes:
-    """The words and the labels of the cells that a source gives; of an image there are none."""
+    """The words and the labels of a source by cell. An image has none."""
 
     def __init__(self, source=None):
         self.cells, self.labels, self.begins, self.lines = {}, {}, {}, lines_of(source or "")
@@ -24,13 +24,13 @@ class Notes:
             self.labels[node] = [(it, layout.labels[it]) for _, it in layout.order if isinstance(it, str)]
 
     def label(self, node, cell):
-        """The label with the greatest address up to a cell of the same memory, of several there the last."""
+        """The label of a cell: of the labels in the same memory and not after the cell, the last one at the greatest address."""
         named = [(target_of(address), it) for it, address in self.labels[node]]
         before = [(place, it) for place, it in named if place[0] == cell[0] and place[1] <= cell[1]]
         return [it for place, it in before if place == max(before)[0]][-1:]
 
-    def told(self, words, slot):
-        """The line that begins a cell of these words, or a long one from the word on that its slot came from; slot 4 is the fetch."""
+    def source_text(self, words, slot):
+        """The source line of a cell with these words, or, of a long line, the part from the word of this slot on. Slot 4 is the fetch."""
         line = self.lines[words[0] - 1].strip(WHITE)
         if len(line) <= LONGEST:
             return f"{words[0]}: {line}"
@@ -38,16 +38,16 @@ class Notes:
         return f"{word}:{word.column}: {self.lines[word - 1][word.column - 1 :].strip(WHITE)}"
 
     def tail(self, node, cell, slot=4):
-        """What is told of a cell, or of a slot of it, behind a line."""
+        """The text about a cell, or a slot of it, at the end of an answer's line."""
         if (node, cell) not in self.cells:
             return ""
         address, words = self.cells[node, cell]
-        return " \\ " + " ".join([address, *self.label(node, cell), self.told(words, slot)])
+        return " \\ " + " ".join([address, *self.label(node, cell), self.source_text(words, slot)])
 
     def begun(self, node, line):
-        """P at the first instruction word that a line of a node begins, or None."""
+        """P at the first instruction word of a source line for a node, or None."""
         return self.begins.get((node, line))
 
     def address(self, node, name):
-        """P at a label."""
+        """P at a label, or None."""
         return dict(self.labels.get(node, [])).get(name)

@@ -1,12 +1,12 @@
 #!/usr/bin/env python3
-"""Generates sessions, has the program draw each, reads the pictures back, and compares them with what docs/REFERENCE.md says of pictures
-("Pictures"), by the events that the second reading made.
+"""Generates sessions, parses the program's pictures of them, and compares these with the rules of docs/REFERENCE.md ("Pictures") for the
+events of the reference model.
 
-pictures.py PROGRAM FIRST COUNT: so many pictures, each generated from its number, from FIRST on.
-pictures.py --compare: the pictures of docs/pictures, by the sessions and words that .ci/files names.
+pictures.py PROGRAM FIRST COUNT: COUNT pictures, each generated from its number, from FIRST on.
+pictures.py --compare: the pictures of docs/pictures, with the sessions and arguments in .ci/files.
 
-What a picture shows is told in lines, such as `black: dot 001, '5 dup', title '001 5 run 18 dup'`. Where lines and rows stand is taken
-from the picture: a node's line from its name, a row from the first two, since rows stand equally far apart.
+The contents of a picture are lines of text, such as `black: dot 001, '5 dup', title '001 5 run 18 dup'`. The coordinates of lines and rows
+come from the picture: a node's line from its name, the rows from the first two, since the distance between rows is constant.
 """
 
 import re
@@ -39,39 +39,39 @@ SHAPES = {
     "before": rf"<text class='e' x='{NUMBER}' y='{NUMBER}'>([^<]*)</text>",
 }
 GROUP = re.compile(r"<g class='([kgr])'><title>([^<]*)</title>(.*)</g>")
-# A step that could have come out otherwise: round it a ring, and beside that the other word.
+# A race: a ring around the step, and the other word next to it.
 RACE = re.compile(rf"<g class='c'><title>([^<]*)</title><circle cx='{NUMBER}' cy='{NUMBER}' r='[\d.]+'/><text( class='e')? x='{NUMBER}' y='{NUMBER}'>([^<]*)</text></g>")
 NAMED = re.compile(rf"<text class='n' x='{NUMBER}' y='{NUMBER}'>(\d\d\d)</text><line class='l' x1='{NUMBER}' y1='{NUMBER}' x2='{NUMBER}' y2='{NUMBER}'/>")
 TRACK = re.compile(rf"<path class='([tw])' d='M{NUMBER} {NUMBER}V{NUMBER}'/>")
 FOOT = re.compile(rf"<text x='{NUMBER}' y='{NUMBER}'>(by itself: [^<]*)</text>")
-# How near to its event, up or down, a text stands.
+# The maximum vertical distance of a text from its event.
 NEAR = 8
-# The picture of a session whose events are known without a replay, and how many of its events are drawn.
+# The number of the picture whose events are known without a replay, and the number of its events that are drawn.
 MILLION, DRAWN = 99, 101000
 USUAL_FOLD = 3
 JUMPING = "ga144 1\nnode 000\np 000000\nram 00 010000\nend\nrun greedy 1000001\n"
-# A node that runs for long before each word that it sends, and one that takes them; by these numbers.
+# Every 25th number, from LONG on, is a session with a node that runs for long before each word that it sends, and a node that takes them.
 LONG, FAR = 12, "node 000 : main 300 for . . unext right b! 5 !b main ;\nnode 001 : main right b! @b drop main ;\nend\nrun greedy 3000\n"
 
 
 class Unread(Exception):
-    """Why a picture can't be read."""
+    """The reason why a picture can't be parsed."""
 
 
-# What has to be seen.
+# The expected contents.
 
 
 class Row:
-    """An event that is drawn: its nodes, the text that is told of it, whether it looked, its colour, and how many are drawn with it."""
+    """A drawn event: its nodes, its text, whether it looked, its colour, and the number of events of its row."""
 
-    def __init__(self, event, told, looked, colour):
-        self.event, self.words, self.looked, self.colour, self.many, self.races = event, told.split(" "), looked, colour, 1, []
+    def __init__(self, event, text, looked, colour):
+        self.event, self.words, self.looked, self.colour, self.many, self.races = event, text.split(" "), looked, colour, 1, []
 
     def kind(self):
         return self.words[2] if len(self.event) == 1 else "pass"
 
     def text(self, lined):
-        """What is seen of it, where these nodes have lines."""
+        """Its line of contents, if these nodes have lines in the picture."""
         title = " ".join(self.words)
         if len(self.event) == 2:
             _, writer, step, reader, its, word = self.words
@@ -90,7 +90,7 @@ class Row:
 
 
 def tracks_of(rows, node):
-    """When a node runs and when it waits, in rows, `top` or `foot`."""
+    """The rows between which a node runs or waits; `top` and `foot` are the ends of its line."""
     since, waits, last = None, False, None
     for place, row in enumerate(rows):
         if node not in row.event:
@@ -108,7 +108,7 @@ def tracks_of(rows, node):
 
 
 def seen_of(rows, foot):
-    """What is seen of these events, line by line, with the foot."""
+    """The contents of a picture of these events and this foot."""
     lined = sorted({node for row in rows for node in row.event})
     lines = ["lines " + " ".join(map(name, lined))]
     for node in lined:
@@ -117,25 +117,25 @@ def seen_of(rows, foot):
     return lines + foot + [f"{place} {row.text(lined)}" for place, row in enumerate(rows)] + races
 
 
-def race_seen(told):
-    """What is seen of a line of `races`: on which line the ring is, and the other word on the side of the neighbour that it comes from."""
-    node = told[:3]
-    word, beside = re.search(r", or (\w{6}) (?:from|before|behind) (\d{3})", told).groups()
+def race_seen(line):
+    """The contents for a line of `races`: the node with the ring, and the other word on the side of the neighbour that it comes from."""
+    node = line[:3]
+    word, beside = re.search(r", or (\w{6}) (?:from|before|behind) (\d{3})", line).groups()
     side = f"{'left' if beside < node else 'right'} {'next' if beside[0] == node[0] else 'behind'}"
-    return f"{node}, {side} 'or {word}', title '{told}'"
+    return f"{node}, {side} 'or {word}', title '{line}'"
 
 
-# What is read back.
+# The parser.
 
 
 def pieces_of(text):
-    """The shapes of a text, each with its numbers and words."""
+    """The shapes in a text, each with its numbers and words."""
     while text:
-        found = next(((kind, it) for kind, form in SHAPES.items() if (it := re.match(form, text))), None)
-        if not found:
-            raise Unread(f"what is {text[:60]}")
-        yield found[0], [float(it) if re.fullmatch(NUMBER, it) and at < 2 else it for at, it in enumerate(found[1].groups())]
-        text = text[found[1].end() :]
+        shape = next(((kind, it) for kind, form in SHAPES.items() if (it := re.match(form, text))), None)
+        if not shape:
+            raise Unread(f"unknown: {text[:60]}")
+        yield shape[0], [float(it) if re.fullmatch(NUMBER, it) and at < 2 else it for at, it in enumerate(shape[1].groups())]
+        text = text[shape[1].end() :]
 
 
 class Picture:
@@ -158,7 +158,7 @@ class Picture:
             elif race:
                 self.races.append((race[1], float(race[2]), float(race[3]), race[4], float(race[5]), float(race[6]), race[7]))
             else:
-                raise Unread(f"what is {line[:60]}")
+                raise Unread(f"unknown: {line[:60]}")
         lowest = self.bottom
         for x, y, text in self.foot:
             if not lowest + 9 <= y <= self.height - 4 or not 0 < x < x + 6.7 * len(text) <= self.width:
@@ -169,7 +169,7 @@ class Picture:
         self.apart = heights[1] - heights[0] if len(heights) > 1 else self.height
 
     def styled(self, style):
-        """Dotted and dashed, and the three colours, of which red is heavier."""
+        """Checks the classes: dotted and dashed lines, and the colours, of which red has wider lines."""
         rules = dict(re.findall(r"^(.*)\{(.*)\}$", style, re.M))
         grey, red = (re.search("stroke:#([0-9a-f]+)", rules[f".{it} line,.{it} path,.{it} circle"])[1] for it in "gr")
         wide = [float(re.search("stroke-width:([0-9.]+)", rules[it])[1]) for it in ("line,path,circle", ".r line,.r path,.r circle")]
@@ -185,7 +185,7 @@ class Picture:
         self.names[float(x)], self.bottom = node, float(bottom)
 
     def row(self, y):
-        """The row at a height, `top` above the first, `foot` below the last."""
+        """The row at a height; `top` is above the first one, `foot` below the last one."""
         place = (y - self.first) / self.apart
         return "top" if place < 0 else "foot" if place > len(self.groups) - 1 else int(place) if place == int(place) else f"height {y}"
 
@@ -235,17 +235,17 @@ class Picture:
         return f"arrow {self.names[start]} {steps[start]} to {self.names[tip]} {steps[tip]}, '{word[2]}'"
 
 
-# Sessions, and how they are drawn.
+# Sessions, and the options of their pictures.
 
 
 def seen_by(machine, at):
-    """The nodes that a kept event touches, or sees by a look: it depends directly on an earlier event that touches one of these."""
+    """The nodes that an event touches or observes by a look. It depends directly on an earlier event that touches one of these."""
     event = machine.events[at]
     return {*event, *(neighbour(event[0], side) for side in SIDES if machine.looked[at])}
 
 
 def colours_of(machine, cause, rewind):
-    """The colour of each kept event, where these steps stand."""
+    """The colour of each event, for these steps of --cause and --rewind."""
     count = len(machine.events)
     leads, goes = [not cause] * count, [False] * count
     first, last = (machine.place(*it) if it else count for it in (rewind, cause))
@@ -262,16 +262,16 @@ def colours_of(machine, cause, rewind):
 
 
 class View:
-    """What is to be drawn: the steps whose causes and effects are asked for, from which kept event on and up to which, which count from
-    1, whether idle nodes are drawn, whether nothing but what is asked for is, how many events of a run are drawn as one, 0 for none, and
-    whether races are marked."""
+    """The options of a picture: the steps of --cause and --rewind; the first and the last event, numbered from 1; whether to draw idle nodes;
+    whether to draw only causes and effects; the number of events of a run from which they are drawn as one, or 0 for never; and whether to
+    mark races."""
 
     def __init__(self):
         self.cause, self.rewind, self.start, self.end, self.all, self.only, self.fold, self.races = None, None, 1, None, False, False, USUAL_FOLD, False
 
 
 def rows_of(machine, view):
-    """What is drawn, and the lines of the foot; none where a step doesn't stand."""
+    """The drawn rows and the lines of the foot, or None if there is no such step."""
     steps = [it for it in (view.cause, view.rewind) if it]
     named = {machine.place(*it) for it in steps}
     if None in named:
@@ -302,7 +302,7 @@ def rows_of(machine, view):
 
 
 def lone_in(rows, asked, races):
-    """The nodes that work by themselves, where others don't: nothing ties them to another line or to what is asked for."""
+    """The independent nodes, if there are others: nothing connects them with another node or with the causes and effects."""
     nodes, tied = {node for row in rows for node in row.event}, set()
     for row in rows:
         if row.kind() in ("pass", "wait", "stop") or row.colour in asked or races and row.looked:
@@ -314,8 +314,8 @@ def lone_in(rows, asked, races):
 
 
 def folded(rows, fold):
-    """The rows that aren't left out: of each run of plain events of a node in a colour, between which no event touches the node or looks
-    at it, the first alone, where it has so many."""
+    """The rows to draw. A run is a series of plain events of one node in one colour, with no event in between that touches or observes the
+    node; of a run with at least `fold` events, only the first is drawn."""
     runs, last = [], {}
     for row in rows:
         run = last.get(row.event[0])
@@ -334,7 +334,7 @@ def folded(rows, fold):
 
 
 class Drawn:
-    """A session, how it is to be drawn, and what has to come of it."""
+    """A session, and the options of its picture."""
 
     def __init__(self, number):
         self.made = Session(number)
@@ -345,11 +345,11 @@ class Drawn:
         if number % 25 == LONG:
             self.begin_far()
         else:
-            self.go()
+            self.make_commands()
         self.choose(number % 25 == LONG)
 
-    def go(self):
-        """Commands, and lines that do nothing."""
+    def make_commands(self):
+        """Adds commands, and lines without effect."""
         pick = self.draw.choice
         for _ in range(self.draw.randint(1, 8)):
             node = self.made.node()
@@ -409,7 +409,7 @@ def number_of(node):
 
 
 def picture(number):
-    """A session's text, the words with which it is drawn, and the rows and the foot that are wanted, or none."""
+    """A session's text, the arguments of its picture, and the expected rows and foot, or None."""
     if number == MILLION:
         steps = range(DEFAULT_LIMIT - DRAWN + 1, DEFAULT_LIMIT + 1)
         return JUMPING, ["--limit", str(DEFAULT_LIMIT), "--fold", "0", "--from", str(steps[0])], ([Row((0,), f"000 {it} {'fetch' if it % 2 else 'run 02'}", False, "black") for it in steps], [])
@@ -417,31 +417,31 @@ def picture(number):
     return it.text, it.words, rows_of(it.machine, it.view)
 
 
-def parted(wanted, text):
-    """In what a picture differs from what is wanted, or None."""
+def difference_of(wanted, text):
+    """The first difference of a picture's contents from the expected ones, or None."""
     try:
         for line, (ours, its) in enumerate(zip_longest(seen_of(*wanted), Picture(text).seen()), 1):
             if ours != its:
-                return f"line {line}: wanted is '{ours}', and the picture has '{its}'"
+                return f"line {line}: the picture has '{its}' instead of '{ours}'"
     except (Unread, AttributeError, KeyError) as error:
-        return f"the picture can't be read: {error}"
+        return f"the picture can't be parsed: {error}"
     return None
 
 
 def difference(program, number):
-    """How many events a picture has, and in what it differs from what is wanted, or None."""
+    """The number of rows of a picture, and a difference from the expected contents, or None."""
     text, words, wanted = picture(number)
     ran = subprocess.run([program, "draw", *words], input=text, capture_output=True, text=True, timeout=SECONDS)
     if wanted is None:
-        return 0, None if (ran.returncode, ran.stdout) == (1, "no 6 nostep\n") else f"draw {' '.join(words)}: it is not refused"
+        return 0, None if (ran.returncode, ran.stdout) == (1, "no 6 nostep\n") else f"draw {' '.join(words)}: the program does not refuse it"
     if ran.returncode or ran.stderr:
-        return 0, f"the program ended with status {ran.returncode} and told '{ran.stderr.strip()}'"
-    told = parted(wanted, ran.stdout)
-    return len(wanted[0]), told and f"draw {' '.join(words)}: {told}"
+        return 0, f"the program ended with status {ran.returncode} and the error '{ran.stderr.strip()}'"
+    what = difference_of(wanted, ran.stdout)
+    return len(wanted[0]), what and f"draw {' '.join(words)}: {what}"
 
 
 def compared(row):
-    """In what a picture of docs/pictures differs from what its session asks for, or None: by a row of .ci/files."""
+    """The difference of a picture of docs/pictures, with its row in .ci/files, from the expected contents, or None."""
     shown, session, *words = row.replace("=", " ").split()
     machine, commands = opened(session)
     for line in commands:
@@ -456,7 +456,7 @@ def compared(row):
         else:
             setattr(view, {"--from": "start", "--to": "end", "--fold": "fold"}[word], int(given[0]))
     with open(f"docs/pictures/{shown}.svg", encoding="utf-8") as file:
-        return parted(rows_of(machine, view), file.read())
+        return difference_of(rows_of(machine, view), file.read())
 
 
 def main():
@@ -465,7 +465,7 @@ def main():
         wrong = [f"docs/pictures: {it.split()[0]}: {what}" for it in rows if (what := compared(it))]
         if wrong or not rows:
             sys.exit("\n".join(wrong or ["no rows"]))
-        print(f"{len(rows)} pictures in files: all show what they should")
+        print(f"{len(rows)} pictures in files: all are right")
         return
     if len(sys.argv) != 4 or not all(it.isdecimal() for it in sys.argv[2:]) or int(sys.argv[3]) == 0:
         sys.exit("usage: pictures.py PROGRAM FIRST COUNT, with COUNT at least 1")
@@ -476,7 +476,7 @@ def main():
         events += made
         if what:
             sys.exit(f"picture {number}: {what}")
-    print(f"{count} pictures with {events} events: all show what they should")
+    print(f"{count} pictures with {events} events: all are right")
 
 
 if __name__ == "__main__":

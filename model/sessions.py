@@ -1,8 +1,8 @@
 #!/usr/bin/env python3
-"""Runs generated sessions through a program and through the replay machine, and compares each byte.
+"""Gives generated sessions to a program and to the replay machine, and compares the answers byte by byte.
 
-sessions.py PROGRAM FIRST COUNT: so many sessions, each generated from its number, from FIRST on.
-sessions.py --write FOLDER FIRST COUNT: writes those of them as files that have no limit of their own, with their answers.
+sessions.py PROGRAM FIRST COUNT: COUNT sessions, each generated from its number, from number FIRST on.
+sessions.py --write FOLDER FIRST COUNT: writes those with the default limit as files, with their answers.
 """
 
 import random
@@ -17,17 +17,17 @@ READS_AND_WRITES = (0x0A, 0x0A, 0x0A, 0x0B, 0x0E, 0x0E, 0x0E, 0x0F, 0x18, 0x1C)
 LAST_SLOT = (0x00, 0x04, 0x08, 0x0C, 0x10, 0x14, 0x18, 0x1C, 0x1C, 0x1C)
 JUMP_TO_0 = 0x10000
 IO = 0x15D
-# Words and addresses at which a rule turns: 0, the ends of a memory, bit 9 of P, the highest bits.
+# Words and addresses at the boundaries of rules: 0, the ends of a memory, bit 9 of P, the highest bits.
 TURNS = (0, 0, 1, 0x7F, 0xFF, 0x200, 0x1FFFF, 0x20000, 0x3FFFF)
 PLACES = (0, 5, 0x3F, 0x7F, 0x80, 0xFF, 0x200, 0x23F, 0x27F, 0x2FF, IO)
-# How long a session may take.
+# The time limit of a session, in seconds.
 SECONDS = 60
 DEFAULT_LIMIT = 1000000
-# How many events `ga144 explore` and `ga144 draw` keep by default.
+# The default limit of `ga144 explore` and `ga144 draw`.
 EXPLORED_LIMIT = 20000000
-# Past so many bytes answers are not written as a file.
+# The number of characters from which answers are not written as a file.
 LONG = 900000
-# How often each command comes, of 1000.
+# The frequencies of the commands, of 1000.
 COMMANDS = {"step": 800, "back": 40, "rewind": 50, "why": 40, "node": 20, "mem": 10, "trace": 10, "count": 10, "dump": 20}
 
 
@@ -41,7 +41,7 @@ class Generator:
     def __init__(self, number):
         self.random = random.Random(number)
         self.load = [Node(node) for node in range(NODES)]
-        # one session in four begins with all nodes in the middle of their work
+        # one session in four begins with all nodes in arbitrary states
         self.nodes = self.some_nodes() if number % 4 else list(range(NODES))
         for node in self.nodes:
             (self.fill if number % 4 else self.fill_with_state)(self.load[node])
@@ -49,7 +49,7 @@ class Generator:
             self.surround(middle)
 
     def some_nodes(self):
-        """Two or more nodes of a square of nine."""
+        """Two or more nodes of a square of nine nodes."""
         row, column = divmod(self.random.randrange(NODES), 18)
         rows = range(max(row - 1, 0), min(row + 2, 8))
         columns = range(max(column - 1, 0), min(column + 2, 18))
@@ -68,7 +68,7 @@ class Generator:
             self.fill_with_anything(node)
 
     def fill_with_loop(self, node):
-        """A loop of reads and writes over A and B, which name ports inside of the square, or `io`."""
+        """A loop of reads and writes with A and B, which are addresses of ports inside of the square, or `io`."""
         inside = "".join(side for side in SIDES if neighbour(node.number, side) in self.nodes) or SIDES
         ports = [port(side) for side in inside]
         node.p = 0
@@ -100,7 +100,7 @@ class Generator:
             node.slot, node.i = self.random.randrange(4), self.word()
 
     def fill_with_state(self, node):
-        """A node that is about to carry out any opcode, or to fetch, on words and addresses of all kinds."""
+        """A node before any opcode, or before a fetch, with words and addresses of all kinds."""
         pick, number = self.random.choice, self.random.randrange
         node.i, node.slot = encoded([number(32) for _ in range(3)] + [pick(LAST_SLOT)]), number(5)
         node.p = pick((pick(PLACES), pick(PLACES), number(0x400)))
@@ -113,7 +113,7 @@ class Generator:
                 memory[at] = pick((self.word(), encoded([number(32) for _ in range(3)] + [pick(LAST_SLOT)])))
 
     def surround(self, middle):
-        """A node that reads, fetches or looks, and neighbours that wait for it, or for another."""
+        """A node that reads, fetches or looks, and neighbours that wait for it or for another node."""
         node, pick = self.load[middle], self.random.choice
         state = pick(("read", "fetch", "look"))
         sides = "".join(side for side in SIDES if self.random.random() < 0.8) or "r"
@@ -139,7 +139,7 @@ class Generator:
         return lines + ["end"]
 
     def command(self, machine):
-        """A command, and what the machine answers to it."""
+        """A command, and the machine's answer."""
         node, other = self.random.choice(self.nodes), self.random.choice(self.nodes)
         step, other_step = (self.random.randint(0, machine.steps[at] + 1) for at in (node, other))
         address = self.random.randrange(256)
@@ -150,7 +150,7 @@ class Generator:
             node = self.random.choice([at for at in self.nodes if machine.steps[at]] or self.nodes)
             step = max(1, machine.steps[node] - self.random.randrange(12))
         if chosen == "why" and self.random.random() < 0.8 and machine.events:
-            # two kept events, the second near the end
+            # two events of the history, the second near its end
             count = len(machine.events)
             later = self.random.randrange(max(count - 20, 0), count)
             (node, step), (other, other_step) = (machine.step_at(at) for at in (self.random.randrange(later + 1), later))
@@ -168,12 +168,12 @@ class Generator:
 def spelled(command, arguments):
     if command == "mem":
         return f"mem {name(arguments[0])} {arguments[1]:02x}"
-    # a node, or nodes with a step behind each
+    # nodes and step numbers in turn
     return " ".join([command] + [str(it) if at % 2 else name(it) for at, it in enumerate(arguments)])
 
 
 def session(number):
-    """A session's text, its limit, and the lines that the machine answers."""
+    """A session's text, its limit, and the lines of the machine's answers."""
     generator = Generator(number)
     limit = generator.random.choice((DEFAULT_LIMIT, DEFAULT_LIMIT, 40, 120))
     machine = Machine(generator.load, limit)
@@ -188,14 +188,14 @@ def session(number):
 
 
 def difference(program, number):
-    """How many commands a session has, and the first line that the program answers otherwise than the machine, or None."""
+    """The number of commands of a session, and the first line that differs in the program's and the machine's answers, or None."""
     text, limit, wanted = session(number)
     count = text.count("\n", text.index("\nend\n") + 5)
     words = [program, "debug", "--limit", str(limit)]
     try:
         ran = subprocess.run(words, input=text, capture_output=True, text=True, timeout=SECONDS)
     except subprocess.TimeoutExpired:
-        return count, f"the program had not ended after {SECONDS} seconds"
+        return count, f"the program did not end within {SECONDS} seconds"
     if ran.returncode:
         return count, f"the program ended with status {ran.returncode}"
     got = ran.stdout.split("\n")[:-1]
@@ -206,7 +206,7 @@ def difference(program, number):
 
 
 def write(folder, number):
-    """Writes a session and its answers as files, if it has no limit of its own and its answers aren't long."""
+    """Writes a session and its answers as files, if it has the default limit and its answers aren't long."""
     text, limit, wanted = session(number)
     if limit == DEFAULT_LIMIT and sum(map(len, wanted)) < LONG:
         with open(f"{folder}/session-{number}", "w", encoding="utf-8") as file:
@@ -225,8 +225,8 @@ def main():
     program, first, count = sys.argv[1], int(sys.argv[2]), int(sys.argv[3])
     commands = 0
     for number in range(first, first + count):
-        made, what = difference(program, number)
-        commands += made
+        count_of_session, what = difference(program, number)
+        commands += count_of_session
         if what:
             sys.exit(f"session {number}: {what}")
     print(f"{count} sessions with {commands} commands: all answers agree")

@@ -1,8 +1,8 @@
 #!/usr/bin/env python3
-"""Generates sources and compares what `ga144 asm`, `list` and `dis` write and tell for them with what the second reading does.
+"""Generates sources, and compares the output of `ga144 asm`, `list` and `dis` for them with that of the reference model, byte by byte.
 
-sources.py PROGRAM FIRST COUNT: so many generated sources, from the one of this number on, and as many of a small one that is cut,
-changed or has a word more, and their images, through PROGRAM and through the second reading, which have to agree byte for byte.
+sources.py PROGRAM FIRST COUNT: COUNT generated sources, from number FIRST on, and as many variants of a small source that is cut, changed or
+has a word more. `asm` and `list` get the sources, `dis` their images.
 """
 
 import random
@@ -25,7 +25,7 @@ STORES = ["b! !b", "a! !", "a! !+ !+", "b! dup !b", "a! 5 !+ !", "a! ; !", "b! e
 
 
 class Generator:
-    """Sources by a seed: most are right, some have a fault."""
+    """Sources by a seed: most are valid, some have a fault."""
 
     def __init__(self, seed):
         self.random = random.Random(seed)
@@ -73,7 +73,7 @@ class Generator:
 
 
 def changed(seed):
-    """A small source that is cut, has another byte somewhere, or a word more."""
+    """A variant of the small source: cut, with another byte somewhere, or with a word more."""
     draw = random.Random(seed)
     place = draw.randrange(len(SMALL))
     how = draw.random()
@@ -92,18 +92,18 @@ def run(program, mode, text):
 
 
 def compare(program, seed, source):
-    """Compares all three commands on a source and its image. Answers what `asm` comes to."""
-    made = asm(source)
+    """Compares all three commands on a source and its image. Returns the model's result of `asm`."""
+    assembled = asm(source)
     windows = MARK + source.replace("\n", "\r\n")
-    wanted = {("asm", source): made, ("list", source): listed(source), ("asm", windows): asm(windows), ("list", windows): listed(windows)}
-    if made[2] == 0:
-        back, unsaid = disassembled(load_of(made[0].splitlines()))
-        wanted |= {("dis", made[0]): (back, unsaid, 0), ("asm", back): (made[0], "", 0)}
-    for (mode, text), reading in wanted.items():
+    wanted = {("asm", source): assembled, ("list", source): listed(source), ("asm", windows): asm(windows), ("list", windows): listed(windows)}
+    if assembled[2] == 0:
+        back, warnings = disassembled(load_of(assembled[0].splitlines()))
+        wanted |= {("dis", assembled[0]): (back, warnings, 0), ("asm", back): (assembled[0], "", 0)}
+    for (mode, text), expected in wanted.items():
         got = run(program, mode, text)
-        if got != reading:
-            sys.exit(f"{source}\nthe program: {got}\nthis reading: {reading}\nsource {seed}: {mode} not alike")
-    return made
+        if got != expected:
+            sys.exit(f"{source}\nthe program: {got}\nthe model: {expected}\nsource {seed}: {mode} differs")
+    return assembled
 
 
 def main():
@@ -111,10 +111,10 @@ def main():
     images = warned = 0
     for seed in range(first, first + count):
         for source in (Generator(seed).source(), changed(seed)):
-            _, told, status = compare(program, seed, source)
+            _, messages, status = compare(program, seed, source)
             images += status == 0
-            warned += status == 0 and told != ""
-    print(f"{2 * count} sources: all alike, {images} images, {warned} of them with warnings")
+            warned += status == 0 and messages != ""
+    print(f"{2 * count} sources: all agree, {images} images, {warned} of them with warnings")
 
 
 if __name__ == "__main__":

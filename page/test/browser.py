@@ -1,4 +1,4 @@
-"""A headless browser held by its debugging pipe, in plain Python: no driver, no port, no package.
+"""A headless browser controlled through its debugging pipe, in plain Python: no driver, no port, no package.
 
     with Browser() as b:
         b.open("file:///..")            # waits for the load
@@ -16,7 +16,7 @@ class Browser:
         self.room = tempfile.mkdtemp(prefix="page-")
         ours_in, theirs_out = os.pipe()
         theirs_in, ours_out = os.pipe()
-        # (moved out of the way of 3 and 4)
+        # to numbers other than 3 and 4
         low = theirs_in, theirs_out
         theirs_in, theirs_out = (fcntl.fcntl(it, fcntl.F_DUPFD, 20) for it in low)
         for it in low:
@@ -34,7 +34,7 @@ class Browser:
     def message(self, until):
         while b"\0" not in self.rest:
             if not select.select([self.read], [], [], max(0, until - time.time()))[0]:
-                raise TimeoutError("the browser said nothing")
+                raise TimeoutError("no message from the browser")
             part = os.read(self.read, 1 << 20)
             if not part:
                 raise EOFError("the browser ended: " + open(f"{self.room}/err", errors="replace").read()[-500:])
@@ -44,10 +44,10 @@ class Browser:
 
     def call(self, method, seconds=120, **params):
         self.number += 1
-        asked = {"id": self.number, "method": method, "params": params}
+        request = {"id": self.number, "method": method, "params": params}
         if getattr(self, "session", None):
-            asked["sessionId"] = self.session
-        data = json.dumps(asked).encode() + b"\0"
+            request["sessionId"] = self.session
+        data = json.dumps(request).encode() + b"\0"
         while data:
             data = data[os.write(self.write, data):]
         until = time.time() + seconds
@@ -76,7 +76,7 @@ class Browser:
         self.call("Emulation.setDeviceMetricsOverride", width=width, height=height, deviceScaleFactor=1, mobile=width < 800)
 
     def click(self, element):
-        """Moves the mouse to an element, which has to be in sight, and clicks; returns the milliseconds until the page has drawn."""
+        """Moves the mouse to an element, which must be visible, and clicks. Returns the milliseconds until the page has drawn."""
         left, top, inside = self.run(f"""
 const it = {element}; it.scrollIntoViewIfNeeded();
 const box = it.getBoundingClientRect(), x = box.left + Math.min(box.width / 2, 80), y = box.top + box.height / 2, at = document.elementFromPoint(x, y);

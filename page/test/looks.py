@@ -1,4 +1,4 @@
-"""How the page looks, for page.py: what is shown of a chip, a run and a picture from afar; times and pictures."""
+"""Tests of the page's appearance, for page.py: the chip, a run, a picture at low zoom; measurements and screenshots."""
 import json, os
 
 LOOP = "ga144 1\nnode 000\np 000000\nram 00 010000\nend\n"
@@ -8,41 +8,41 @@ EIGHTEEN = "".join(f"node 0{at:02d}\n/b right\n: main {'@b' if at % 2 else 'dup 
 
 
 def shown(browser, check):
-    """Whole counts in the cells, names at a phone's width, the node of an event that a run reached, the name of what is loaded, and what the
-    theme's button does."""
-    said = browser.run("""
+    """Complete counts in the cells, names at a phone's width, the node of an event that a run reached, the name of the loaded program, and the
+    theme's button."""
+    result = browser.run("""
 find("examples").value = "fault.f18"; find("examples").onchange();
-const example = find("examples").value, selected = page.selected, theme = document.documentElement.dataset.theme, told = find("theme").textContent; find("theme").click();
+const example = find("examples").value, selected = page.selected, theme = document.documentElement.dataset.theme, label = find("theme").textContent; find("theme").click();
 const then = [document.documentElement.dataset.theme, find("theme").textContent]; find("theme").click();
 page.open("node 000\\n: main main ;\\n"); const own = find("examples").selectedOptions[0].textContent;
 page.command("run greedy 123456"); const cell = find("n000"), more = cell.querySelector(".more"), text = document.createRange(); text.selectNode(cell.querySelector(".name").firstChild);
 const inside = text.getBoundingClientRect().right <= more.getBoundingClientRect().left + .5 && more.getBoundingClientRect().right <= cell.getBoundingClientRect().right;
-return { example, selected, theme, told, then, own, count: more.textContent, inside };""")
+return { example, selected, theme, label, then, own, count: more.textContent, inside };""")
     other = {"dark": "light", "light": "dark (l)"}
-    check(said["selected"] == "001" and said["example"] == "fault.f18" and said["own"] == "own text", f"what is loaded, and where a run ended: {said}")
-    check(said["told"] == other[said["theme"]] and said["then"][0] != said["theme"] and said["then"][1] == other[said["then"][0]], f"the theme's button: {said}")
-    check(said["count"] == "123456" and said["inside"], f"a cell's count: {said}")
+    check(result["selected"] == "001" and result["example"] == "fault.f18" and result["own"] == "own text", f"the loaded program, and the end of a run: {result}")
+    check(result["label"] == other[result["theme"]] and result["then"][0] != result["theme"] and result["then"][1] == other[result["then"][0]], f"the theme's button: {result}")
+    check(result["count"] == "123456" and result["inside"], f"a cell's count: {result}")
     browser.size(390, 800)
-    said = browser.run(f"""page.open({json.dumps(EIGHTEEN)}); page.command("run 900"); page.draw();
+    cut = browser.run(f"""page.open({json.dumps(EIGHTEEN)}); page.command("run 900"); page.draw();
 return page.working.filter(n => {{ const it = find("n" + n).querySelector(".name").getBoundingClientRect(), cell = find("n" + n).getBoundingClientRect(); return !(it.width > 8 && it.right <= cell.right + 1); }})""")
-    check(said == [], f"names that aren't whole on a phone's chip: {said}")
+    check(cut == [], f"names that are cut on a phone's chip: {cut}")
     browser.size(1280, 720)
 
 
 def from_afar(browser, check):
-    """From afar each event is told in one column, and neighbours that send one another words are told apart from what they do alone."""
-    said = browser.run(f"""
+    """At low zoom each event is counted in one column: transfers between two neighbours in a link, all other events in a node."""
+    result = browser.run(f"""
 page.open({json.dumps(EIGHTEEN)}); page.command("run 100000"); page.picture.fit(); page.draw_picture();
 const it = page.picture, line = Object.fromEntries(page.drawn.map(n => [n, 0])), unit = (it.canvas.clientWidth - 34) / it.wide, {{ nodes, links }} = it.summed(null, 0, it.order.length, line, unit);
 const sum = (list, what) => list.reduce((all, one) => all + one[what], 0), drawn = page.session.events.filter(e => e.ends[0][0] in line);
 return [it.far, sum(nodes, "own") + sum(nodes, "waits") + sum(nodes, "stop") + sum(links, "count"), drawn.length, sum(links, "count"), drawn.filter(e => e.pass).length, nodes.length + links.length];""")
-    check(said[0] and said[1] == said[2] and said[3] == said[4] > 9 and said[5] < 2000, f"from afar: {said}")
+    check(result[0] and result[1] == result[2] and result[3] == result[4] > 9 and result[5] < 2000, f"at low zoom: {result}")
 
 
 def times(browser):
     for title, text in (("one node", LOOP), ("18 nodes", EIGHTEEN)):
         for count in (1000, 10000, 100000):
-            told = browser.run(f"""
+            measured = browser.run(f"""
 const now = () => performance.now(), out = {{}};
 let t;
 const time = (name, act) => {{ t = now(); const it = act(); out[name] = Math.round(10 * (now() - t)) / 10; return it; }};
@@ -58,16 +58,16 @@ time("picture", () => page.draw_picture());
 page.picture.zoom(.01);
 time("picture near", () => page.draw_picture());
 return out;""")
-            print(f"page: {title}, {count} events: {told} ms")
+            print(f"page: {title}, {count} events: {measured} ms")
 
 
 def commands(browser):
-    """Commands a second: one by one without and with what is drawn, and in one question."""
-    told = browser.run(f"""
+    """Commands per second: one by one, without and with drawing, and in one call."""
+    rates = browser.run(f"""
 const rate = (count, act) => {{ page.open({json.dumps(LOOP)}); const t = performance.now(); act(count); return Math.round(count / (performance.now() - t) * 1000); }};
 return {{ alone: rate(1000, n => {{ for (let i = 0; i < n; i++) page.session.obey(["step 000"]); }}), drawn: rate(300, n => {{ for (let i = 0; i < n; i++) page.command("step 000"); }}),
     together: rate(100000, n => page.session.obey(Array(n).fill("step 000"))), asked: rate(100000, n => page.session.ask(Array(n).fill("node 000"))) }};""")
-    print(f"page: commands a second: {told}")
+    print(f"page: commands per second: {rates}")
 
 
 def shots(browser, folder):

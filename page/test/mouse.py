@@ -1,4 +1,4 @@
-"""The page by mouse events, for page.py: the way to a fault, the source pane, links, redo, the help, and that nothing moves."""
+"""Tests of the page with mouse events, for page.py: the way to a fault, the source pane, links, redo, the help, and that nothing moves."""
 import json, os
 
 from looks import EIGHTEEN
@@ -25,11 +25,11 @@ def button(name):
 
 
 def word(line, text, nth=0):
-    """The nth word of a line that has this text."""
+    """The nth word with this text on a line."""
     return f"[...document.querySelectorAll('#source .word')].filter(it => (it.dataset.key || '').startsWith('{line}:') && it.textContent === {json.dumps(text)})[{nth}]"
 
 
-# From the file as it opens the cause is three clicks away: 2* doubled the address. From a program that is pasted, four.
+# After opening the file, the cause is three clicks away: 2* doubled the address. After pasting a program, four.
 def to_the_cause(browser, ready, check):
     cause = [["000", 7], "2*", "take back 000 7: 12 events"]
     ready()
@@ -45,7 +45,7 @@ def to_the_cause(browser, ready, check):
     check(browser.run(NOW) == [["002", 7], "2*", "take back 002 7: 12 events"] and len(clicks) <= 6, f"the cause of a pasted program: {browser.run(NOW)}")
 
 
-# In the loop `dup dup drop` the steps of a word are those of each turn: cell 0 has `dup dup drop .`, cell 1 `main ;`, so a turn has seven.
+# In the loop `dup dup drop` a word has a step in each round. Cell 0 has `dup dup drop .`, cell 1 `main ;`, so a round has seven steps.
 def words(browser, ready, check):
     text = "node 000\n: main dup dup drop\nmain ; \\ dup\n"
     browser.run(f"page.open({json.dumps(text)}); page.command('run greedy 70')")
@@ -57,7 +57,7 @@ def words(browser, ready, check):
 
 
 def marks(browser, ready, check):
-    """Each step marks its word, also where the same word stands twice, and a step that came from no word marks none."""
+    """Each step marks its word, also if the same word occurs twice. A step that comes from no word marks none."""
     browser.run("page.open('node 000\\n: main dup dup drop\\n'); page.command('run greedy 6')")
     seen = []
     for k in range(1, 6):
@@ -67,11 +67,11 @@ def marks(browser, ready, check):
 
 
 def image(browser, ready, check):
-    """Of an image the listing, as `list` writes it of the same program; its slots are words."""
+    """The source pane of an image has the listing of the same program by `list`; its slots are words."""
     image = browser.run(f"const it = page.core.assemble({json.dumps(FAULT)}).image; page.open(it); page.command('run 300 until stop'); return page.core.list({json.dumps(FAULT)})")
     wanted = [row.split(" \\ ")[0] for row in image.splitlines() if not row.endswith(":")]
     rows = browser.run("return [...document.querySelectorAll('#source .line')].map(it => it.textContent)")
-    check(rows == wanted, f"the listing of an image: {rows} and not {wanted}")
+    check(rows == wanted, f"the listing of an image: {rows} instead of {wanted}")
     browser.click("[...document.querySelectorAll('#source .word')].filter(it => it.dataset.key === '000 3 0')[0]")
     check(browser.run(NOW)[:2] == [["000", 7], "2*"], f"a slot of an image: {browser.run(NOW)}")
 
@@ -89,13 +89,13 @@ def links(browser, ready, check):
     check(browser.run(NOW) == [["000", 9], "!b", "take back 000 9: 10 events"], f"a link to a step, twice: {browser.run(NOW)}")
     browser.click(link("000 main 6"))
     check(browser.run("return (document.querySelector('#source .marked') || {}).textContent") == "6: main right b! @b a! 7 !", "a link to a line")
-    # A head's numbers are no steps.
+    # Numbers in the first line of an answer are no steps.
     heads = browser.run("return ['kept 107 made 115 limit 1000000', 'removed 12 kept 103', 'idle 117', 'chain 100', 'made 101', 'mem 001 10 000000'].map(it => parts_of('x', it).filter(it => it.step).length)")
     check(heads == [0] * 6, f"numbers that are no steps: {heads}")
 
 
 def redo(browser, ready, check):
-    """Take back, redo, take back: each time the same chip; and after something else nothing is made again."""
+    """Rollback, redo, rollback: each gives the same chip. After another command, redo is disabled."""
     ready()
     dump = lambda: browser.run("return [page.session.ask(['dump'])[0].join('\\n'), page.session.events.length, find('take').textContent, find('redo').disabled]")
     browser.click(step(5))
@@ -104,8 +104,8 @@ def redo(browser, ready, check):
         browser.click(button(name))
         seen.append(dump())
     check(seen[0] == seen[2] == seen[4] and seen[1] == seen[3], f"take back and redo: {[it[1:] for it in seen]}")
-    check([it[1] for it in seen[:2]] == [175, 165] and seen[1][0] != seen[0][0] and not seen[1][3] and seen[2][3], f"what is taken back: {[it[1:] for it in seen]}")
-    # Two after one another come back one after another; a second click at the same place takes back.
+    check([it[1] for it in seen[:2]] == [175, 165] and seen[1][0] != seen[0][0] and not seen[1][3] and seen[2][3], f"a rollback: {[it[1:] for it in seen]}")
+    # Two rollbacks are redone one after the other. A second click at the same place makes the rollback.
     browser.click(step(8))
     browser.click(step(8))
     browser.click(button("back"))
@@ -121,14 +121,14 @@ def redo(browser, ready, check):
     check(browser.run(f"const it = page.session.ask(['dump'])[0].join(); page.open({json.dumps(text)}); return it === page.session.ask(['dump'])[0].join()"), "a session's text after redo gives another chip")
 
 
-def asked(browser, ready, check):
-    """What is asked by button, and answered as the core answers."""
+def queries(browser, ready, check):
+    """The query buttons show the answers of the core."""
     ready()
     browser.click(LAST_STEP)
     for name, line in (("whence", "whence 001 10"), ("because", "because 001 10 5"), ("who", "who"), ("effects", "effects 001 10")):
         browser.click(button(name))
-        said, wanted = browser.run(f"return [find('log').lastChild.textContent, '> {line}\\n' + page.session.ask(['{line}'])[0].map(it => it + '\\n').join('')]")
-        check(said == wanted, f"the button {name}: {said}")
+        shown, wanted = browser.run(f"return [find('log').lastChild.textContent, '> {line}\\n' + page.session.ask(['{line}'])[0].map(it => it + '\\n').join('')]")
+        check(shown == wanted, f"the button {name}: {shown}")
     browser.click("document.querySelectorAll('#memory div')[2]")
     check(browser.run("return find('log').lastChild.textContent") == "> writes 001 02\n", "who wrote a cell")
     browser.click(button("races"))
@@ -139,14 +139,14 @@ def asked(browser, ready, check):
 def helped(browser, ready, check):
     ready()
     browser.click(button("help"))
-    said = browser.run("""
+    result = browser.run("""
 const answer = page.session.ask(["help"])[0], names = answer.filter(it => /^[a-z]/.test(it)).map(it => it.split(" ")[0]), rows = [...document.querySelectorAll("#helptext #commands ~ table tr")];
 return [document.querySelectorAll("#helptext h3").length, names.join() === rows.map(it => it.querySelector("th").textContent.split(" ")[0]).join(), rows.every(it => it.children.length === 2 && it.children[1].textContent), names.length];""")
-    check(said[0] >= 6 and said[1:3] == [True, True] and said[3] > 15, f"the help: {said}")
+    check(result[0] >= 6 and result[1:3] == [True, True] and result[3] > 15, f"the help: {result}")
     browser.click("document.querySelector('#keys button')")
 
 
-# Where all is that has to stay: the parts of the page, the buttons, the chip's cells with their text, and the rows by what they are.
+# The boxes of everything that must not move: the parts of the page, the buttons, the chip's cells with their text, and the rows by content.
 PLACES = """
 const boxes = {}, put = (key, it) => { const { left, top, width, height } = it.getBoundingClientRect(); boxes[key] = [left, top, width, height].join(); };
 for (const it of document.querySelectorAll("header, header *, #bar, #bar button, #status, section, section h2, section h3, #chip, #time, #timebox, #node > div, #source, #memory, #trace, #log, #line")) put(`${it.tagName} ${it.id} ${[...it.parentNode.children].indexOf(it)} ${it.closest("section, header, #bar").id}`, it);
@@ -160,10 +160,10 @@ return [boxes, page.chosen, page.selected];
 
 
 def stays(browser, ready, check, width, height):
-    """Nothing that is still there is elsewhere after a click that chooses a step or a node: not by a pixel."""
+    """A click that chooses a step or a node moves no remaining element, not by a pixel."""
     browser.size(width, height)
     ready()
-    # (Where the page itself is scrolled, all is clicked that needs no further scrolling.)
+    # The script scrolls to an element before it takes the boxes, so that the click needs no scrolling.
     before, _, _ = browser.run(PLACES)
     moves, chosen = [], []
     clicks = [step(5), step(7), step(10), "find('n000')", step(3), step(11), "find('n200')", "find('n305')", "find('n000')", word(6, "@b"), word(4, "2*")]
@@ -176,35 +176,35 @@ def stays(browser, ready, check, width, height):
         moves += [(at, it, before[it], after[it]) for it in before if it in after and before[it] != after[it]]
         if browser.run("return window.scrollY") != top:
             moves.append((at, "the page", top))
-    check(not moves, f"what moves at {width}: {len(moves)}, {moves[:4]}")
+    check(not moves, f"elements that move at width {width}: {len(moves)}, {moves[:4]}")
     steps = [["001", 5], ["001", 7], ["001", 10], ["001", 10], ["000", 3], ["000", 11], ["000", 11], ["000", 11], ["000", 11], ["001", 4], ["000", 7]]
-    check([it for it, _ in chosen] == steps, f"what was chosen at {width}: {chosen}")
+    check([it for it, _ in chosen] == steps, f"the chosen steps and nodes at width {width}: {chosen}")
     browser.size(1280, 720)
 
 
 def many_events(browser, check):
-    """At 10^5 events a click that chooses a step, a node or a word is answered soon, and the row is where it was. Of three tries each
-    the fastest counts, and the bound is greater where a mere run of the session takes long, since others use the machine too."""
+    """With 10^5 events, a click that chooses a step, a node or a word is fast, and the row doesn't move. The fastest of three tries counts. The
+    bound is larger if a run of the session takes long, since the machine may be loaded."""
     browser.run(f"page.open({json.dumps(EIGHTEEN)}); page.command('run 100000')")
     clicks = ["find('n007')", "find('n000')", step(6930), step(6928), word(3, "dup"), word(3, "dup"), step(6), step(12)]
-    took, run = [[] for _ in clicks], []
+    durations, run = [[] for _ in clicks], []
     for _ in range(3):
         browser.run("page.forget(); page.session.places.forget(); page.draw()")
         run.append(browser.run("const then = performance.now(); page.core.answer(page.session.text, 1000000); return performance.now() - then"))
-        for at, times in zip(clicks, took):
+        for at, times in zip(clicks, durations):
             before = browser.run(PLACES)[0]
             times.append(browser.click(at))
             after = browser.run(PLACES)[0]
             moved = [it for it in before if it in after and before[it] != after[it]] if "#trace" in at else []
-            check(not moved, f"what moves at 10^5 events: {moved[:4]}")
-    check(browser.run("return page.chosen") == ["000", 12], f"chosen among many: {browser.run('return page.chosen')}")
-    fastest = [min(it) for it in took]
+            check(not moved, f"elements that move at 10^5 events: {moved[:4]}")
+    check(browser.run("return page.chosen") == ["000", 12], f"the chosen step of many: {browser.run('return page.chosen')}")
+    fastest = [min(it) for it in durations]
     check(max(fastest) < max(MOST_MS, MOST_RUNS * min(run)), f"clicks at 10^5 events: {[round(it) for it in fastest]} ms, where a run takes {min(run):.0f}")
     return max(fastest)
 
 
-def tried(browser, ready, check):
-    for it in (to_the_cause, marks, image, links, redo, asked, helped):
+def run_all(browser, ready, check):
+    for it in (to_the_cause, marks, image, links, redo, queries, helped):
         it(browser, ready, check)
     _, seen = words(browser, ready, check)
     wanted = [[2, "dup: 1 of 10 steps", "dup"], [9, "dup: 2 of 10 steps", "dup"], [3, "dup: 1 of 10 steps", "dup"], [4, "drop: 1 of 10 steps", "drop"], [7, "main: 1 of 10 steps", "jump"], [7, ":: no step", "jump"]]

@@ -1,16 +1,15 @@
 #!/usr/bin/env python3
-"""Tests page/out/ga144.html in a headless browser: page.py [SHOTS], where SHOTS is a folder for pictures, and times are told then.
+"""Tests page/out/ga144.html in a headless browser: page.py [SHOTS]. With SHOTS, a folder, it also takes screenshots and measures times.
 
-1. examples/*, sessions/*, those of exploring and generated sessions, whose answers are known, and generated sources, whose image, faults and listing
-   the second reading in model/ tells: byte for byte, by the page's own calls.
-2. Clicks at random. What the page says will go has to be what goes, the chip of its preview the chip then, its causes those that
-   `why` tells, and at the end the session that it keeps has to give its chip anew: in the page, and in the program where `rt ci`
-   left one.
-3. Runs in each order and up to a condition, who waits for whom, what a rollback would take, the words of a link and the other way of
-   a race, each as the core answers it to its line.
-4. By mouse events: the way to a fault in few clicks, words and steps, links, redo, and rows that stay (mouse.py).
-5. Source lines as worked by hand, keys, the session in the address, refused texts and addresses, ends of lines, a small heap:
-   `no 4 memory`, and the session goes on.
+1. The page's core answers the sessions of examples/, sessions/ and sessions/explore/ and generated ones as expected, and assembles and lists
+   generated sources like the reference model in model/, byte for byte.
+2. Random clicks. A rollback must remove the events that the page announces, the chip must be that of the preview, and the causes those of
+   `why`. At the end, the session's text must give the same chip again: in the page, and in the program if `rt ci` built one.
+3. Runs in each order and until a condition, waits, effects of a rollback, words of a link, and the alternative of a race: each answer is that
+   of the core (runs.py).
+4. Mouse events: the way to a fault in few clicks, words and steps, links, redo, and rows that don't move (mouse.py).
+5. Source lines worked out by hand, keys, the session in the address, refused texts and addresses, ends of lines, and small heaps: after
+   `no 4 memory` the session continues.
 """
 import base64, json, os, random, re, subprocess, sys, tempfile, time, zlib
 
@@ -44,13 +43,13 @@ def ready(browser, address):
     until = time.time() + 20
     while browser.run("return document.title") != "GA144: ready":
         if time.time() > until:
-            sys.exit("page: it never got ready: " + str(browser.run("return document.getElementById('status').textContent")))
+            sys.exit("page: not ready in time: " + str(browser.run("return document.getElementById('status').textContent")))
         time.sleep(0.02)
 
 
 def cases(room):
     subprocess.run([sys.executable, "-B", f"{TOP}/model/sessions.py", "--write", room, "0", str(SESSIONS)], check=True, stdout=subprocess.DEVNULL)
-    # (Each with the limit that the program has there unless it is given one.)
+    # each with the default limit of its command
     limits = {f"{TOP}/examples": 1000000, f"{TOP}/sessions": 1000000, f"{TOP}/sessions/explore": 20000000, room: 1000000}
     for folder, limit in limits.items():
         for name in sorted(os.listdir(folder)):
@@ -63,30 +62,30 @@ def bytes_of(text):
     return f"Uint8Array.from({json.dumps(text)}, it => it.charCodeAt(0))"
 
 
-# The session opened as a person opens it: its chip is that of the whole session, and each event that it draws is kept.
+# Opens a session in the page: its chip must be that of the whole session, and each drawn event must be in the history.
 OPENED = """
 const text = %s, whole = page.core.answer(text.replace(/^quit(\\n|$)/m, "\\0").split("\\0")[0].replace(/\\n?$/, "\\n") + "dump\\n", 1000000);
 if (!page.open(text)) return "refused";
-const told = new Set();
-for (const n of NAMES) for (const line of page.session.ask(["trace " + n])[0].slice(1)) told.add(line);
+const traced = new Set();
+for (const n of NAMES) for (const line of page.session.ask(["trace " + n])[0].slice(1)) traced.add(line);
 const kept = page.core.kept(page.session.load + page.session.commands, 1000000) || [];
 if (Array.from(kept, n => "step " + NAMES[n]).join() !== saved(page.session.events).join()) return "other events";
-return [whole.endsWith("\\n" + page.session.ask(["dump"])[0].join("\\n") + "\\n"), told.size === page.session.events.length && page.session.events.every(it => told.has(it.text))];
+return [whole.endsWith("\\n" + page.session.ask(["dump"])[0].join("\\n") + "\\n"), traced.size === page.session.events.length && page.session.events.every(it => traced.has(it.text))];
 """
 
 
 def conformance(browser):
     count = 0
     with tempfile.TemporaryDirectory() as room:
-        for name, asked, wanted, limit in cases(room):
-            # (To a line that is no command the page says besides what to write, which `debug` doesn't.)
-            said = browser.run(f"return page.core.answer({bytes_of(asked)}, {limit})")
-            check(wanted in (said, re.sub("^(no 31 syntax): .*$", r"\1", said, flags=re.M)), f"{name} is answered otherwise")
+        for name, typed, wanted, limit in cases(room):
+            # For a line that is no command, the page's answer also has the syntax; that of `debug` does not.
+            output = browser.run(f"return page.core.answer({bytes_of(typed)}, {limit})")
+            check(wanted in (output, re.sub("^(no 31 syntax): .*$", r"\1", output, flags=re.M)), f"{name}: other answers")
             if wanted.startswith("ready\n") and "no 4 memory" not in wanted:
-                opened = browser.run(OPENED % json.dumps(asked))
-                check(opened == [True, True], f"{name} is opened otherwise: {opened}")
+                opened = browser.run(OPENED % json.dumps(typed))
+                check(opened == [True, True], f"{name}: opened with another chip or history: {opened}")
             count += 1
-    check(count >= 120, f"{count} sessions only")
+    check(count >= 120, f"only {count} sessions")
     return count
 
 
@@ -97,9 +96,9 @@ def sources(browser):
             with open(f"{TOP}/sources/{name}", encoding="latin1") as it:
                 texts.append(it.read())
     for at, text in enumerate(texts):
-        image, told, _ = asm(text)
+        image, messages, _ = asm(text)
         got = browser.run(f"const it = {bytes_of(text)}, made = page.core.assemble(it); return [made.image, made.told, page.core.list(it)]")
-        check(got == [image, told, listed(text)[0]], f"source {at} is assembled otherwise: {got} and not {[image, told]}")
+        check(got == [image, messages, listed(text)[0]], f"source {at}: {got} instead of {[image, messages]}")
     return len(texts)
 
 
@@ -117,22 +116,22 @@ const said = page.said, nodes = JSON.stringify(page.then), button = document.get
 const firsts = Object.fromEntries(rows.map(row => row.split(' ').slice(0, 2))), effects = head === `effects ${goes} ${rows.length}` && page.session.events.every(e => e.ends.every(([n, k]) => (k >= firsts[n]) === (marks[e.place] === 2)));
 if (!%s) return { goes, said, button, causes, effects, colours };
 document.getElementById('take').click();
-const left = page.session.events.map(e => e.text), told = new Set();
-for (const n of NAMES) for (const line of page.session.ask(['trace ' + n])[0].slice(1)) told.add(line);
-return { goes, said, button, causes, effects, colours, same: JSON.stringify(stay) === JSON.stringify(left), told: told.size === new Set(left).size && left.every(e => told.has(e)),
+const left = page.session.events.map(e => e.text), traced = new Set();
+for (const n of NAMES) for (const line of page.session.ask(['trace ' + n])[0].slice(1)) traced.add(line);
+return { goes, said, button, causes, effects, colours, same: JSON.stringify(stay) === JSON.stringify(left), traced: traced.size === new Set(left).size && left.every(e => traced.has(e)),
     chip: JSON.stringify(page.seen.nodes) === nodes, logged: document.getElementById('log').textContent };
 """
 
 
 def choose(browser, name, dice, events, take):
     others = [dice.randrange(events) for _ in range(WHYS)]
-    said = browser.run(CHOOSE % (dice.randrange(events), dice.randrange(2), json.dumps(others), json.dumps(take)))
-    check(said["said"].startswith(f"removed {said['goes']} kept ") and said["button"].endswith(f": {said['goes']} event{'s' * (said['goes'] != 1)}"), f"{name}: {said}")
-    check(said["causes"], f"{name}: other causes than why tells: {said}")
-    check(said["colours"], f"{name}: other colours than what goes and what led to it: {said}")
-    check(said["effects"], f"{name}: effects tells otherwise what goes: {said}")
+    outcome = browser.run(CHOOSE % (dice.randrange(events), dice.randrange(2), json.dumps(others), json.dumps(take)))
+    check(outcome["said"].startswith(f"removed {outcome['goes']} kept ") and outcome["button"].endswith(f": {outcome['goes']} event{'s' * (outcome['goes'] != 1)}"), f"{name}: {outcome}")
+    check(outcome["causes"], f"{name}: other causes than those of why: {outcome}")
+    check(outcome["colours"], f"{name}: wrong colours of causes or removed events: {outcome}")
+    check(outcome["effects"], f"{name}: effects has other removed events: {outcome}")
     if take:
-        check(said["same"] and said["told"] and said["chip"] and said["logged"].endswith(said["said"] + "\n"), f"{name}: taken back otherwise: {said}")
+        check(outcome["same"] and outcome["traced"] and outcome["chip"] and outcome["logged"].endswith(outcome["said"] + "\n"), f"{name}: another result of the rollback: {outcome}")
 
 
 def clicks(browser, name, dice):
@@ -155,44 +154,44 @@ def clicks(browser, name, dice):
             taken += what == "take"
             choose(browser, name, dice, events, what == "take")
         count = browser.run("return [page.session.events.length, page.seen.count, page.session.ask(NAMES.map(n => 'trace ' + n)).every(([it]) => (page.session.steps[it.split(' ')[1]] || 0) === +it.split(' ')[2])]")
-        check(count[1].startswith(f"kept {count[0]} made ") and count[2], f"{name}: the page draws {count[0]}, the session says {count[1]}")
+        check(count[1].startswith(f"kept {count[0]} made ") and count[2], f"{name}: the page draws {count[0]} events, the session has {count[1]}")
     text, commands, script, said, dump = browser.run("return [page.session.text, page.session.image + page.session.commands, page.session.script, page.session.said, page.session.ask(['dump'])[0].join('\\n') + '\\n']")
-    check(browser.run(f"return page.core.answer({json.dumps(commands + 'dump' + chr(10))}, 1000000)") == said + dump, f"{name}: its session gives another chip")
-    check(browser.run(f"page.open({json.dumps(text)}); return page.session.ask(['dump'])[0].join('\\n') + '\\n'") == dump, f"{name}: its text gives another chip")
-    check(browser.run(f"return page.core.answer({json.dumps(script + 'dump' + chr(10))}, 1000000)").endswith("\n" + dump), f"{name}: for debug it gives another chip")
+    check(browser.run(f"return page.core.answer({json.dumps(commands + 'dump' + chr(10))}, 1000000)") == said + dump, f"{name}: the session's commands give another chip")
+    check(browser.run(f"page.open({json.dumps(text)}); return page.session.ask(['dump'])[0].join('\\n') + '\\n'") == dump, f"{name}: the session's text gives another chip")
+    check(browser.run(f"return page.core.answer({json.dumps(script + 'dump' + chr(10))}, 1000000)").endswith("\n" + dump), f"{name}: the session's script for debug gives another chip")
     if os.path.exists(PROGRAM):
         for mode, asked in (("explore", commands), ("debug", script)):
             ran = subprocess.run([PROGRAM, mode], input=(asked + "dump\n").encode(), capture_output=True).stdout.decode()
-            check(ran == said + dump if mode == "explore" else ran.endswith("\n" + dump), f"{name}: the program's {mode} answers its session otherwise")
+            check(ran == said + dump if mode == "explore" else ran.endswith("\n" + dump), f"{name}: the program's {mode} has other answers")
     return taken
 
 
-# `@p dup + .` stands in cell 0 and its literal in cell 1, so the fetch of step 6 is of cell 2, which no source names.
+# `@p dup + .` is in cell 0 and its literal in cell 1, so step 6 fetches cell 2, which comes from no source.
 def source_lines(browser):
-    said = browser.run("""
+    result = browser.run("""
 page.open("node 000\\n: main 3 dup +\\n");
 for (let i = 0; i < 6; i++) page.command("step 000");
 const rows = [...document.querySelectorAll("#trace .step .source")].map(it => it.textContent);
 page.forget(); page.open("node 000\\n: main 3 dup +\\n");
 return { rows, here: find("node").querySelector(".source").textContent, text: page.session.text };""")
-    check(said == {"rows": ["2 3", "2 3", "2 dup", "2 +", "2 +", ""], "here": "main : main 3 dup +", "text": "node 000\n: main 3 dup +\nend\n"}, f"source lines: {said}")
-    said = browser.run("""
+    check(result == {"rows": ["2 3", "2 3", "2 dup", "2 +", "2 +", ""], "here": "main : main 3 dup +", "text": "node 000\n: main 3 dup +\nend\n"}, f"source lines: {result}")
+    result = browser.run("""
 const opened = page.open("node 000\\n: main foo\\n"), box = find("text");
 return [opened, find("log").textContent, box.value.slice(box.selectionStart, box.selectionEnd), page.session.text];""")
-    check(said[:3] == [False, "> source\nga144: line 2: what is foo\n", ": main foo"] and said[3].startswith("node 000\n: main 3"), f"a refused source: {said}")
-    # Eight steps a turn: a fetch and four opcodes of cell 0, a fetch and two opcodes of cell 1; at each the word's column.
-    said = browser.run("""
+    check(result[:3] == [False, "> source\nga144: line 2: what is foo\n", ": main foo"] and result[3].startswith("node 000\n: main 3"), f"a refused source: {result}")
+    # Eight steps a round: a fetch and four opcodes of cell 0, a fetch and two opcodes of cell 1; each with the word's column.
+    result = browser.run("""
 page.open("node 000\\n: main dup dup dup dup drop main ;\\n"); page.command("run greedy 400"); page.choose(["000", 150]);
 return [...document.querySelectorAll("#trace .step")].map(it => [+it.dataset.k, page.session.places.row("000", +it.dataset.k)]).map(([k, it]) => [k, it.place.cell, it.key, it.place.label]);""")
     turn = [[0, "2:8"], [0, "2:8"], [0, "2:12"], [0, "2:16"], [0, "2:20"], [1, "2:24"], [1, "2:24"], [1, "2:29"]]
-    check(len(said) > 9 and all(row == [row[0], *turn[(row[0] - 1) % 8], "main"] for row in said), f"source lines of a loop: {said}")
-    said = browser.run("page.open('ga144 1\\nnode 000\\np 000000\\nend\\nstep 000\\nquit\\nstep 000\\n'); return page.session.events.map(it => it.text)")
-    check(said == ["000 1 fetch"], f"behind quit: {said}")
+    check(len(result) > 9 and all(row == [row[0], *turn[(row[0] - 1) % 8], "main"] for row in result), f"source lines of a loop: {result}")
+    result = browser.run("page.open('ga144 1\\nnode 000\\np 000000\\nend\\nstep 000\\nquit\\nstep 000\\n'); return page.session.events.map(it => it.text)")
+    check(result == ["000 1 fetch"], f"after quit: {result}")
     browser.run("document.activeElement.blur(); find('examples').value = 'first.f18'; find('examples').onchange()")
 
 
 def keys(browser):
-    said = browser.run("""
+    result = browser.run("""
 const press = key => document.body.dispatchEvent(new KeyboardEvent("keydown", { key, bubbles: true })), counts = [], count = () => counts.push(page.session.events.length);
 page.open("node 000\\n: main right b! 42 !b\\nnode 001\\n: main right b! @b\\n");
 press("s"); count(); press("r"); count(); press("b"); count();
@@ -205,10 +204,10 @@ press("n"); find("most").value = 143; find("most").dispatchEvent(new KeyboardEve
 find("examples").focus(); const there = document.activeElement.id; find("examples").onchange(); const free = document.activeElement === document.body;
 const wide = page.picture.wide; press("+"); const near = page.picture.wide; press("0");
 return { counts, first, second, third, none, across, reader, beside, above, zoomed: near < wide, kept, there, free };""")
-    counts = said.pop("counts")
+    counts = result.pop("counts")
     check(counts[:3] == [1, 3, 2] and counts[4] < counts[3] and counts[5] == counts[4] + 143, f"keys: {counts}")
-    wanted = {"first": ["000", 1], "second": ["000", 2], "third": ["000", 1], "none": None, "across": said["reader"], "beside": "002", "above": "102", "zoomed": True, "kept": False, "there": "examples", "free": True}
-    check({it: said[it] for it in wanted} == wanted, f"keys: {said}")
+    wanted = {"first": ["000", 1], "second": ["000", 2], "third": ["000", 1], "none": None, "across": result["reader"], "beside": "002", "above": "102", "zoomed": True, "kept": False, "there": "examples", "free": True}
+    check({it: result[it] for it in wanted} == wanted, f"keys: {result}")
 
 
 def address(browser):
@@ -228,42 +227,42 @@ def packed(text):
     return "#z," + base64.urlsafe_b64encode(packer.compress(text) + packer.flush()).decode().rstrip("=")
 
 
-# Long texts and addresses that are refused or hold no session are told soon; behind an address the example stays.
+# The errors of long texts, and of addresses without a session, appear soon; after a wrong address the page shows the example.
 def refusals(browser):
     for head, lines, why in (("", 500000, "ga144: line 1: no node has begun"), ("ga144 1\n", 4000000, "no 12 line line 2")):
-        told, took = browser.run(f"const text = {json.dumps(head)} + 'foo\\n'.repeat({lines}), then = performance.now(), opened = page.open(text); return [[opened, find('status').textContent], performance.now() - then]")
-        check(told == [False, why] and took < 5000, f"a refused text of {lines} lines: {told} in {took} ms, and not {why}")
+        result, took = browser.run(f"const text = {json.dumps(head)} + 'foo\\n'.repeat({lines}), then = performance.now(), opened = page.open(text); return [[opened, find('status').textContent], performance.now() - then]")
+        check(result == [False, why] and took < 5000, f"a refused text of {lines} lines: {result} in {took} ms instead of {why}")
     none, long = "the address holds no session", "ga144: the source has more than 16777216 bytes"
     links = {"#node%20000%0Afoo": "ga144: line 2: what is foo", "#z,!!!!": none, "#%": none, packed(b"\n" * (17 << 20)): long, packed(b"\n" * (40 << 20)): none}
     for link, why in links.items():
         began = time.time()
         ready(browser, PAGE + link)
-        told = browser.run("return [find('status').textContent, find('log').textContent.split('> ').pop(), page.session.events.length]")
-        check(told[0] == why and told[1].endswith(why + "\n") and told[2] == 175 and time.time() - began < 10, f"the address {link[:30]}: {told}, and not {why}")
+        result = browser.run("return [find('status').textContent, find('log').textContent.split('> ').pop(), page.session.events.length]")
+        check(result[0] == why and result[1].endswith(why + "\n") and result[2] == 175 and time.time() - began < 10, f"the address {link[:30]}: {result} instead of {why}")
     ready(browser, PAGE)
 
 
-# Lines end with a line feed alone, as in the core: what JavaScript takes for an end of a line besides is text of a remark.
+# Only a line feed ends a line, as in the core. Other line terminators of JavaScript are text of a comment.
 def ends_of_lines(browser):
     for end in ("\r", "\u2028", "\u2029"):
-        said = browser.run(f"page.open({json.dumps(f'node 000 : main {chr(92)} x{end}end{end}y' + chr(10) + 'dup' + chr(10))}); return [page.command('step 000'), page.session.load, find('trace').textContent]")
-        check(said[0] == ["000 1 fetch"] and said[1].endswith("y\ndup\nend\n"), f"an end of a line {end!r}: {said}")
+        result = browser.run(f"page.open({json.dumps(f'node 000 : main {chr(92)} x{end}end{end}y' + chr(10) + 'dup' + chr(10))}); return [page.command('step 000'), page.session.load, find('trace').textContent]")
+        check(result[0] == ["000 1 fetch"] and result[1].endswith("y\ndup\nend\n"), f"an end of a line {end!r}: {result}")
 
 
 def widths(browser):
     for width, height in ((1280, 720), (390, 800)):
         browser.size(width, height)
         wide = browser.run("page.draw(); return Math.max(document.documentElement.scrollWidth, document.body.scrollWidth)")
-        check(wide <= width, f"{wide} wide at {width}")
+        check(wide <= width, f"the page is {wide} wide at width {width}")
     browser.size(1280, 720)
 
 
 def small_heap(browser):
-    said = browser.run(f"""
+    result = browser.run(f"""
 const small = new Page(new Core(Uint8Array.from(atob(find('module').textContent), it => it.charCodeAt(0)), 6 << 20));
 small.open({json.dumps(LOOP)});
 const ran = small.command("run greedy 400000"), first = small.session.events.length;
-// Then by steps as far as there is memory for them.
+// Then steps until there is no more memory.
 for (const batch of [5000, 500, 50, 1]) for (let at = 0; at < 100; at++) {{
   const before = small.session.events.length;
   small.session.step(Array(batch).fill("step 000"), small.session.questions("000"));
@@ -273,14 +272,14 @@ const made = small.session.events.length, step = small.command('step 000'), coun
 const kept = small.session.events.length;
 page.open(JSON.parse(find('sessions').textContent).fault);
 return {{ ran, first, made, step, count, back, again, node, kept, log: document.getElementById('log').textContent }};""")
-    check(said["ran"][-1] == "no 4 memory" and said["first"] > 1000 and said["step"][0].startswith("no 4 memory") and said["count"].startswith(f"kept {said['made']} "), f"a small heap: {said}")
-    check(said["back"] == [f"removed 1 kept {said['made'] - 1}"] and said["node"].startswith("node 000 run "), f"a small heap, then: {said}")
-    return said["made"]
+    check(result["ran"][-1] == "no 4 memory" and result["first"] > 1000 and result["step"][0].startswith("no 4 memory") and result["count"].startswith(f"kept {result['made']} "), f"a small heap: {result}")
+    check(result["back"] == [f"removed 1 kept {result['made'] - 1}"] and result["node"].startswith("node 000 run "), f"a small heap, then: {result}")
+    return result["made"]
 
 
-# Heaps of all sizes from none to enough: each call answers as with enough, or refuses for want of memory.
+# Heaps of all sizes from too small to large enough: each call gives the same answer as with a large heap, or runs out of memory.
 def every_heap(browser):
-    said = browser.run("""
+    result = browser.run("""
 const source = "node 000\\n: main 3 dup +\\nnode 001\\n: main 4 dup + ;\\n", bytes = Uint8Array.from(atob(find("module").textContent), it => it.charCodeAt(0));
 const ask = (core, image) => [core.assemble(source), core.list(source), core.shades(image, [0, 1, 0, 0, 1], 2), core.answer(image + "step 000\\nnode 000\\n", 9), core.kept(image + "run 40\\n", 90),
   core.answer(image + "run greedy 900\\n" + "trace 000\\n".repeat(9), 999)];
@@ -290,13 +289,13 @@ for (let size = 1 << 20; size < 1 << 22; size += 1 << 14) {
   ask(core, image).forEach((it, i) => {
     if (JSON.stringify(it) === enough[i]) counts[i][0]++;
     else if (it === null || it === "" || (it.image === "" && it.told.endsWith("memory\\n")) || it === "no 19 memory line 0\\n" || (i === 3 && it.startsWith("ready\\nno 4 memory: "))
-      // (An answer that is cut is no answer.)
+      // An incomplete answer counts as a refusal.
       || (i === 5 && /^(memory \\d+|no 4 memory): /m.test(it))) counts[i][1]++;
     else other.push([size, i, it]);
   });
 }
 return [counts, other];""")
-    check(not said[1] and all(right > 9 and refused > 3 for right, refused in said[0]), f"heaps of all sizes: {said}")
+    check(not result[1] and all(right > 9 and refused > 3 for right, refused in result[0]), f"heaps of all sizes: {result}")
 
 
 def exceptions(browser):
@@ -313,8 +312,8 @@ def main():
         dice, taken = random.Random(7), 0
         for name in browser.run("return [...document.getElementById('examples').options].map(it => it.value).filter(it => it)"):
             taken += clicks(browser, name, dice)
-        for tried in (until_stop, orders, whence, races, shown, from_afar):
-            tried(browser, check)
+        for test in (until_stop, orders, whence, races, shown, from_afar):
+            test(browser, check)
         source_lines(browser)
         keys(browser)
         address(browser)
@@ -328,12 +327,12 @@ def main():
             commands(browser)
             shots(browser, sys.argv[1])
         exceptions(browser)
-    # (In a browser of their own, as a visitor opens the page.)
+    # in a new browser, as for a visitor
     with Browser(size=(1280, 720)) as browser:
-        slowest = mouse.tried(browser, lambda: ready(browser, PAGE), check)
+        slowest = mouse.run_all(browser, lambda: ready(browser, PAGE), check)
         exceptions(browser)
     check(os.path.getsize(f"{TOP}/page/out/ga144.html") < 900000, "the page has 900 KB or more")
-    print(f"page: ready after {began:.2f} s; {compared} sessions and {assembled} sources answered alike; {taken} steps taken back; no memory at {made} events; the slowest click at 10^5 events {slowest:.0f} ms; {len(faults)} faults")
+    print(f"page: ready after {began:.2f} s; {compared} sessions and {assembled} sources agree; {taken} rollbacks; out of memory at {made} events; the slowest click at 10^5 events {slowest:.0f} ms; {len(faults)} faults")
     sys.exit(bool(faults))
 
 

@@ -1,4 +1,4 @@
-"""What the page asks of exploring, for page.py: runs up to a condition, who waits for whom, what a rollback would take, words, races."""
+"""Tests of the page's queries, for page.py: runs until a condition, waits, effects of a rollback, words of a link, races."""
 import json, os
 
 TOP = os.path.dirname(os.path.dirname(os.path.dirname(os.path.abspath(__file__))))
@@ -7,31 +7,31 @@ with open(f"{TOP}/sources/first_come.f18") as it:
 with open(f"{TOP}/examples/fault") as it:
     FAULT = json.dumps(it.read().split("end\n")[0] + "end\n")
 
-# The buttons, the fields and the keys, as a person uses them, from the order that is there at first. What is told last stands behind the
-# last `>` of the log.
+# Functions of the tests: the answer after the last `>` of the log, a key press, and the answer of the core to a line. The tests begin with the
+# order `rounds`.
 USED = """
 find("order").value = "rounds"; find("order").onchange();
-const told = () => find("log").textContent.split("> ").pop().split("\\n").slice(1, -1);
+const logged = () => find("log").textContent.split("> ").pop().split("\\n").slice(1, -1);
 const press = (key, at = document.body) => at.dispatchEvent(new KeyboardEvent("keydown", { key, bubbles: true }));
-const asked = line => { const it = page.core.answer(page.session.load + page.session.commands + line + "\\n", 1000000); return it.slice(page.session.said.length).split("\\n").slice(0, -1); };
+const query = line => { const it = page.core.answer(page.session.load + page.session.commands + line + "\\n", 1000000); return it.slice(page.session.said.length).split("\\n").slice(0, -1); };
 """
 
 
 def until_stop(browser, check):
-    said = browser.run(USED + """
+    result = browser.run(USED + """
 page.open(%s);
 press("u"); const there = document.activeElement.id;
 find("until").value = "stop"; press("Enter", find("until"));
-const reached = told(), free = document.activeElement === document.body, events = page.session.events.map(it => it.text), rows = page.core.answer(page.session.script, 1000000).split("\\n").slice(1, -1);
+const reached = logged(), free = document.activeElement === document.body, events = page.session.events.map(it => it.text), rows = page.core.answer(page.session.script, 1000000).split("\\n").slice(1, -1);
 const saved = page.session.ask(["save"])[0], script = page.session.script, commands = page.session.commands;
-find("who").click(); const who = told(), who_asked = asked("who");
-press("h"); const again = told();
+find("who").click(); const who = logged(), who_asked = query("who");
+press("h"); const again = logged();
 page.choose(["000", 7]); page.select("001"); page.select("000"); const note = find("chipnote").textContent, ready = !find("effects").disabled;
-find("effects").click(); const effects = told(), effects_asked = asked("effects 000 7");
-press("f"); const effects_again = told();
-page.forget(); page.choose(["001", 5]); find("words").click(); const words = told();
-page.forget(); page.select("000"); page.select("001"); press("y"); const words_again = told();
-page.forget(); page.choose(["000", 7]); press("t"); const taken = told(), left = page.session.events.length, kept = asked("count")[0];
+find("effects").click(); const effects = logged(), effects_asked = query("effects 000 7");
+press("f"); const effects_again = logged();
+page.forget(); page.choose(["001", 5]); find("words").click(); const words = logged();
+page.forget(); page.select("000"); page.select("001"); press("y"); const words_again = logged();
+page.forget(); page.choose(["000", 7]); press("t"); const taken = logged(), left = page.session.events.length, kept = query("count")[0];
 const text = page.session.text; page.open(text); const reopened = page.session.events.length;
 return { there, reached, free, last: events[events.length - 1], alike: JSON.stringify(events) === JSON.stringify(rows), saved: script.endsWith("end\\n" + saved.join("\\n") + "\\n"),
     commands, who, who_asked, again, note, ready, effects, effects_asked, effects_again, words, words_again, taken, left, kept, events: events.length, reopened };
@@ -41,48 +41,48 @@ return { there, reached, free, last: events[events.length - 1], alike: JSON.stri
         "commands": "run 100000 until stop\n", "ready": True, "note": "as it would be: 12 events of 2 nodes gone, from 000 7, 001 5",
         "words": ["words 000 001 1", "1 000 9 001 5 000150"], "taken": ["removed 12 kept 163"], "left": 163, "reopened": 163,
     }
-    check({it: said[it] for it in wanted} == wanted, f"run until stop: {said}")
-    check(said["kept"].startswith("kept 163 made 175 ") and said["words"] == said["words_again"], f"run until stop, then: {said}")
-    check(said["effects"] == said["effects_asked"] == said["effects_again"] and said["effects"][0] == "effects 12 2", f"effects: {said['effects']}")
-    check(said["who"] == said["who_asked"] == said["again"] and "000 reads r 001 stopped" in said["who"], f"who: {said['who']}")
+    check({it: result[it] for it in wanted} == wanted, f"run until stop: {result}")
+    check(result["kept"].startswith("kept 163 made 175 ") and result["words"] == result["words_again"], f"run until stop, then: {result}")
+    check(result["effects"] == result["effects_asked"] == result["effects_again"] and result["effects"][0] == "effects 12 2", f"effects: {result['effects']}")
+    check(result["who"] == result["who_asked"] == result["again"] and "000 reads r 001 stopped" in result["who"], f"who: {result['who']}")
 
 
 def orders(browser, check):
-    said = browser.run(USED + """
+    result = browser.run(USED + """
 page.open(%s);
-find("most").value = "60"; press("m"); const first = told();
-press("v"); find("run").click(); const second = told();
-press("v"); const seed = !find("seed").hidden; find("seed").value = "7"; press("Enter", find("seed")); const third = told();
+find("most").value = "60"; press("m"); const first = logged();
+press("v"); find("run").click(); const second = logged();
+press("v"); const seed = !find("seed").hidden; find("seed").value = "7"; press("Enter", find("seed")); const third = logged();
 press("v"); const back = find("order").value, none = find("seed").hidden;
-page.command("run 5 until foo"); const refused = told(), commands = page.session.commands, count = page.seen.count.split(" ")[1] == page.session.events.length;
-page.open("ga144 1\\nend\\n"); page.command("run"); const quiet = told();
+page.command("run 5 until foo"); const refused = logged(), commands = page.session.commands, count = page.seen.count.split(" ")[1] == page.session.events.length;
+page.open("ga144 1\\nend\\n"); page.command("run"); const quiet = logged();
 return { first, second, third, seed, back, none, refused, quiet, commands, count };
 """ % FAULT)
     wanted = {
         "first": ["made 60"], "second": ["made 60"], "third": ["made 60"], "seed": True, "back": "rounds", "none": True, "refused": ["no 31 syntax: run [greedy|random SEED] [N] [until COND]"], "quiet": ["quiet 144"],
         "commands": "run 60\nrun greedy 60\nrun random 7 60\n", "count": True,
     }
-    check({it: said[it] for it in wanted} == wanted, f"orders: {said}")
+    check({it: result[it] for it in wanted} == wanted, f"orders: {result}")
 
 
 def whence(browser, check):
-    """The button is there where the core knows the command, and shows its answer as it comes."""
-    said = browser.run(USED + """
+    """The button is visible if the core has the command, and shows its answer unchanged."""
+    result = browser.run(USED + """
 page.open(%s); const [reached] = page.command("run greedy until stop"); page.choose(["001", 10]);
-const answer = asked("whence 001 10"), before = told(); press("q");
-return { reached, answer, before, now: told(), hidden: find("whence").hidden };
+const answer = query("whence 001 10"), before = logged(); press("q");
+return { reached, answer, before, now: logged(), hidden: find("whence").hidden };
 """ % FAULT)
-    check(said["reached"] == "reached 18 001 10 stop 2", f"a greedy run: {said['reached']}")
-    unknown = said["answer"][0].startswith("no 31 ")
-    check(said["hidden"] == unknown and said["now"] == (said["before"] if unknown else said["answer"]), f"whence: {said}")
+    check(result["reached"] == "reached 18 001 10 stop 2", f"a greedy run: {result['reached']}")
+    unknown = result["answer"][0].startswith("no 31 ")
+    check(result["hidden"] == unknown and result["now"] == (result["before"] if unknown else result["answer"]), f"whence: {result}")
 
 
 def races(browser, check):
-    """Of a word that 101 takes from 100 or from 102, whichever comes first, the other way is shown, and then made; a step with no other way
-    has no mark."""
-    said = browser.run(USED + """
+    """101 takes a word from 100 or from 102, whichever comes first. The page shows the alternative, and then makes it. A step without an
+    alternative has no mark."""
+    result = browser.run(USED + """
 page.open(%s); page.command("run 300"); const before = find("racing").hidden, none = page.races.length;
-press("z"); const lines = asked("races").slice(1), rows = [...find("racing").children].map(it => it.textContent), marks = page.picture.turns.map(it => it[2].text);
+press("z"); const lines = query("races").slice(1), rows = [...find("racing").children].map(it => it.textContent), marks = page.picture.turns.map(it => it[2].text);
 const [x, y] = page.picture.turns[0], box = find("time").getBoundingClientRect(), at = { clientX: box.left + x, clientY: box.top + y, bubbles: true };
 const click = () => { for (const kind of ["pointerdown", "pointerup"]) find("time").dispatchEvent(new PointerEvent(kind, at)); };
 click(); const chip = JSON.stringify(page.then), goes = page.goes, note = find("chipnote").textContent, button = find("take").textContent, events = page.session.events.length;
@@ -94,7 +94,7 @@ return { before, none, lines, rows, marks, goes, note, button, events, log, made
     line, other = "101 5 takes 000005 from 100, or 000007 from 102: rewind 101 5, step 102", "101 5 takes 000007 from 102, or 000005 from 100: rewind 101 5, step 100"
     wanted = {
         "before": True, "none": 0, "lines": [line], "rows": [line], "marks": [line], "button": "or 000007 from 102", "made": True, "other": [other], "chosen": ["101", 5], "again": True, "after": [True, 0],
-        "log": ["> rewind 101 5", f"removed {said['goes']} kept {said['events'] - said['goes']}", "> step 102", "pass 102 8 101 5 000007"],
+        "log": ["> rewind 101 5", f"removed {result['goes']} kept {result['events'] - result['goes']}", "> step 102", "pass 102 8 101 5 000007"],
     }
-    check({it: said[it] for it in wanted} == wanted, f"races: {said}")
-    check(said["left"] == said["events"] - said["goes"] + 1 and said["note"].endswith(", then pass 102 8 101 5 000007"), f"a race: {said}")
+    check({it: result[it] for it in wanted} == wanted, f"races: {result}")
+    check(result["left"] == result["events"] - result["goes"] + 1 and result["note"].endswith(", then pass 102 8 101 5 000007"), f"a race: {result}")
