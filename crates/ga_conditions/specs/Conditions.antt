@@ -16,25 +16,25 @@ use Rattle.ga_scheduler.specs.declared.condition.Condition.TheVariants.{Never, P
 use Rattle.ga_debug_info.specs.declared.notes.DebugInfo.{DebugInfo}
 use Rattle.ga_debug_info.specs.declared.notes.LabelAddress.{LabelAddress}
 use Rattle.ga_debug_info.specs.Notes.{line_address, address_of}
-use Rattle.ga_conditions.specs.Numbers.{in_word, hex_word_in, operand_in, or_else}
+use Rattle.ga_conditions.specs.Numbers.{in_word, hex_word_in, operand_in, or_operand}
 use Rattle.ga_conditions.specs.Tests.{comparison_in, test_in}
 
 -- ---- a condition: `reach` and `change` hold only at the event that makes it so
 
 -- the labels of a program, where there is source
-abbrev pub names_in : Option DebugInfo → List LabelAddress
-names_in None = []
-names_in (Some notes) = notes.names.items
+abbrev pub labels_in : Option DebugInfo → List LabelAddress
+labels_in None = []
+labels_in (Some notes) = notes.names.items
 
 -- a number that is a word
-abbrev pub word_in : List LabelAddress → NodeId → Line → Option ℕ
-word_in names node text = option_and_then in_word (operand_in names node text)
+abbrev pub operand_word_in : List LabelAddress → NodeId → Line → Option ℕ
+operand_word_in names node text = option_and_then in_word (operand_in names node text)
 
 -- `= NUMBER`
 unfoldable pub word_equal_in : List LabelAddress → NodeId → Line → Option ℕ
 word_equal_in names node text = do
   parts ← split_at_space text
-  if pointwise nat_eq parts.0 (codes "=") then word_in names node parts.1 else None
+  if pointwise nat_eq parts.0 (codes "=") then operand_word_in names node parts.1 else None
 
 -- the test, if its number is a word or counts steps
 abbrev pub possible_test : ValueTest → Option ValueTest
@@ -43,7 +43,7 @@ possible_test test = if is_possible test then Some test else None
 -- `VALUE OP NUMBER` of a node
 unfoldable pub tested_in : Option DebugInfo → NodeId → Line → Option Condition
 tested_in notes node text = do
-  test ← test_in (names_in notes) node text
+  test ← test_in (labels_in notes) node text
   possible ← possible_test test
   Some (Holds node possible)
 
@@ -59,7 +59,7 @@ steps_condition text = do
 unfoldable pub compared_in : NodeId → NodeId → Line → Line → Option Condition
 compared_in writer reader sign text = do
   comparison ← comparison_in sign
-  word ← word_in [] reader text
+  word ← operand_word_in [] reader text
   Some (Passes writer reader comparison word)
 
 -- `OP NUMBER` or `J` after `NNN MMM`
@@ -94,7 +94,7 @@ holds_in notes text = do
   second ← split_at_space first.1
   node ← parse_node first.0
   address ← byte_in second.0
-  word ← word_equal_in (names_in notes) node second.1
+  word ← word_equal_in (labels_in notes) node second.1
   Some (cell_holds node address word)
 
 -- the address of the first instruction word of a node that a line begins, which only source gives
@@ -111,7 +111,7 @@ cell_of_line notes node name text =
     else None
 
 abbrev pub noted_cut : Option DebugInfo → NodeId → Option (Line × Line) → Line → Option ℕ
-noted_cut notes node None text = address_of (names_in notes) node text
+noted_cut notes node None text = address_of (labels_in notes) node text
 noted_cut notes node (Some parts) text = cell_of_line notes node parts.0 parts.1
 
 -- a label, or `line N`
@@ -120,7 +120,7 @@ noted_in notes node text = noted_cut notes node (split_at_space text) text
 
 -- an address, or else a label or a line
 abbrev pub address_or_label : Option DebugInfo → NodeId → Line → Option ℕ
-address_or_label notes node text = or_else (hex_word_in text) (noted_in notes node text)
+address_or_label notes node text = or_operand (hex_word_in text) (noted_in notes node text)
 
 -- `NNN X`
 unfoldable pub node_and_place : Option DebugInfo → Line → Option (NodeId × ℕ)
@@ -148,7 +148,7 @@ unfoldable pub writes_to_in : Option DebugInfo → Line → Option Condition
 writes_to_in notes text = do
   parts ← split_at_space text
   node ← parse_node parts.0
-  written_in (names_in notes) node parts.1
+  written_in (labels_in notes) node parts.1
 
 -- a condition of one word
 unfoldable pub lone_condition : Line → Option Condition

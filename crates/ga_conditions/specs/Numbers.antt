@@ -52,20 +52,20 @@ hex_number_in (byte ∷ text) = do
 abbrev pub size_in : Text → Option ℕ
 size_in text = if bytes_eq (take 2 text) (codes "0x") then hex_number_in (drop 2 text) else parse_number text
 
-abbrev pub word_below : ℕ → Option ℕ
-word_below size = if nat_le size 131072 then Some ((262144 - size) % 262144) else None
+abbrev pub negative_word : ℕ → Option ℕ
+negative_word size = if nat_le size 131072 then Some ((262144 - size) % 262144) else None
 
 abbrev pub plain_number_in : Text → Option ℕ
-plain_number_in text = if bytes_eq (take 1 text) (codes "-") then option_and_then word_below (size_in (drop 1 text)) else size_in text
+plain_number_in text = if bytes_eq (take 1 text) (codes "-") then option_and_then negative_word (size_in (drop 1 text)) else size_in text
 
 -- ---- the operand of a comparison: a number, a word as answers have it, the address of a port, or else that of a label of the node
 
-abbrev pub or_else : Option ℕ → Option ℕ → Option ℕ
-or_else None other = other
-or_else (Some number) other = Some number
+abbrev pub or_operand : Option ℕ → Option ℕ → Option ℕ
+or_operand None other = other
+or_operand (Some number) other = Some number
 
-abbrev pub numeral_in : Text → Option ℕ
-numeral_in text = or_else (plain_number_in text) (or_else (hex_word_in text) (port_in text))
+abbrev pub plain_operand_in : Text → Option ℕ
+plain_operand_in text = or_operand (plain_number_in text) (or_operand (hex_word_in text) (port_in text))
 
 abbrev pub operand_in : List LabelAddress → NodeId → Text → Option ℕ
-operand_in names node text = or_else (numeral_in text) (address_of names node text)
+operand_in names node text = or_operand (plain_operand_in text) (address_of names node text)

@@ -45,10 +45,10 @@ word_value text =
     else if bytes_eq text (codes "step") then Some Step
     else cell_value text
 
-unfoldable pub value_in : Text → Option NodeValue
-value_in (letter ∷ []) = letter_value letter
-value_in (stack ∷ place ∷ []) = stack_value stack place
-value_in text = word_value text
+unfoldable pub named_value_in : Text → Option NodeValue
+named_value_in (letter ∷ []) = letter_value letter
+named_value_in (stack ∷ place ∷ []) = stack_value stack place
+named_value_in text = word_value text
 
 -- ---- the comparison
 
@@ -68,7 +68,7 @@ unfoldable pub test_in : List LabelAddress → NodeId → Text → Option ValueT
 test_in names node text = do
   after_value ← split_at_space text
   after_sign ← split_at_space after_value.1
-  value ← value_in after_value.0
+  value ← named_value_in after_value.0
   comparison ← comparison_in after_sign.0
   number ← operand_in names node after_sign.1
   Some (record { value = value; comparison = comparison; number = number })

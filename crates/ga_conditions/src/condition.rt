@@ -1,7 +1,7 @@
 //! One condition of a run or of a search back, as text.
 
 ghost use Rattle.std.specs.Prelude.{◌≡◌};
-ghost use Rattle.ga_conditions.specs.Conditions.{condition_in, lone_condition, named_condition, tested_in, possible_test, steps_condition, passes_in, passed_in, compared_in, names_in, holds_in, node_and_place, comes_to, writes_to_in, written_in, address_or_label, noted_in, cell_of_line, begun_in, word_equal_in, word_in};
+ghost use Rattle.ga_conditions.specs.Conditions.{condition_in, lone_condition, named_condition, tested_in, possible_test, steps_condition, passes_in, passed_in, compared_in, labels_in, holds_in, node_and_place, comes_to, writes_to_in, written_in, address_or_label, noted_in, cell_of_line, begun_in, word_equal_in, operand_word_in};
 
 use crate::numbers::{parse_hex_word, parse_operand};
 use crate::tests_of_values::{parse_comparison, parse_test};
@@ -60,7 +60,7 @@ fn named_condition(notes: &Option<DebugInfo>, name: &[u8], rest: &[u8]) -> Optio
 
 /// The labels of a program, where there is source.
 fn names(notes: &Option<DebugInfo>) -> &[LabelAddress]
-    ensures { result.now ≡ names_in notes.now }
+    ensures { result.now ≡ labels_in notes.now }
 {
     match notes {
         Some(notes) => notes.names.as_slice(),
@@ -255,7 +255,7 @@ fn begun_by(notes: &Option<DebugInfo>, node: NodeId, line: u32) -> Option<u32>
 
 /// A number that is a word.
 fn word_of(names: &[LabelAddress], node: NodeId, text: &[u8]) -> Option<Word18>
-    ensures { result ≡ word_in names.now node text.now }
+    ensures { result ≡ operand_word_in names.now node text.now }
 {
     Word18::new(parse_operand(names, node, text)?)
 }

@@ -1,7 +1,7 @@
 //! Numbers of conditions.
 
 ghost use Rattle.std.specs.Prelude.{◌≡◌};
-ghost use Rattle.ga_conditions.specs.Numbers.{hex_word_in, hex_digit_in, with_hex, hex_number_in, size_in, word_below, plain_number_in, numeral_in, operand_in};
+ghost use Rattle.ga_conditions.specs.Numbers.{hex_word_in, hex_digit_in, with_hex, hex_number_in, size_in, negative_word, plain_number_in, plain_operand_in, operand_in};
 
 use ga_debug_info::{LabelAddress, label_address};
 use ga_grid::NodeId;
@@ -70,8 +70,8 @@ fn size(text: &[u8]) -> Option<u32>
 }
 
 // A number below 0, modulo 2^18.
-fn word_below(size: u32) -> Option<u32>
-    ensures { result ≡ word_below size }
+fn negative_word(size: u32) -> Option<u32>
+    ensures { result ≡ negative_word size }
 {
     if size <= 0x2_0000 {
         Some((0x4_0000 - size) % 0x4_0000)
@@ -85,14 +85,14 @@ fn plain_number(text: &[u8]) -> Option<u32>
     ensures { result ≡ plain_number_in text.now }
 {
     match text.strip_prefix(b"-") {
-        Some(digits) => word_below(size(digits)?),
+        Some(digits) => negative_word(size(digits)?),
         None => size(text),
     }
 }
 
 // A number, or a word as answers have it, or the address of a port.
-fn numeral(text: &[u8]) -> Option<u32>
-    ensures { result ≡ numeral_in text.now }
+fn plain_operand(text: &[u8]) -> Option<u32>
+    ensures { result ≡ plain_operand_in text.now }
 {
     if let Some(number) = plain_number(text) {
         return Some(number);
@@ -107,7 +107,7 @@ fn numeral(text: &[u8]) -> Option<u32>
 pub(crate) fn parse_operand(names: &[LabelAddress], node: NodeId, text: &[u8]) -> Option<u32>
     ensures { result ≡ operand_in names.now node text.now }
 {
-    match numeral(text) {
+    match plain_operand(text) {
         Some(number) => Some(number),
         None => label_address(names, node, text),
     }

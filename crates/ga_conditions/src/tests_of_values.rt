@@ -1,7 +1,7 @@
 //! Comparisons of a value that a node holds with a number, as text.
 
 ghost use Rattle.std.specs.Prelude.{◌≡◌};
-ghost use Rattle.ga_conditions.specs.Tests.{letter_value, stack_value, cell_value, word_value, value_in, comparison_in, test_in};
+ghost use Rattle.ga_conditions.specs.Tests.{letter_value, stack_value, cell_value, word_value, named_value_in, comparison_in, test_in};
 
 use crate::numbers::parse_operand;
 use ga_debug_info::LabelAddress;
@@ -68,9 +68,9 @@ fn word_value(text: &[u8]) -> Option<NodeValue>
 }
 
 /// The value with this name: `t s r p a b i`, `d2` to `d9`, `r1` to `r8`, `io`, `slot`, `carry`, `step` or a cell `[HH]`.
-#[tactic(auto, unfolding(crate::specs::Tests::value_in))]
+#[tactic(auto, unfolding(crate::specs::Tests::named_value_in))]
 pub fn parse_value(text: &[u8]) -> Option<NodeValue>
-    ensures { result ≡ value_in text.now }
+    ensures { result ≡ named_value_in text.now }
 {
     match text {
         [letter] => letter_value(*letter),

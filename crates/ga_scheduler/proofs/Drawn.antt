@@ -17,7 +17,7 @@ use Rattle.ga_scheduler.specs.declared.schedule.Order.TheVariants.{Rounds, Greed
 use Rattle.ga_scheduler.specs.declared.schedule.Schedule.{Schedule}
 use Rattle.ga_scheduler.specs.declared.numbers.NumberSet.{NumberSet}
 use Rattle.ga_scheduler.specs.declared.drawing.Known.{Known}
-use Rattle.ga_scheduler.specs.Schedules.{numbers_below, node_drawn, chosen_by}
+use Rattle.ga_scheduler.specs.Schedules.{numbers_below, node_drawn, chosen_in_order}
 use Rattle.ga_scheduler.specs.inner.{IsAlone, IsKnown}
 
 -- ---- the numbers that pass a test
@@ -141,14 +141,14 @@ drawn_quiet f word h = elim (cases_eq (length (numbers_below f 144)) 0) [
 
 -- ---- the node that a schedule chooses
 
-pub chosen_same : (order : Order) (schedule : Schedule) (f g : ℕ → Bool) → ((m : ℕ) → m < 144 → f m ≡ g m) → chosen_by order schedule f ≡ chosen_by order schedule g
+pub chosen_same : (order : Order) (schedule : Schedule) (f g : ℕ → Bool) → ((m : ℕ) → m < 144 → f m ≡ g m) → chosen_in_order order schedule f ≡ chosen_in_order order schedule g
 chosen_same Rounds schedule f g same = first_same f g schedule.turn.number 144 same
 chosen_same Greedy schedule f g same = first_same f g schedule.turn.number 144 same
 chosen_same Random schedule f g same =
     ap (λ (z : List ℕ). option_map node_id (slice_get z ((mix_u64 schedule.generator).0 % length z))) (numbers_same f g 144 same)
 
 pub alone_chosen : (order : Order) (schedule : Schedule) (f : ℕ → Bool) (node : NodeId) → f node.number ≡ true → ((m : ℕ) → m < 144 → m ≢ node.number → f m ≡ false)
-    → Some node ≡ chosen_by order schedule f
+    → Some node ≡ chosen_in_order order schedule f
 alone_chosen Rounds schedule f node is others = alone_is f schedule.turn.number node schedule.turn.in_range is others
 alone_chosen Greedy schedule f node is others = alone_is f schedule.turn.number node schedule.turn.in_range is others
 alone_chosen Random schedule f node is others =
@@ -164,7 +164,7 @@ none_in_turn f turn none n l = elim (cases_lt n turn.number) [
 ]
 
 -- where it chooses none, each fails the test
-pub none_passes : (order : Order) (schedule : Schedule) (f : ℕ → Bool) → chosen_by order schedule f ≡ None → (n : ℕ) → n < 144 → f n ≡ false
+pub none_passes : (order : Order) (schedule : Schedule) (f : ℕ → Bool) → chosen_in_order order schedule f ≡ None → (n : ℕ) → n < 144 → f n ≡ false
 none_passes Rounds schedule f none n l = none_in_turn f schedule.turn none n l
 none_passes Greedy schedule f none n l = none_in_turn f schedule.turn none n l
 none_passes Random schedule f none n l = numbers_quiet f 144 n (drawn_quiet f (mix_u64 schedule.generator).0 none) l
