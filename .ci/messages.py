@@ -110,6 +110,10 @@ def wrong_inputs(room):
         "a folder": ({"program": room}, f"{room}: a folder"),
         "no end": ({"program": "/dev/zero"}, "/dev/zero: more than 16777216 bytes"),
         "a fault of source": ({"program": "bad.f18"}, "bad.f18: line 2: what is foo"),
+        "faults of source": (
+            {"program": "worse.f18"},
+            "worse.f18: line 2: what is foo\nline 3: number out of range: 999999 (-131072 to 262143)\nline 3: what is bar",
+        ),
         "a fault of an image": ({"program": "bad.image"}, "bad.image: no 13 node line 3"),
         "limit 0": ({"program": "bad.f18", "limit": 0}, "the limit is 1 to 100000000"),
         "an order that is none": ({"program": "bad.f18", "order": "backwards"}, order),

@@ -44,7 +44,7 @@ pub struct DebugInfo {
 }
 
 impl DebugInfo {
-    ghost use Rattle.std.specs.Prelude.{◌≡◌, [], None, Some, option_map};
+    ghost use Rattle.std.specs.Prelude.{◌≡◌, ◌==◌, length, [], None, Some, option_map};
     ghost use Rattle.ga_debug_info.specs.Notes.{first_note_text, first_note_is_long, slot_text, slot_word_of, nearest_word, line_address, address_of};
 
     /// The notes of an image: none.
@@ -61,7 +61,9 @@ impl DebugInfo {
     }
 
     /// Whether there is no debug info of any cell.
-    pub fn is_empty(&self) -> bool {
+    pub fn is_empty(&self) -> bool
+        ensures { result ≡ (length self.now.notes.items == 0) }
+    {
         self.notes.is_empty()
     }
 

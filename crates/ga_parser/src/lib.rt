@@ -12,6 +12,8 @@ mod item;
 mod labels;
 mod nearness;
 mod number;
+mod recovery;
+mod refusing;
 mod scan;
 mod vocabulary;
 
@@ -22,5 +24,6 @@ pub use item::{Item, LocatedRequest, NodeRequests, Operand, RegisterValue, Regis
 pub use labels::Label;
 pub use nearness::is_near;
 pub use number::parse_port;
+pub use recovery::{Recovered, recover_requests};
 pub use scan::{Token, TokenKind, source_words, strip_bom, words_up_to_fault};
 pub use vocabulary::{Directive, Register, parse_directive};
