@@ -22,7 +22,7 @@ use Rattle.ga_explorer_text.specs.Around.{around_text}
 use Rattle.ga_explorer_text.specs.Trees.{TellsWhence}
 use Rattle.ga_explorer_text.specs.Because.{because_text}
 use Rattle.ga_explorer_text.specs.Races.{TellsRaces}
-use Rattle.ga_explorer.specs.Reading.{step_meant, run_in, back_in, most_events, no_condition, node_and_step, two_nodes, node_and_cell, node_and_steps}
+use Rattle.ga_explorer.specs.Reading.{step_meant, part_named, run_in, back_in, most_events, no_condition, node_and_step, two_nodes, node_and_cell, node_and_value, node_and_steps}
 use Rattle.ga_explorer.specs.Forms.{CommandForm, entry, place_from, form_rows_text, about_found}
 use Rattle.ga_explorer.specs.Opening.{ExplorerState}
 use Rattle.ga_explorer.specs.declared.commands.ExplorerCommand.{ExplorerCommand}
@@ -37,12 +37,12 @@ unfoldable pub command_table : List CommandForm
 command_table =
     entry (codes "run") (codes "run [greedy|random SEED] [N] [until COND]") (codes "\n                      make up to N events, in rounds or in this order\nCOND: pass NNN MMM = W, pass NNN MMM J, step NNN K, stop, stop NNN, wait NNN,\n      mem NNN HH = W, p NNN X, reach NNN X, change NNN HH [= W], COND or COND\nX: an address, a label, line N\n") (codes "answers: reached M EVENT, made M, quiet M or full M: how many events, and why no more\nexample: run 1000 until stop or reach 001 000012\n")
     ∷ entry (codes "chip") (codes "chip") (codes "                  what each node does\n") (codes "answers: rows 7 to 0 of nodes: . made no step, * runs, x stopped, @ waits for code, ? reads, ! writes\nexample: chip\n")
-    ∷ entry (codes "who") (codes "who") (codes "                   who waits for whom, and which nodes can never go on\n") (codes "answers: for each that waits what it does, and the nodes that it awaits; then stuck, ring and idle\nexample: who\n")
+    ∷ entry (codes "who") (codes "who") (codes "                   who waits for whom, and which nodes can never go on\n") (codes "answers: for each that waits what it does, and the nodes that it awaits; then stuck, ring, ended and idle\nexample: who\n")
     ∷ entry (codes "effects") (codes "effects NNN K") (codes "         what rewind NNN K would take\n") (codes "answers: effects X N, and for each of N nodes its first step that would go, and how many would\nexample: effects 001 last\n")
     ∷ entry (codes "words") (codes "words NNN MMM") (codes "         the words that went from NNN to MMM\n") (codes "answers: words NNN MMM C, and for each of C words its number, the steps of both nodes and the word\nexample: words 000 001\n")
     ∷ entry (codes "writes") (codes "writes NNN HH") (codes "         the steps that wrote the cell HH of NNN, the newest first\n") (codes "answers: for each the step, the opcode and the word that stood there then\nexample: writes 001 20\n")
     ∷ entry (codes "at") (codes "at NNN K [N]") (codes "          N steps before and behind step K of NNN, with registers\n") (codes "answers: for each the step, what it did, and the registers t, s, r, a, b and p behind it\nexample: at 001 last 5\n")
-    ∷ entry (codes "whence") (codes "whence NNN K") (codes "          the steps whose values went into what step K of NNN made\n") (codes "answers: a tree: below each step, two blanks deeper, the steps that made the values it used\nexample: whence 001 last\n")
+    ∷ entry (codes "whence") (codes "whence NNN K [t|s|d2-d9|r|r1-r8|p|a|b|i|io|carry|slot|[HH]]") (codes "\n                      the steps whose values went into what step K of NNN made, or\n                      into a register, a word of a stack or a cell as it is after step K\n") (codes "answers: a tree: below each step, two blanks deeper, the steps that made the values it used\nexample: whence 001 last, or whence 001 last r\n")
     ∷ entry (codes "because") (codes "because NNN K [N]") (codes "     N steps before step K at which a value decided where NNN went on\nK of effects, at, whence, because: a step's number, or last\n") (codes "answers: for each the step and the word that it tested, and below it the step that made that word\nexample: because 001 last\n")
     ∷ entry (codes "races") (codes "races [NNN]") (codes "           steps that could have come out otherwise, and how\n") (codes "answers: races N, and for each of N steps what else it could have got, and two commands that lead there\nexample: races 001\n")
     ∷ entry (codes "save") (codes "save") (codes "                  the kept events as lines of debug\n") (codes "answers: step NNN for each kept event, the oldest first\nexample: save\n")
@@ -95,8 +95,8 @@ query_with_arguments name text =
       it ← node_and_steps text
       Some (told.At it.0 it.1 it.2))
     else if pointwise nat_eq name (codes "whence") then (do
-      it ← node_and_step text
-      Some (told.Whence it.0 it.1))
+      it ← node_and_value text
+      Some (told.Whence it.0 it.1 it.2))
     else if pointwise nat_eq name (codes "because") then (do
       it ← node_and_steps text
       Some (told.Because it.0 it.1 it.2))
@@ -144,7 +144,7 @@ AnswersQuery e (told.Effects node which) answer = TellsEffects e.lab node (step_
 AnswersQuery e (told.Words from to) answer = answer ≡ link_words_text e.lab from to
 AnswersQuery e (told.Writes node address) answer = answer ≡ writes_text e.lab node address
 AnswersQuery e (told.At node which around) answer = answer ≡ around_text e.notes e.lab node (step_meant e.lab node which) around
-AnswersQuery e (told.Whence node which) answer = TellsWhence e.notes e.lab node (step_meant e.lab node which) answer
+AnswersQuery e (told.Whence node which value) answer = TellsWhence e.notes e.lab node (step_meant e.lab node which) (option_map part_named value) answer
 AnswersQuery e (told.Because node which most) answer = answer ≡ because_text e.notes e.lab node (step_meant e.lab node which) most
 AnswersQuery e (told.Races only) answer = TellsRaces e.lab only answer
 AnswersQuery e told.Who answer = TellsWho e.lab answer

@@ -1,6 +1,6 @@
 -- The arguments of exploring commands, and how they are parsed: words with one space between two of them (docs/REFERENCE.md,
 -- "Exploring"; this project's own). Nodes and numbers have the form that they have in the debugger's commands.
-use Rattle.std.specs.Prelude.{ℕ, nat_eq, if◌then◌else◌, codes, Option, Some, option_map, zero, suc, ◌+◌, ◌*◌, ◌^◌, ◌==◌, nat_lt, nat_le, ◌&&◌, List, [], ◌∷◌, ◌++◌, replicate, None}
+use Rattle.std.specs.Prelude.{ℕ, nat_eq, if◌then◌else◌, codes, Option, Some, option_map, zero, suc, ◌+◌, ◌-◌, ◌*◌, ◌%◌, ◌^◌, ◌==◌, nat_lt, nat_le, ◌&&◌, List, [], ◌∷◌, ◌++◌, length, slice_index, slice_range, bytes_eq, replicate, None}
 use Rattle.std.specs.Cmp.Lexicographic.{pointwise}
 use Rattle.ga_text.specs.Lines.{Line}
 use Rattle.ga_grid.specs.declared.node_id.NodeId.{NodeId}
@@ -9,6 +9,10 @@ use Rattle.ga_lab.specs.Machine.{State}
 use Rattle.ga_text.specs.Parsing.{parse_number, in_front, split_at_space, parse_node}
 use Rattle.ga_explorer.specs.declared.which.StepSelector.{StepSelector}
 use Rattle.ga_explorer.specs.declared.which.StepSelector.TheVariants.{Number, Last}
+use Rattle.ga_explorer.specs.declared.named_value.NamedValue.{NamedValue}
+use Rattle.ga_explorer.specs.declared.named_value.NamedValue.TheVariants as name
+use Rattle.ga_event.specs.declared.flow.part.Part.{Part}
+use Rattle.ga_event.specs.declared.flow.part.Part.TheVariants as part
 use Rattle.ga_ports.specs.Steps.{◌>>=◌}
 use Rattle.ga_text.specs.Digits.{byte_in}
 use Rattle.ga_scheduler.specs.Schedules.{round_robin, greedy, random}
@@ -30,6 +34,56 @@ which_in word = if pointwise nat_eq word (codes "last") then Some Last else opti
 abbrev pub step_meant : State → NodeId → StepSelector → ℕ
 step_meant s node (Number step) = step
 step_meant s node Last = steps_of node.number s.kept
+
+-- ---- which value of a node a command means, by the names that `node` and `whence` print (docs/REFERENCE.md, "Exploring"; this project's own)
+
+abbrev pub named_letter : ℕ → Option NamedValue
+named_letter letter =
+    if letter == 116 then Some (name.Data 0)
+    else if letter == 115 then Some (name.Data 1)
+    else if letter == 114 then Some (name.Return 0)
+    else if letter == 112 then Some name.P
+    else if letter == 97 then Some name.A
+    else if letter == 98 then Some name.B
+    else if letter == 105 then Some name.I
+    else None
+
+-- `d2` to `d9`, `r1` to `r8`, `io`
+abbrev pub named_place : ℕ → ℕ → Option NamedValue
+named_place stack place =
+    if stack == 100 && nat_le 50 place && nat_le place 57 then Some (name.Data (place - 48))
+    else if stack == 114 && nat_le 49 place && nat_le place 56 then Some (name.Return (place - 48))
+    else if stack == 105 && place == 111 then Some name.Io
+    else None
+
+-- `[HH]`
+abbrev pub named_cell : Line → Option NamedValue
+named_cell word =
+    if length word == 4 && slice_index word 0 == 91 && slice_index word 3 == 93 then option_map name.Cell (byte_in (slice_range word 1 3)) else None
+
+abbrev pub named_word : Line → Option NamedValue
+named_word word =
+    if bytes_eq word (codes "slot") then Some name.Slot
+    else if bytes_eq word (codes "carry") then Some name.Carry
+    else named_cell word
+
+unfoldable pub named_value : Line → Option NamedValue
+named_value (letter ∷ []) = named_letter letter
+named_value (stack ∷ place ∷ []) = named_place stack place
+named_value word = named_word word
+
+-- the part of a node that is meant: RAM is below address 80 hexadecimal, ROM from there on
+abbrev pub part_named : NamedValue → Part
+part_named (name.Data place) = part.Data (place % 10)
+part_named (name.Return place) = part.Return (place % 9)
+part_named name.P = part.P
+part_named name.A = part.A
+part_named name.B = part.B
+part_named name.I = part.I
+part_named name.Io = part.Io
+part_named name.Carry = part.Carry
+part_named name.Slot = part.Slot
+part_named (name.Cell address) = if nat_lt address 128 then part.Ram (address % 64) else part.Rom (address % 64)
 
 -- how many events are made at most where no number is given
 abbrev pub most_events : ℕ
@@ -323,6 +377,25 @@ node_and_step text = do
   node ← parse_node parts.0
   which ← which_in parts.1
   Some (node, which)
+
+-- `K` or `K VALUE`: a step, and a value after it
+abbrev pub value_cut : Option (Line × Line) → Line → Option (StepSelector × Option NamedValue)
+value_cut None text = option_map (λ which. (which, None)) (which_in text)
+value_cut (Some parts) text = do
+  which ← which_in parts.0
+  named ← named_value parts.1
+  Some (which, Some named)
+
+abbrev pub step_and_value : Line → Option (StepSelector × Option NamedValue)
+step_and_value text = value_cut (split_at_space text) text
+
+-- `NNN K` or `NNN K VALUE`
+unfoldable pub node_and_value : Line → Option (NodeId × StepSelector × Option NamedValue)
+node_and_value text = do
+  parts ← split_at_space text
+  node ← parse_node parts.0
+  asked ← step_and_value parts.1
+  Some (node, asked.0, asked.1)
 
 -- `NNN MMM`
 unfoldable pub two_nodes : Line → Option (NodeId × NodeId)
