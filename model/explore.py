@@ -7,7 +7,7 @@ from listing import NAMES
 from machine import Machine, NODES, name
 from node import FETCH_DUE, Node, SIDES, neighbour, target_of
 from notes import Notes
-from whence import LOADED, asked_of, rows_of, tested_by
+from whence import LOADED, asked_of, held_after, rows_of, tested_by
 
 NODE, W, HH = "[0-7](?:0[0-9]|1[0-7])", "0[0-3][0-9a-fA-F]{4}", "[0-9a-fA-F]{2}"
 NUMBER = "(?:0|[1-9][0-9]{0,9})"
@@ -34,14 +34,20 @@ def command(*row):
 
 
 # what the words of a form stand for; one in brackets may be missing
-KINDS = {"NNN": NODE, "MMM": NODE, "K": STEP, "HH": HH, "N": "[1-9]?[0-9]", "COMMAND": ".+"}
+VALUE = "VALUE"
+KINDS = {"NNN": NODE, "MMM": NODE, "K": STEP, "HH": HH, "N": "[1-9]?[0-9]", "COMMAND": ".+", VALUE: rf"[tsrpabi]|d[2-9]|r[1-8]|io|carry|slot|\[{HH}\]"}
 FEW = 3
+
+
+def kind_of(word):
+    """What a word of a form stands for."""
+    return word[1:-1] if word.startswith("[") else word
 
 
 def spelled(form):
     """The lines of a form, and the kinds of its arguments."""
     command, *words = form.split(" ")
-    kinds = [word.strip("[]") for word in words]
+    kinds = [kind_of(word) for word in words]
     return re.compile(command + "".join(f"(?: ({KINDS[kind]}))" + "?" * word.startswith("[") for kind, word in zip(kinds, words))), kinds
 
 
@@ -75,6 +81,13 @@ def cure(line):
 def number_of(text):
     """The node of a name."""
     return 18 * int(text[0]) + int(text[1:])
+
+
+def waiting(number):
+    """A node into which nothing was loaded, after the event by which it comes to wait for code."""
+    node = Node(number)
+    node.own(None)
+    return node
 
 
 def cell_of(part):
@@ -135,6 +148,8 @@ class Explorer(Machine):
                 given.append(self.steps[given[0]] if word == "last" else int(word))
             elif kind == "HH":
                 given.append(int(word, 16))
+            elif kind == VALUE:
+                given.append(word and word.lower())
             else:
                 given.append(number_of(word) if word and kind != "COMMAND" else word)
         return given
@@ -302,13 +317,15 @@ class Explorer(Machine):
             marked -= freed
 
     def idle(self):
-        """The nodes into which nothing was loaded, and which kept nothing but the event by which they came to wait for code."""
+        """The nodes into which nothing was loaded, and which kept nothing but the event by which they came to wait for code; and those that
+        were loaded as they are after it, and kept none."""
         waits = [event[0] for event, told in zip(self.events, self.told) if told.endswith(" 1 wait")]
-        return {node for node in waits if self.steps[node] == 1 and vars(self.load[node]) == vars(Node(node))}
+        idle = {node for node in waits if self.steps[node] == 1 and vars(self.load[node]) == vars(Node(node))}
+        return idle | {node for node in range(NODES) if not self.steps[node] and vars(self.load[node]) == vars(waiting(node))}
 
     @command(
         "who", "who waits for whom, and which nodes can never go on",
-        "for each that waits what it does, and the nodes that it awaits; then stuck, ring and idle", "who", 30,
+        "for each that waits what it does, and the nodes that it awaits; then stuck, ring, ended and idle", "who", 30,
     )  # fmt: skip
     def answer_who(self):
         return "\n".join(self.waiting())
@@ -319,12 +336,25 @@ class Explorer(Machine):
             if self.chip[node].wait and node not in idle:
                 beside = "".join(f" {side} {name(other)} {self.does(other)}" for side, other in self.awaited(node))
                 yield f"{name(node)} {self.does(node)}{beside}"
-        busy = [name(node) for node in stuck if node not in idle]
+        ended, still = self.ended(), sum(node in idle for node in stuck)
+        busy = [name(node) for node in stuck if node not in ended]
         if busy:
-            yield " ".join(["stuck", *busy] + ([f"and {len(stuck) - len(busy)} idle"] if len(busy) < len(stuck) else []))
+            yield " ".join(["stuck", *busy] + ([f"and {still} idle"] if still else []))
         yield from (" ".join(["ring", *map(name, ring)]) for ring in self.rings(stuck))
+        over = [name(node) for node in stuck if node in ended and node not in idle]
+        if over:
+            yield " ".join(["ended", *over])
         if idle:
             yield f"idle {len(idle)}"
+
+    def ended(self):
+        """The least set of nodes that wait for code, or to read from nodes of the set alone."""
+        ended, more = set(), {node for node in range(NODES) if self.chip[node].wait and self.chip[node].wait[0] == "fetch"}
+        while more:
+            ended |= more
+            reading = [node for node in range(NODES) if node not in ended and self.chip[node].wait and self.chip[node].wait[0] == "read"]
+            more = {node for node in reading if self.awaited(node) and all(other in ended for _, other in self.awaited(node))}
+        return ended
 
     def rings(self, stuck):
         """The rings among some nodes, each of which awaits the next alone: each from its node of the lowest number on."""
@@ -439,16 +469,18 @@ class Explorer(Machine):
         return f"{name(node)} {told}"
 
     @command(
-        "whence NNN K", "the steps whose values went into what step K of NNN made",
-        "a tree: below each step, two blanks deeper, the steps that made the values it used", "whence 001 last", 160,
+        f"whence NNN K [{VALUE}]",
+        "the steps whose values went into what step K of NNN made, or\n"
+        "                      into a register, a word of a stack or a cell as it is after step K",
+        "a tree: below each step, two blanks deeper, the steps that made the values it used", "whence 001 last, or whence 001 last r", 160,
     )  # fmt: skip
-    def answer_whence(self, node, step):
+    def answer_whence(self, node, step, value):
         if not 1 <= step <= self.steps[node]:
             return "no 6 nostep"
         passed, deeds = self.followed()
         asked, made = asked_of(passed, NODES)
         tails = self.tails(passed)
-        first = asked[node, step]
+        first = held_after(passed, NODES, node, step, value) if value else asked[node, step]
         head = f"{name(node)} {step} {deeds[node, step]}{tails[node, step]}"
         if first is None:
             return head
@@ -480,7 +512,7 @@ class Explorer(Machine):
                 mark = f" {register} {word:06x}" if register else ""
                 head = f"{name(node)} {number} {deeds[node, number]}{mark}{tails[node, number]}"
                 lines.append(f"{head}\n  {self.made_line(tag, deeds, tails)}")
-        return "\n".join(reversed(lines[-most:] if most else []))
+        return "\n".join(reversed(lines[-most:] if most else [])) if lines else "none"
 
     def offers(self, node, step):
         """The neighbours that a step of each would make give a node a word, were a step of it taken back, with that word."""

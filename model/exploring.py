@@ -13,7 +13,7 @@ import sys
 from itertools import zip_longest
 
 from conditions import generated_test, value_of
-from explore import FORMS, NODE, OFTEN, ROWS, STORES, Explorer, number_of
+from explore import FORMS, NODE, OFTEN, ROWS, STORES, VALUE, Explorer, kind_of, number_of
 from files import answer, load_of
 from machine import name
 from notes import Notes
@@ -199,7 +199,8 @@ class Session:
             line.append({
                 "NNN": lambda: name(first), "MMM": lambda: name(second), "K": lambda: f"{self.step(first)}", "HH": lambda: f"{self.address():02x}",
                 "N": lambda: f"{draw.randrange(draw.choice((4, 100)))}", "COMMAND": lambda: draw.choice([*ROWS, "cond"]),
-            }[word.strip("[]")]())  # fmt: skip
+                VALUE: lambda: draw.choice((*"tsrpabi", f"d{draw.randrange(2, 10)}", f"r{draw.randrange(1, 9)}", "io", "carry", "slot", f"[{self.address():02x}]")),
+            }[kind_of(word)]())  # fmt: skip
         return " ".join(line)
 
     def wrong(self):

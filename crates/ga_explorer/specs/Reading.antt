@@ -1,14 +1,19 @@
 -- The arguments of exploring commands, and how they are parsed: words with one space between two of them (docs/REFERENCE.md,
 -- "Exploring"; this project's own). Nodes and numbers have the form that they have in the debugger's commands.
-use Rattle.std.specs.Prelude.{ℕ, nat_eq, if◌then◌else◌, codes, Option, Some, option_map, zero, suc, ◌+◌, ◌*◌, ◌^◌, ◌==◌, nat_lt, nat_le, ◌&&◌, List, [], ◌∷◌, ◌++◌, replicate, None}
+use Rattle.std.specs.Prelude.{ℕ, nat_eq, if◌then◌else◌, codes, Option, Some, None, option_map, option_and_then, ◌%◌, nat_lt, nat_le}
 use Rattle.std.specs.Cmp.Lexicographic.{pointwise}
 use Rattle.ga_text.specs.Lines.{Line}
 use Rattle.ga_grid.specs.declared.node_id.NodeId.{NodeId}
 use Rattle.ga_event.specs.Told.{steps_of}
 use Rattle.ga_lab.specs.Machine.{State}
-use Rattle.ga_text.specs.Parsing.{parse_number, in_front, split_at_space, parse_node}
+use Rattle.ga_text.specs.Parsing.{parse_number, split_at_space, parse_node}
 use Rattle.ga_explorer.specs.declared.which.StepSelector.{StepSelector}
 use Rattle.ga_explorer.specs.declared.which.StepSelector.TheVariants.{Number, Last}
+use Rattle.ga_scheduler.specs.declared.value_test.NodeValue.{NodeValue}
+use Rattle.ga_scheduler.specs.declared.value_test.NodeValue.TheVariants as value
+use Rattle.ga_conditions.specs.Tests.{named_value_in}
+use Rattle.ga_event.specs.declared.flow.part.Part.{Part}
+use Rattle.ga_event.specs.declared.flow.part.Part.TheVariants as part
 use Rattle.ga_ports.specs.Steps.{◌>>=◌}
 use Rattle.ga_text.specs.Digits.{byte_in}
 use Rattle.ga_scheduler.specs.Schedules.{round_robin, greedy, random}
@@ -28,6 +33,29 @@ which_in word = if pointwise nat_eq word (codes "last") then Some Last else opti
 abbrev pub step_meant : State → NodeId → StepSelector → ℕ
 step_meant s node (Number step) = step
 step_meant s node Last = steps_of node.number s.kept
+
+-- ---- which part of a node a command means: RAM is below address 80 hexadecimal, ROM from there on
+
+abbrev pub part_named : NodeValue → Option Part
+part_named value.Step = None
+part_named value.P = Some part.P
+part_named value.A = Some part.A
+part_named value.B = Some part.B
+part_named value.I = Some part.I
+part_named value.Slot = Some part.Slot
+part_named value.Carry = Some part.Carry
+part_named value.Io = Some part.Io
+part_named (value.DataWord place) = Some (part.Data (place % 10))
+part_named (value.ReturnWord place) = Some (part.Return (place % 9))
+part_named (value.Cell address) = Some (if nat_lt address 128 then part.Ram (address % 64) else part.Rom (address % 64))
+
+-- a value that is a part of a node: all but the number of its steps are
+abbrev pub with_part : NodeValue → Option NodeValue
+with_part value.Step = None
+with_part other = Some other
+
+abbrev pub part_value_in : Line → Option NodeValue
+part_value_in word = option_and_then with_part (named_value_in word)
 
 -- how many events are made at most where no number is given
 abbrev pub most_events : ℕ
@@ -113,6 +141,25 @@ node_and_step text = do
   node ← parse_node parts.0
   which ← which_in parts.1
   Some (node, which)
+
+-- `K` or `K VALUE`: a step, and a value after it
+abbrev pub value_cut : Option (Line × Line) → Line → Option (StepSelector × Option NodeValue)
+value_cut None text = option_map (λ which. (which, None)) (which_in text)
+value_cut (Some parts) text = do
+  which ← which_in parts.0
+  named ← part_value_in parts.1
+  Some (which, Some named)
+
+abbrev pub step_and_value : Line → Option (StepSelector × Option NodeValue)
+step_and_value text = value_cut (split_at_space text) text
+
+-- `NNN K` or `NNN K VALUE`
+unfoldable pub node_and_value : Line → Option (NodeId × StepSelector × Option NodeValue)
+node_and_value text = do
+  parts ← split_at_space text
+  node ← parse_node parts.0
+  asked ← step_and_value parts.1
+  Some (node, asked.0, asked.1)
 
 -- `NNN MMM`
 unfoldable pub two_nodes : Line → Option (NodeId × NodeId)

@@ -1,23 +1,27 @@
 //! The commands of exploring: of each how a line spells it, what `help` says of it, and what answers it.
 
-ghost use Rattle.std.specs.Prelude.{◌≡◌, map};
+ghost use Rattle.std.specs.Prelude.{◌≡◌, map, option_and_then, IfSome};
+ghost use Rattle.ga_event.specs.Flow.{IsPart};
+ghost use Rattle.ga_explorer.specs.Reading.{part_named};
 ghost use Rattle.ga_explorer.specs.Commands.{command_table, request_in, lone_request, bare_query, named_request, query_with_arguments};
 ghost use Rattle.ga_explorer.specs.inner.{explorer_state, IsTold, entry_of};
 
-use crate::arguments::{node_and_cell, node_and_step, node_and_steps, two_nodes};
+use crate::arguments::{node_and_cell, node_and_step, node_and_steps, node_and_value, two_nodes};
 use crate::back_request::parse_back;
 use crate::forms::{Row, place_of, say_command, say_help};
+use crate::named_value::part_named;
 use crate::run_request::{MOST_EVENTS, parse_run};
 use crate::which::StepSelector;
 use ga_conditions::{Conditions, no_condition};
 use ga_debug_info::DebugInfo;
+use ga_event::Part;
 use ga_explorer_text::{
     chip_overview, write_at, write_because, write_effects, write_races, write_save, write_whence,
     write_who, write_words, write_writes,
 };
 use ga_grid::NodeId;
 use ga_lab::Lab;
-use ga_scheduler::Schedule;
+use ga_scheduler::{NodeValue, Schedule};
 use ga_text::{WriteResult, Writer, parse_node, split_at_space};
 use std::alloc::Global;
 use std::io::Write;
@@ -65,10 +69,11 @@ pub enum Query {
         which: StepSelector,
         most: u32,
     },
-    /// `whence`: writes the steps whose values went into what a step of a node made.
+    /// `whence`: writes the steps whose values went into what a step of a node made, or into a value after it.
     Whence {
         node: NodeId,
         which: StepSelector,
+        value: Option<NodeValue>,
     },
     /// `because`: writes the last steps of a node before one, at most a given number, at which a value decided where it
     /// continued.
@@ -169,8 +174,8 @@ fn query_with_arguments(name: &[u8], arguments: &[u8]) -> Option<Query>
         let (node, which, most) = node_and_steps(arguments)?;
         Some(Query::At { node, which, most })
     } else if name == b"whence".as_slice() {
-        let (node, which) = node_and_step(arguments)?;
-        Some(Query::Whence { node, which })
+        let (node, which, value) = node_and_value(arguments)?;
+        Some(Query::Whence { node, which, value })
     } else if name == b"because".as_slice() {
         let (node, which, most) = node_and_steps(arguments)?;
         Some(Query::Because { node, which, most })
@@ -209,9 +214,9 @@ pub(crate) fn answer_query<W: Write>(
             let step = which.resolve(lab, node);
             write_at(lab, notes, node, step, most, writer)
         }
-        Query::Whence { node, which } => {
+        Query::Whence { node, which, value } => {
             let step = which.resolve(lab, node);
-            write_whence(alloc, lab, notes, node, step, writer)
+            write_whence(alloc, lab, notes, node, step, part_of(value), writer)
         }
         Query::Because { node, which, most } => {
             let step = which.resolve(lab, node);
@@ -223,6 +228,17 @@ pub(crate) fn answer_query<W: Write>(
         Query::Save => write_save(lab, writer),
         Query::Help => say_help(writer),
         Query::HelpOf(place) => say_command(place, writer),
+    }
+}
+
+/// The part of a node that is named, if one is.
+fn part_of(value: Option<NodeValue>) -> Option<Part>
+    ensures value { result ≡ option_and_then part_named value }
+    ensures part { IfSome result IsPart }
+{
+    match value {
+        Some(value) => part_named(value),
+        None => None,
     }
 }
 
@@ -246,7 +262,7 @@ static ROWS: &[Row] = &[
         name: b"who",
         form: b"who",
         does: b"                   who waits for whom, and which nodes can never go on\n",
-        more: b"answers: for each that waits what it does, and the nodes that it awaits; then stuck, ring and idle\nexample: who\n",
+        more: b"answers: for each that waits what it does, and the nodes that it awaits; then stuck, ring, ended and idle\nexample: who\n",
         usage: "  who                    show who waits for whom, and which nodes can never go on\n",
     },
     Row {
@@ -279,10 +295,10 @@ static ROWS: &[Row] = &[
     },
     Row {
         name: b"whence",
-        form: b"whence NNN K",
-        does: b"          the steps whose values went into what step K of NNN made\n",
-        more: b"answers: a tree: below each step, two blanks deeper, the steps that made the values it used\nexample: whence 001 last\n",
-        usage: "  whence NNN K           show the steps whose values went into what step K of NNN made, down to literals and loaded cells\n",
+        form: b"whence NNN K [VALUE]",
+        does: b"\n                      the steps whose values went into what step K of NNN made, or\n                      into a register, a word of a stack or a cell as it is after step K\n",
+        more: b"answers: a tree: below each step, two blanks deeper, the steps that made the values it used\nexample: whence 001 last, or whence 001 last r\n",
+        usage: "  whence NNN K [VALUE]   show the steps whose values went into what step K of NNN made, or into a register or cell after it\n",
     },
     Row {
         name: b"because",

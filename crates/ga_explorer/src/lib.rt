@@ -8,6 +8,7 @@ mod commands;
 mod explorer;
 mod forms;
 pub mod laws;
+mod named_value;
 mod opening;
 mod preload;
 mod run_request;
