@@ -1,5 +1,5 @@
 -- The nodes that pass a test, in their order, and the one that a schedule chooses of them.
-use Rattle.std.proofs.Common.{◌≡◌, ◌≢◌, ℕ, zero, suc, ◌+◌, ◌-◌, ◌%◌, ◌<◌, ◌≤◌, Bool, true, false, List, [], ◌∷◌, ◌++◌, length, get_or, refl, sym, ◌∙◌, ap, subst, arith, inl, inr, true≢false, cond}
+use Rattle.std.proofs.Common.{◌≡◌, ℕ, zero, suc, ◌+◌, ◌-◌, ◌%◌, ◌<◌, ◌≤◌, Bool, true, false, List, [], ◌∷◌, ◌++◌, length, get_or, refl, sym, ◌∙◌, ap, subst, arith, inl, inr, true≢false, cond}
 use Rattle.std.specs.Prelude.{Option, Some, None, option_map, IfSome}
 use Rattle.std.specs.List.{slice_get}
 use Rattle.std.proofs.lemmas.Bool.{cases_lt, cases_eq, cases_Bool}
@@ -11,14 +11,14 @@ use Rattle.ga_grid.specs.Grid.{node_id}
 use Rattle.ga_grid.specs.declared.node_id.NodeId.{NodeId}
 use Rattle.ga_grid.proofs.NodeIds.{node_id-number}
 use Rattle.ga_races.specs.Orders.{first_in}
-use Rattle.ga_races.proofs.Ready.{first_same, alone_is, none_of}
+use Rattle.ga_races.proofs.Ready.{first_same, none_of}
 use Rattle.ga_scheduler.specs.declared.schedule.Order.{Order}
 use Rattle.ga_scheduler.specs.declared.schedule.Order.TheVariants.{Rounds, Greedy, Random}
 use Rattle.ga_scheduler.specs.declared.schedule.Schedule.{Schedule}
 use Rattle.ga_scheduler.specs.declared.numbers.NumberSet.{NumberSet}
 use Rattle.ga_scheduler.specs.declared.drawing.Known.{Known}
-use Rattle.ga_scheduler.specs.Schedules.{numbers_below, node_drawn, chosen_in_order}
-use Rattle.ga_scheduler.specs.inner.{IsAlone, IsKnown}
+use Rattle.ga_scheduler.specs.Schedules.{numbers_below, node_drawn, node_in_order}
+use Rattle.ga_scheduler.specs.inner.{IsAlone, IsKnown, is_random}
 
 -- ---- the numbers that pass a test
 
@@ -105,12 +105,6 @@ numbers_quiet f (suc n) m none l = elim (cases_Bool (f n)) [
   ]
 ]
 
-numbers_alone : (f : ℕ → Bool) (n : ℕ) → n < 144 → f n ≡ true → ((m : ℕ) → m < 144 → m ≢ n → f m ≡ false) → numbers_below f 144 ≡ n ∷ []
-numbers_alone f n l is others =
-    sym (numbers_end f (n + 1) 144 (omega arith) (λ m a b. others m b (λ e. omega (arith, a, e))))
-    ∙ sym (numbers_next f 0 n (omega arith) is (λ m a b. others m (omega (arith, b, l)) (λ e. omega (arith, b, e))))
-    ∙ ap (λ (z : List ℕ). z ++ n ∷ []) (numbers_zero f)
-
 -- ---- the node that is drawn
 
 -- the number at the place
@@ -141,20 +135,22 @@ drawn_quiet f word h = elim (cases_eq (length (numbers_below f 144)) 0) [
 
 -- ---- the node that a schedule chooses
 
-pub chosen_same : (order : Order) (schedule : Schedule) (f g : ℕ → Bool) → ((m : ℕ) → m < 144 → f m ≡ g m) → chosen_in_order order schedule f ≡ chosen_in_order order schedule g
+pub chosen_same : (order : Order) (schedule : Schedule) (f g : ℕ → Bool) → ((m : ℕ) → m < 144 → f m ≡ g m) → node_in_order order schedule f ≡ node_in_order order schedule g
 chosen_same Rounds schedule f g same = first_same f g schedule.turn.number 144 same
 chosen_same Greedy schedule f g same = first_same f g schedule.turn.number 144 same
 chosen_same Random schedule f g same =
     ap (λ (z : List ℕ). option_map node_id (slice_get z ((mix_u64 schedule.generator).0 % length z))) (numbers_same f g 144 same)
 
-pub alone_chosen : (order : Order) (schedule : Schedule) (f : ℕ → Bool) (node : NodeId) → f node.number ≡ true → ((m : ℕ) → m < 144 → m ≢ node.number → f m ≡ false)
-    → Some node ≡ chosen_in_order order schedule f
-alone_chosen Rounds schedule f node is others = alone_is f schedule.turn.number node schedule.turn.in_range is others
-alone_chosen Greedy schedule f node is others = alone_is f schedule.turn.number node schedule.turn.in_range is others
-alone_chosen Random schedule f node is others =
-    let one : numbers_below f 144 ≡ node.number ∷ [] = numbers_alone f node.number node.in_range is others in
-    let place : 0 ≡ (mix_u64 schedule.generator).0 % 1 = omega arith in
-    drawn_is f (mix_u64 schedule.generator).0 0 (node.number ∷ []) node (sym one) place (omega arith) refl
+-- where it draws, and where it doesn't
+pub drawn_chosen : (order : Order) (schedule : Schedule) (f : ℕ → Bool) → true ≡ is_random order → node_drawn f (mix_u64 schedule.generator).0 ≡ node_in_order order schedule f
+drawn_chosen Rounds schedule f is = absurd (true≢false is)
+drawn_chosen Greedy schedule f is = absurd (true≢false is)
+drawn_chosen Random schedule f is = refl
+
+pub first_chosen : (order : Order) (schedule : Schedule) (f : ℕ → Bool) → false ≡ is_random order → first_in f schedule.turn.number 144 ≡ node_in_order order schedule f
+first_chosen Rounds schedule f is = refl
+first_chosen Greedy schedule f is = refl
+first_chosen Random schedule f is = absurd (true≢false (sym is))
 
 -- none from the turn on, round the chip
 none_in_turn : (f : ℕ → Bool) (turn : NodeId) → first_in f turn.number 144 ≡ None → (n : ℕ) → n < 144 → f n ≡ false
@@ -164,7 +160,7 @@ none_in_turn f turn none n l = elim (cases_lt n turn.number) [
 ]
 
 -- where it chooses none, each fails the test
-pub none_passes : (order : Order) (schedule : Schedule) (f : ℕ → Bool) → chosen_in_order order schedule f ≡ None → (n : ℕ) → n < 144 → f n ≡ false
+pub none_passes : (order : Order) (schedule : Schedule) (f : ℕ → Bool) → node_in_order order schedule f ≡ None → (n : ℕ) → n < 144 → f n ≡ false
 none_passes Rounds schedule f none n l = none_in_turn f schedule.turn none n l
 none_passes Greedy schedule f none n l = none_in_turn f schedule.turn none n l
 none_passes Random schedule f none n l = numbers_quiet f 144 n (drawn_quiet f (mix_u64 schedule.generator).0 none) l

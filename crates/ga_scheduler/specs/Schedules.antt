@@ -20,13 +20,13 @@ abbrev pub node_drawn : (ℕ → Bool) → ℕ → Option NodeId
 node_drawn test word = option_map node_id (slice_get (numbers_below test 144) (word % length (numbers_below test 144)))
 
 -- the node, of those that pass a test, that makes the next event
-abbrev pub chosen_in_order : Order → Schedule → (ℕ → Bool) → Option NodeId
-chosen_in_order Rounds schedule test = first_in test schedule.turn.number 144
-chosen_in_order Greedy schedule test = first_in test schedule.turn.number 144
-chosen_in_order Random schedule test = node_drawn test (mix_u64 schedule.generator).0
+abbrev pub node_in_order : Order → Schedule → (ℕ → Bool) → Option NodeId
+node_in_order Rounds schedule test = first_in test schedule.turn.number 144
+node_in_order Greedy schedule test = first_in test schedule.turn.number 144
+node_in_order Random schedule test = node_drawn test (mix_u64 schedule.generator).0
 
 abbrev pub next_node : Schedule → (ℕ → Bool) → Option NodeId
-next_node schedule test = chosen_in_order schedule.order schedule test
+next_node schedule test = node_in_order schedule.order schedule test
 
 -- the schedule after an event that this node made
 abbrev pub passed_by : Order → Schedule → NodeId → Schedule

@@ -15,6 +15,8 @@ use Rattle.std.specs.Int.{bit_at}
 use Rattle.ga_scheduler.specs.declared.numbers.NumberSet.{NumberSet}
 use Rattle.ga_scheduler.specs.declared.drawing.Known.{Known}
 use Rattle.ga_scheduler.specs.Schedules.{numbers_below}
+use Rattle.ga_scheduler.specs.declared.schedule.Order.{Order}
+use Rattle.ga_scheduler.specs.declared.schedule.Order.TheVariants.{Rounds, Greedy, Random}
 use Rattle.ga_ports.specs.declared.side.Side.{Side}
 use Rattle.ga_node.specs.Record.{NodeRecord}
 use Rattle.ga_node.specs.Table.{refusal}
@@ -105,6 +107,13 @@ is_decided_by other told words = false
 -- the report of the newest event in the history
 abbrev pub newest_told : State → Option Made
 newest_told s = made_in (outcomes_of_kept s) (length s.kept - 1)
+
+-- ---- whether nodes are drawn
+
+abbrev pub is_random : Order → Bool
+is_random Rounds = false
+is_random Greedy = false
+is_random Random = true
 
 -- ---- A set of numbers below 192, a bit for each
 

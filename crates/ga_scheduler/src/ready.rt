@@ -3,13 +3,13 @@
 ghost use Rattle.std.specs.Prelude.{◌≡◌, ◌<◌, ◌≤◌, ℕ, true, false, Some, IfSome, IfNone};
 ghost use Rattle.ga_grid.specs.Chip.{records_of};
 ghost use Rattle.ga_grid.specs.Grid.{neighbour_of};
-ghost use Rattle.ga_scheduler.specs.inner.{has, IsRight, HoldsReady, StaysRight, IsRightAround, IsRefreshed, IsAlone, IsKnown};
+ghost use Rattle.ga_scheduler.specs.inner.{has, IsRight, HoldsReady, StaysRight, IsRightAround, IsRefreshed, IsAlone, IsKnown, is_random};
 ghost use Rattle.ga_scheduler.specs.Schedules.{next_node};
 ghost use Rattle.ga_races.specs.Orders.{first_in};
 
 use crate::drawing::{Known, draw_node};
 use crate::numbers::NumberSet;
-use crate::schedule::{Order, Schedule};
+use crate::schedule::Schedule;
 use ga_event::next_event;
 use ga_grid::{Chip, NODES, NodeId, neighbour};
 use ga_lab::Made;
@@ -132,33 +132,43 @@ fn first_behind(ready: &NumberSet, alone: &mut Option<NodeId>, turn: NodeId) -> 
     }
 }
 
-// The node, of those in the set, that makes the next event of a schedule.
-pub(crate) fn next_from(ready: &NumberSet, known: &mut Known, schedule: &Schedule) -> Option<NodeId>
+// The node, of those in the set, that makes the next event of a schedule; `draws` is whether it draws.
+#[inline(always)]
+pub(crate) fn next_from(
+    ready: &NumberSet,
+    known: &mut Known,
+    schedule: &Schedule,
+    draws: bool,
+) -> Option<NodeId>
     requires past { (n : ℕ) → 144 ≤ n → n < 192 → has ready.now n ≡ false }
     requires known { IsKnown ready.now known.old }
+    requires draws { draws ≡ is_random schedule.now.order }
     ensures chosen { result ≡ next_node schedule.now (has ready.now) }
     ensures known { IsKnown ready.now known.new }
 {
-    match known.alone {
-        Some(node) => Some(node),
-        None => match schedule.order {
-            Order::Random => draw_node(ready, known, schedule.word()),
-            Order::Rounds => in_turn(ready, &mut known.alone, schedule.turn),
-            Order::Greedy => in_turn(ready, &mut known.alone, schedule.turn),
-        },
+    if draws {
+        draw_node(ready, known, schedule.word())
+    } else {
+        in_turn(ready, &mut known.alone, schedule.turn)
     }
 }
 
-// The first node in the set from the turn on, round the chip.
+// The first node in the set from the turn on, round the chip, where it may be known that one node is alone in the set.
+#[inline(always)]
 fn in_turn(ready: &NumberSet, alone: &mut Option<NodeId>, turn: NodeId) -> Option<NodeId>
     requires past { (n : ℕ) → 144 ≤ n → n < 192 → has ready.now n ≡ false }
     requires alone { IfSome alone.old (IsAlone ready.now) }
     ensures first { result ≡ first_in (has ready.now) turn.number 144 }
     ensures alone { IfSome alone.new (IsAlone ready.now) }
 {
-    if ready.has(turn.number) {
-        Some(turn)
-    } else {
-        first_behind(ready, alone, turn)
+    match *alone {
+        Some(node) => Some(node),
+        None => {
+            if ready.has(turn.number) {
+                Some(turn)
+            } else {
+                first_behind(ready, alone, turn)
+            }
+        }
     }
 }

@@ -4,7 +4,7 @@ ghost use Rattle.std.specs.Prelude.{◌≡◌, ◌≤◌, ◌+◌, ℕ, length, 
 ghost use Rattle.ga_event.specs.Apply.{replay};
 ghost use Rattle.ga_lab.specs.Machine.{chip_of, step_answer, stepped};
 ghost use Rattle.ga_scheduler.specs.Words.{one_over, word_count};
-ghost use Rattle.ga_scheduler.specs.inner.{HoldsReady, IsKnown, AreCounted, newest_told, IsNeeded, IsOver, events_at};
+ghost use Rattle.ga_scheduler.specs.inner.{HoldsReady, IsKnown, is_random, AreCounted, newest_told, IsNeeded, IsOver, events_at};
 ghost use Rattle.ga_scheduler.specs.Schedules.{turn_after};
 ghost use Rattle.ga_scheduler.specs.Running.{running, next_made, run_moved, held_next, after_events, AreMade, IsRefusedFor, HasEnded};
 
@@ -65,10 +65,12 @@ pub(crate) fn make(
     schedule: &mut Schedule,
     node: NodeId,
     is_here: bool,
+    draws: bool,
 ) -> Result<Made, LabFault>
     requires ready { HoldsReady (chip_of lab.old) ready.old }
     requires known { IsKnown ready.old known.old }
     requires replays { IsSome (replay lab.old.load lab.old.kept) }
+    requires draws { draws ≡ is_random schedule.old.order }
     ensures ok { IfOk result (λ made. step_answer lab.old node ≡ Ok made) }
     ensures state { OnOk result (lab.new ≡ stepped lab.old node) }
     ensures schedule { OnOk result (schedule.new ≡ turn_after schedule.old node) }
@@ -78,13 +80,14 @@ pub(crate) fn make(
         word_count lab.new writer reader ≡ word_count lab.old writer reader + one_over writer reader made) }
     ensures newest { IfOk result (λ made. newest_told lab.new ≡ Some made) }
     ensures replays { OnOk result (IsSome (replay lab.new.load lab.new.kept)) }
+    ensures draws { draws ≡ is_random schedule.new.order }
     ensures refused { IfErr result (λ why. IsRefusedFor why (step_answer lab.old node)) }
     ensures same { OnErr result (lab.new ≡ lab.old) }
     ensures stays { OnErr result (schedule.new ≡ schedule.old) }
 {
     match step_once(lab, node, is_here) {
         Ok(made) => {
-            *schedule = schedule.turn_after(node);
+            *schedule = schedule.turn_after(node, draws);
             refresh(ready, known, lab.chip(), &made);
             Ok(made)
         }
@@ -108,10 +111,12 @@ fn advance(
     needs: &Needs,
     words: &mut LinkCounts,
     end: &mut RunEnd,
+    draws: bool,
 ) -> Result<(), Over>
     requires ready { HoldsReady (chip_of lab.old) ready.old }
     requires known { IsKnown ready.old known.old }
     requires replays { IsSome (replay lab.old.load lab.old.kept) }
+    requires draws { draws ≡ is_random schedule.old.order }
     requires needed { IsNeeded needs.now until.now }
     requires most { length until.now ≤ 8 }
     requires size { length words.old ≡ 8 }
@@ -122,14 +127,15 @@ fn advance(
     ensures ready { OnOk result (HoldsReady (chip_of lab.new) ready.new) }
     ensures known { OnOk result (IsKnown ready.new known.new) }
     ensures replays { OnOk result (IsSome (replay lab.new.load lab.new.kept)) }
+    ensures draws { draws ≡ is_random schedule.new.order }
     ensures size { OnOk result (length words.new ≡ 8) }
     ensures counted { OnOk result (AreCounted until.now lab.new words.new) }
     ensures over { OnErr result (IsOver until.now (running lab.old schedule.old) (running lab.new schedule.new) end.new) }
 {
-    match next_from(ready, known, schedule) {
+    match next_from(ready, known, schedule, draws) {
         Some(node) => {
             if lab.node(node).not_ready().is_none() {
-                match make(lab, ready, known, schedule, node, true) {
+                match make(lab, ready, known, schedule, node, true, draws) {
                     Ok(made) => {
                         if let Some(which) = first_held(until, needs, words, &made, lab) {
                             *end = RunEnd::Reached { made, which };
@@ -143,7 +149,7 @@ fn advance(
                     }
                 }
             } else {
-                match make(lab, ready, known, schedule, node, false) {
+                match make(lab, ready, known, schedule, node, false, draws) {
                     Ok(made) => {
                         if let Some(which) = first_held(until, needs, words, &made, lab) {
                             *end = RunEnd::Reached { made, which };
@@ -195,6 +201,7 @@ pub fn run_schedule(
 {
     let mut ready = ready_nodes(lab.chip());
     let mut known = Known::nothing();
+    let draws = schedule.draws();
     let needs = needs_of(until);
     let mut words = count_all(until, lab);
     let mut events = 0;
@@ -209,6 +216,7 @@ pub fn run_schedule(
             &needs,
             &mut words,
             &mut end,
+            draws,
         ) {
             Ok(()) => events += 1,
             Err(Over) => {

@@ -66,6 +66,7 @@ impl Schedule {
     ghost use Rattle.std.specs.Prelude.{◌≡◌};
     ghost use Rattle.rand_xoshiro.specs.SplitMix64.{mix_u64};
     ghost use Rattle.ga_scheduler.specs.Schedules.{round_robin, greedy, random, turn_after};
+    ghost use Rattle.ga_scheduler.specs.inner.{is_random};
 
     /// Rounds, the first of which begins at node 000.
     pub fn round_robin() -> Self
@@ -107,20 +108,34 @@ impl Schedule {
         drawn_word(self.generator).0
     }
 
-    // The schedule after an event that this node made.
-    pub(crate) fn turn_after(self, node: NodeId) -> Self
-        ensures { result ≡ turn_after self node }
+    // Whether nodes are drawn.
+    pub(crate) fn draws(&self) -> bool
+        ensures { result ≡ is_random self.now.order }
     {
         match self.order {
-            Order::Rounds => Schedule {
-                turn: following(node),
-                ..self
-            },
-            Order::Greedy => Schedule { turn: node, ..self },
-            Order::Random => Schedule {
+            Order::Rounds => false,
+            Order::Greedy => false,
+            Order::Random => true,
+        }
+    }
+
+    // The schedule after an event that this node made.
+    #[inline(always)]
+    pub(crate) fn turn_after(self, node: NodeId, draws: bool) -> Self
+        requires { draws ≡ is_random self.order }
+        ensures { result ≡ turn_after self node }
+    {
+        if draws {
+            return Schedule {
                 generator: drawn_word(self.generator).1,
                 ..self
-            },
+            };
         }
+        let turn = match self.order {
+            Order::Rounds => following(node),
+            Order::Greedy => node,
+            Order::Random => node,
+        };
+        Schedule { turn, ..self }
     }
 }

@@ -5,7 +5,7 @@ ghost use Rattle.ga_event.specs.Apply.{replay};
 ghost use Rattle.ga_lab.specs.Machine.{chip_of};
 ghost use Rattle.ga_scheduler.specs.declared.condition.Condition.TheVariants.{Writes};
 ghost use Rattle.ga_scheduler.specs.Conditions.{holds};
-ghost use Rattle.ga_scheduler.specs.inner.{HoldsReady, IsKnown};
+ghost use Rattle.ga_scheduler.specs.inner.{HoldsReady, IsKnown, is_random};
 ghost use Rattle.ga_scheduler.specs.Running.{running};
 ghost use Rattle.ga_scheduler.specs.Watched.{IsNewestMade, chosen_first, told_first, first_moved, after_first, AreMadeFirst, watching, watch_after, IsHaltedFirst, IsNewestSeen, HasEndedWatched};
 
@@ -51,9 +51,11 @@ fn next_first(
     first: Option<NodeId>,
     schedule: &Schedule,
     lab: &Lab,
+    draws: bool,
 ) -> Option<NodeId>
     requires ready { HoldsReady (chip_of lab.now) ready.now }
     requires known { IsKnown ready.now known.old }
+    requires draws { draws ≡ is_random schedule.now.order }
     ensures chosen { result ≡ chosen_first first (running lab.now schedule.now) }
     ensures known { IsKnown ready.now known.new }
 {
@@ -62,10 +64,10 @@ fn next_first(
             if ready.has(node.number) {
                 Some(node)
             } else {
-                next_from(ready, known, schedule)
+                next_from(ready, known, schedule, draws)
             }
         }
-        None => next_from(ready, known, schedule),
+        None => next_from(ready, known, schedule, draws),
     }
 }
 
@@ -77,22 +79,25 @@ fn go(
     known: &mut Known,
     first: Option<NodeId>,
     schedule: &mut Schedule,
+    draws: bool,
 ) -> Result<Made, WatchedEnd>
     requires ready { HoldsReady (chip_of lab.old) ready.old }
     requires known { IsKnown ready.old known.old }
     requires replays { IsSome (replay lab.old.load lab.old.kept) }
+    requires draws { draws ≡ is_random schedule.old.order }
     ensures told { IfOk result (λ made. told_first first (running lab.old schedule.old) ≡ Some made) }
     ensures moved { OnOk result (running lab.new schedule.new ≡ first_moved first (running lab.old schedule.old)) }
     ensures ready { OnOk result (HoldsReady (chip_of lab.new) ready.new) }
     ensures known { OnOk result (IsKnown ready.new known.new) }
+    ensures draws { draws ≡ is_random schedule.new.order }
     ensures newest { IfOk result (λ made. IsNewestMade lab.new made) }
     ensures replays { OnOk result (IsSome (replay lab.new.load lab.new.kept)) }
     ensures halted { IfErr result (IsHaltedFirst first (running lab.old schedule.old)) }
     ensures same { OnErr result (lab.new ≡ lab.old) }
     ensures stays { OnErr result (schedule.new ≡ schedule.old) }
 {
-    match next_first(ready, known, first, schedule, lab) {
-        Some(node) => match make(lab, ready, known, schedule, node, true) {
+    match next_first(ready, known, first, schedule, lab, draws) {
+        Some(node) => match make(lab, ready, known, schedule, node, true, draws) {
             Ok(made) => Ok(made),
             Err(why) => Err(WatchedEnd::Refused(why)),
         },
@@ -119,9 +124,10 @@ pub fn run_watched<W: StopCondition>(
 {
     let mut ready = ready_nodes(lab.chip());
     let mut known = Known::nothing();
+    let draws = schedule.draws();
     let mut events = 0;
     while events < most {
-        match go(lab, &mut ready, &mut known, first, &mut schedule) {
+        match go(lab, &mut ready, &mut known, first, &mut schedule, draws) {
             Ok(made) => {
                 events += 1;
                 if watch.sees(&made, lab) {

@@ -8,7 +8,8 @@ use std::process::Abort;
 use std::test::Fail;
 
 /// Nodes 100, 101, 102 and 201 jump without end.
-const LOOPS: &[u8] = b"ga144 1\nnode 100\np 000000\nram 00 010000\nnode 101\np 000000\nram 00 010000\nnode 102\np 000000\nram 00 010000\nnode 201\np 000000\nram 00 010000\nend\n";
+const LOOPS: &[u8] =
+    b"ga144 1\nnode 100\np 000000\nram 00 010000\nnode 101\np 000000\nram 00 010000\nnode 102\np 000000\nram 00 010000\nnode 201\np 000000\nram 00 010000\nend\n";
 
 /// A number of steps is within 300 of 5000.
 fn near(rt: &impl Abort, steps: u32) {

@@ -2,7 +2,7 @@ use Rattle.std.proofs.Common.{◌≡◌, ◌-◌, ◌≤◌, length}
 use Rattle.std.specs.Prelude.{IsSome}
 use Rattle.ga_event.specs.Apply.{replay}
 use Rattle.ga_lab.specs.Machine.{chip_of}
-use Rattle.ga_scheduler.specs.inner.{HoldsReady, IsKnown, AreCounted}
+use Rattle.ga_scheduler.specs.inner.{HoldsReady, IsKnown, is_random, AreCounted}
 use Rattle.ga_scheduler.specs.Running.{running, after_events, AreMade, NeverHolds}
 use Rattle.ga_scheduler.proofs.running.run_schedule.Given as goal
 
@@ -13,6 +13,7 @@ invariant-loop-events l = record {
   never : NeverHolds l.until (running l.initial.lab l.initial.schedule) l.events;
   ready : HoldsReady (chip_of l.lab) l.ready;
   known : IsKnown l.ready l.known;
+  draws : l.draws ≡ is_random l.schedule.order;
   size : length l.words ≡ 8;
   words : AreCounted l.until l.lab l.words;
   replays : IsSome (replay l.lab.load l.lab.kept);

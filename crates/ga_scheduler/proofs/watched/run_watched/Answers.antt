@@ -24,6 +24,7 @@ loop-events-preserved g c =
       never = never_more_first by c.args.watch.now start c.loop-events.events unmet i.never;
       ready = c.in-Ok.ensures.ready;
       known = c.in-Ok.ensures.known;
+      draws = c.go.ensures.draws;
       replays = c.in-Ok.ensures.replays;
       most = omega arith;
     }
@@ -35,6 +36,7 @@ loop-events-init g c = record {
   watch = refl;
   never = λ k l. absurd (omega arith);
   ready = subst (λ z. HoldsReady z c.ready_nodes-ready.result) c.chip.ensures.value c.ready_nodes-ready.ensures;
+  draws = c.draws-draws.ensures;
   known = nothing_known c.ready_nodes-ready.result c.nothing-known.result c.nothing-known.ensures.alone c.nothing-known.ensures.listed;
   replays = ap is_some c.chip.ensures.replays;
   most = omega arith;

@@ -2,7 +2,7 @@ use Rattle.std.proofs.Common.{◌≡◌, ◌-◌, ◌≤◌}
 use Rattle.std.specs.Prelude.{IsSome}
 use Rattle.ga_event.specs.Apply.{replay}
 use Rattle.ga_lab.specs.Machine.{chip_of}
-use Rattle.ga_scheduler.specs.inner.{HoldsReady, IsKnown}
+use Rattle.ga_scheduler.specs.inner.{HoldsReady, IsKnown, is_random}
 use Rattle.ga_scheduler.specs.Running.{running}
 use Rattle.ga_scheduler.specs.Watched.{after_first, AreMadeFirst, watching, watch_after, NeverEnds}
 use Rattle.ga_scheduler.proofs.watched.run_watched.Given as goal
@@ -15,6 +15,7 @@ invariant-loop-events g l = record {
   never : NeverEnds (watching l.first g.W.StopCondition.ends g.W.StopCondition.seen) l.initial.watch (running l.initial.lab l.initial.schedule) l.events;
   ready : HoldsReady (chip_of l.lab) l.ready;
   known : IsKnown l.ready l.known;
+  draws : l.draws ≡ is_random l.schedule.order;
   replays : IsSome (replay l.lab.load l.lab.kept);
   most : l.events ≤ l.most;
 }
