@@ -3,3 +3,5 @@ pub mod LineAnswers
 pub mod Fronts
 pub mod Finding
 pub mod Leading
+pub mod Serving
+pub mod Prompted

@@ -11,6 +11,7 @@ pub mod laws;
 mod named_value;
 mod opening;
 mod preload;
+mod prompting;
 mod run_request;
 mod session;
 mod which;
