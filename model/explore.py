@@ -492,7 +492,7 @@ class Explorer(Machine):
 
     @command(
         "because NNN K [N]",
-        "N steps before step K at which a value decided where NNN went on\n"
+        "N steps before step K at which a value decided where NNN continued\n"
         "K of effects, at, whence, because: a step's number, or last",
         "for each the step and the word that it tested, and below it the step that made that word", "because 001 last", 100,
     )  # fmt: skip

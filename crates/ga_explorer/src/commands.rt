@@ -296,16 +296,16 @@ static ROWS: &[Row] = &[
     Row {
         name: b"whence",
         form: b"whence NNN K [VALUE]",
-        does: b"\n                      the steps whose values went into what step K of NNN made, or\n                      into a register, a word of a stack or a cell as it is after step K\n",
+        does: b"  the steps whose values went into what step K of NNN made, or\n                      into a register, a word of a stack or a cell as it is after step K\n",
         more: b"answers: a tree: below each step, two blanks deeper, the steps that made the values it used\nexample: whence 001 last, or whence 001 last r\n",
         usage: "  whence NNN K [VALUE]   show the steps whose values went into what step K of NNN made, or into a register or cell after it\n",
     },
     Row {
         name: b"because",
         form: b"because NNN K [N]",
-        does: b"     N steps before step K at which a value decided where NNN went on\nK of effects, at, whence, because: a step's number, or last\n",
+        does: b"     N steps before step K at which a value decided where NNN continued\nK of effects, at, whence, because: a step's number, or last\n",
         more: b"answers: for each the step and the word that it tested, and below it the step that made that word\nexample: because 001 last\n",
-        usage: "  because NNN K [N]      show the last N steps of NNN before its step K at which a value decided where it went on [N: 3]\n",
+        usage: "  because NNN K [N]      show the last N steps of NNN before its step K at which a value decided where it continued [N: 3]\n",
     },
     Row {
         name: b"races",
