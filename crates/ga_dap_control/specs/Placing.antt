@@ -16,7 +16,6 @@ use Rattle.ga_dap_breakpoints.specs.declared.breakpoint.LineBreakpoint.{LineBrea
 use Rattle.ga_scheduler.specs.Values.{is_possible}
 use Rattle.ga_scheduler.specs.declared.value_test.ValueTest.{ValueTest}
 use Rattle.ga_conditions.specs.Tests.{test_in}
-use Rattle.ga_dap_breakpoints.specs.Conditions.{is_step_number}
 use Rattle.serde_json.specs.Find.{get, as_str, as_null}
 use Rattle.ga_dap_breakpoints.specs.declared.condition.HitCount.{HitCount}
 use Rattle.ga_dap_breakpoints.specs.Saying.{parse_hit_condition}

@@ -3,7 +3,7 @@
 ghost use Rattle.std.specs.Prelude.{◌≡◌, ◌-◌, ◌++◌, Some};
 ghost use Rattle.ga_text.specs.Lines.{Bytes};
 ghost use Rattle.ga_text.specs.Input.{IsWithin, input_limit};
-ghost use Rattle.ga_text.specs.Output.{IsWritten, WritesExactly};
+ghost use Rattle.ga_text.specs.Output.{IsSameStream, IsWritten, WritesExactly};
 ghost use Rattle.ga_console.specs.Session.{Serves, Written};
 ghost use Rattle.ga_explorer.specs.Opening.{ExplorerState};
 ghost use Rattle.ga_explorer.specs.Session.{prompt, Prompts};
@@ -95,7 +95,8 @@ pub(crate) fn serve_explorer<R: Read, W: Write>(
     is_prompted: bool,
 ) -> Result<CommandsEnd, WriteError>
     requires { IsWithin input.old }
-    ensures { (left before said : Bytes) → R.remaining reader.old ≡ Some left →
+    ensures same { IsSameStream writer.old writer.new }
+    ensures serves { (left before said : Bytes) → R.remaining reader.old ≡ Some left →
         IsWritten (W.contents writer.old.stream.now) before said writer.old.pending.items →
         (read rest text sent : Bytes) × (last : ExplorerState)
         × (input.old.bytes ++ left ≡ read ++ rest) × (R.remaining reader.new ≡ Some rest)

@@ -8,8 +8,8 @@ use Rattle.ga_explorer.specs.Session.{prompt, Prompts}
 use Rattle.ga_explorer.proofs.Prompted.{serves_prompted, nothing_served, written_on, prefix_on}
 use Rattle.ga_explorer.proofs.prompting.serve_explorer.Goals as goal
 
-pub returns-in_err-write_prompt : goal.returns-in_err-write_prompt
-returns-in_err-write_prompt g c = λ left before said known held.
+pub returns-in_err-write_prompt-clause-serves : goal.returns-in_err-write_prompt-clause-serves
+returns-in_err-write_prompt-clause-serves g c = λ left before said known held.
     let told = c.in_err-write_prompt.ensures.1 before said held in
     let read : List ℕ = c.args.input.now.bytes in
     let first : List ℕ = prompt c.args.is_prompted in (
@@ -27,8 +27,8 @@ returns-in_err-write_prompt g c = λ left before said known held.
           (λ why. prefix_on said first told.sent told.front),
     )
 
-pub returns : goal.returns
-returns g c = λ left before said known held.
+pub returns-clause-serves : goal.returns-clause-serves
+returns-clause-serves g c = λ left before said known held.
     let told = c.in_ok-write_prompt.ensures.1 before said held in
     let first : List ℕ = prompt c.args.is_prompted in
     let done = c.serve.ensures.serves left before (said ++ first) known told in (

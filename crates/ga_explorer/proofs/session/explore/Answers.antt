@@ -13,7 +13,7 @@ returns-in-Ok g c = λ left before known held.
     let begun = c.in-Ok.ensures.begun left before known held in
     let text : List ℕ = begun.4.1 in
     let silent = begun.3 ∙ ap Some (ap (λ (t : List ℕ). before ++ t) begun.4.0 ∙ append-nil before) in
-    let done = c.serve_explorer-ending.ensures begun.0 before ready begun.2 (written_fresh _ before ready _ (ap g.W.Write.contents c.ready-said.ensures.stream ∙ silent) c.ready-said.ensures.said) in
+    let done = c.serve_explorer-ending.ensures.serves begun.0 before ready begun.2 (written_fresh _ before ready _ (ap g.W.Write.contents c.ready-said.ensures.stream ∙ silent) c.ready-said.ensures.said) in
     let there = done.7 in
     let P : ℕ → Type 0 = λ n. Serves (Prompts c.args.is_prompted) (16777216 - n) c.in-Ok.begun done.0 done.1 done.2 done.4 c.serve_explorer-ending.result in (
       text ++ done.0,
