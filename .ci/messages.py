@@ -110,6 +110,10 @@ def wrong_inputs(room):
         "a folder": ({"program": room}, f"{room}: a folder"),
         "no end": ({"program": "/dev/zero"}, "/dev/zero: more than 16777216 bytes"),
         "a fault of source": ({"program": "bad.f18"}, "bad.f18: line 2: what is foo"),
+        "faults of source": (
+            {"program": "worse.f18"},
+            "worse.f18: line 2: what is foo\nline 3: number out of range: 999999 (-131072 to 262143)\nline 3: what is bar",
+        ),
         "a fault of an image": ({"program": "bad.image"}, "bad.image: no 13 node line 3"),
         "limit 0": ({"program": "bad.f18", "limit": 0}, "the limit is 1 to 100000000"),
         "an order that is none": ({"program": "bad.f18", "order": "backwards"}, order),
@@ -130,7 +134,7 @@ def wrong_inputs(room):
     }
     # conditions that are no text; null is none
     others = [5, True, ["1"], {}, None]
-    kinds = {"condition": ["condition: a register or [HH], then = != < <= > or >=, then a number"] * 4, "hitCondition": ["hitCondition: N, >= N or % N, from 1 on"] * 4}
+    kinds = {"condition": ["condition: a register or [HH], then = != < <= > or >=, then a number, port or label"] * 4, "hitCondition": ["hitCondition: N, >= N or % N, from 1 on"] * 4}
     runs = stands + request(4, "continue", threadId=1000)
     found = {
         "nothing": (b"", 0, []),

@@ -3,6 +3,7 @@
 import random
 
 from client import demand, text_of
+from conditions import generated_test
 from editing import Session
 from listing import NAMES
 from machine import name
@@ -155,16 +156,13 @@ def asked_of(number, path, can):
     return found, mirrored
 
 
-# What a condition of a generated session compares, and how; and hit conditions.
-VALUES = ("t", "t", "s", "r", "a", "p", "slot", "step", "carry", "d3", "r2", "[05]", "[83]")
-SIGNS = ("=", "==", "!=", "!=", "<", "<=", ">", ">=")
-SIZES = ("0", "1", "5", "0x6", "7", "12", "40", "-1", "-0x20000", "0x15555", "x")
+# Hit conditions of generated sessions.
 COUNTS = ("1", "2", "3", "5", "% 2", "% 3", ">= 2", ">= 4", "0", "%2")
 
 
 def conditions(draw):
     """Now and then a condition, and a hit condition."""
-    found = {"condition": f"{draw.choice(VALUES)} {draw.choice(SIGNS)} {draw.choice(SIZES)}"} if draw.random() < 0.3 else {}
+    found = {"condition": generated_test(draw)} if draw.random() < 0.3 else {}
     return found | ({"hitCondition": draw.choice(COUNTS)} if draw.random() < 0.3 else {})
 
 

@@ -3,7 +3,7 @@
 import re
 
 from conditions import asked_with
-from explore import mixed
+from explore import mixed, next_node
 from files import answer, load_of
 from machine import NODES, name
 from shown import SCOPES, Places, Shown, Watched, address_of, cell_of, node_of_frame, node_of_thread, thread_of
@@ -113,16 +113,10 @@ class Session:
         self.order, self.state = self.arguments.get("order", "rounds"), self.arguments.get("seed", 0)
         self.turn, self.known, self.reported, self.points, self.ids = 0, set(), set(), [], 0
         self.filters, self.by_lines, self.stops_on_entry = {"stop", "stuck"}, not image, self.arguments.get("stopOnEntry", True)
-        if self.order == "random":
-            self.draw()
         self.respond()
         if told:
             self.tell("output", {"category": "stderr", "output": told.replace("ga144: ", "")})
         self.tell("initialized")
-
-    def draw(self):
-        word, self.state = mixed(self.state)
-        self.turn = word % NODES
 
     def do_configurationDone(self):
         if self.is_configured:
@@ -176,7 +170,8 @@ class Session:
         for asked in self.arguments.get("breakpoints", []):
             self.ids += 1
             found, more = place(asked) or (None, {})
-            test, fault = asked_with(asked, len(self.points)) if found else (None, why)
+            label = lambda text: self.notes.address(found["node"], text)
+            test, fault = asked_with(asked, len(self.points), label) if found else (None, why)
             told.append({"id": self.ids} | ({"message": fault, "verified": False} if fault else {"verified": True} | more))
             self.points += [] if fault else [found | test | {"id": self.ids, "set": kind}]
         self.respond({"breakpoints": told})
@@ -274,15 +269,15 @@ class Session:
 
     def event(self, first=None):
         """The next event, of one node while it has one: what is told of it, or why there is none."""
-        machine, turn = self.machine, self.turn
-        node = first if first is not None and machine.next(first) else next((it % NODES for it in range(turn, turn + NODES) if machine.next(it % NODES)), None)
+        machine = self.machine
+        node = first if first is not None and machine.next(first) else next_node(machine, self.order, self.turn, self.state)
         if node is None:
             return None, "quiet"
         told = machine.step(node)
         if told.startswith("no "):
             return None, "full"
         if self.order == "random":
-            self.draw()
+            self.state = mixed(self.state)[1]
         else:
             self.turn = node if self.order == "greedy" else (node + 1) % NODES
         return told, machine.events[-1]

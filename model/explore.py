@@ -2,11 +2,12 @@
 
 import re
 
+from conditions import SIGN, SIGNS, number_in, test_in
 from listing import NAMES
 from machine import Machine, NODES, name
 from node import FETCH_DUE, Node, SIDES, neighbour, target_of
 from notes import Notes
-from whence import LOADED, asked_of, rows_of, tested_by
+from whence import LOADED, asked_of, held_after, rows_of, tested_by
 
 NODE, W, HH = "[0-7](?:0[0-9]|1[0-7])", "0[0-3][0-9a-fA-F]{4}", "[0-9a-fA-F]{2}"
 NUMBER = "(?:0|[1-9][0-9]{0,9})"
@@ -15,8 +16,8 @@ MOST = (1 << 32) - 1
 LONGEST = 200
 STORES = {"0c": ("!p", "p"), "0d": ("!+", "a"), "0e": ("!b", "b"), "0f": ("!", "a")}
 CONDITION = re.compile(
-    rf"pass {NODE} {NODE} (?:= {W}|{NUMBER})|step {NODE} {NUMBER}|stop|stop {NODE}|wait {NODE}|mem {NODE} {HH} = {W}|p {NODE} {PLACE}"
-    rf"|reach {NODE} {PLACE}|change {NODE} {HH}(?: = {W})?"
+    rf"pass {NODE} {NODE} (?:{SIGN} (?P<passed>.+)|{NUMBER})|step {NODE} {NUMBER}|stop|stop {NODE}|wait {NODE}|mem (?P<of>{NODE}) {HH} = (?P<held>.+)|p {NODE} {PLACE}"
+    rf"|reach {NODE} {PLACE}|change (?P<in>{NODE}) {HH}(?: = (?P<stored>.+))?|(?P<node>{NODE}) (?P<test>.+)", re.DOTALL
 )
 MOST_CONDITIONS = 8
 RUN = re.compile(rf"run(?: (greedy|random ({NUMBER})))?(?: ({NUMBER}))?(?: until (.+))?")
@@ -33,14 +34,20 @@ def command(*row):
 
 
 # what the words of a form stand for; one in brackets may be missing
-KINDS = {"NNN": NODE, "MMM": NODE, "K": STEP, "HH": HH, "N": "[1-9]?[0-9]", "COMMAND": ".+"}
+VALUE = "VALUE"
+KINDS = {"NNN": NODE, "MMM": NODE, "K": STEP, "HH": HH, "N": "[1-9]?[0-9]", "COMMAND": ".+", VALUE: rf"[tsrpabi]|d[2-9]|r[1-8]|io|carry|slot|\[{HH}\]"}
 FEW = 3
+
+
+def kind_of(word):
+    """What a word of a form stands for."""
+    return word[1:-1] if word.startswith("[") else word
 
 
 def spelled(form):
     """The lines of a form, and the kinds of its arguments."""
     command, *words = form.split(" ")
-    kinds = [word.strip("[]") for word in words]
+    kinds = [kind_of(word) for word in words]
     return re.compile(command + "".join(f"(?: ({KINDS[kind]}))" + "?" * word.startswith("[") for kind, word in zip(kinds, words))), kinds
 
 
@@ -76,6 +83,13 @@ def number_of(text):
     return 18 * int(text[0]) + int(text[1:])
 
 
+def waiting(number):
+    """A node into which nothing was loaded, after the event by which it comes to wait for code."""
+    node = Node(number)
+    node.own(None)
+    return node
+
+
 def cell_of(part):
     """The cell that the name of a part tells, or None."""
     return target_of(int(part, 16)) if re.fullmatch("[0-9a-f]{2}", part) else None
@@ -88,6 +102,13 @@ def mixed(state):
     word = (word ^ word >> 30) * 0xBF58476D1CE4E5B9 % (1 << 64)
     word = (word ^ word >> 27) * 0x94D049BB133111EB % (1 << 64)
     return word ^ word >> 31, state
+
+def next_node(machine, order, turn, state):
+    """The node, of those that have an event, that makes the next one: the first from the turn on, round the chip, or one that is drawn."""
+    if order == "random":
+        nodes = [it for it in range(NODES) if machine.next(it) is not None]
+        return nodes[mixed(state)[0] % len(nodes)] if nodes else None
+    return next((it % NODES for it in range(turn, turn + NODES) if machine.next(it % NODES) is not None), None)
 
 class Explorer(Machine):
     notes = Notes()
@@ -127,13 +148,37 @@ class Explorer(Machine):
                 given.append(self.steps[given[0]] if word == "last" else int(word))
             elif kind == "HH":
                 given.append(int(word, 16))
+            elif kind == VALUE:
+                given.append(word and word.lower())
             else:
                 given.append(number_of(word) if word and kind != "COMMAND" else word)
         return given
 
     def is_condition(self, text):
         kind, *words = text.split(" ")
-        return bool(CONDITION.fullmatch(text)) and (kind not in ("p", "reach") or self.address(*words) is not None)
+        said = CONDITION.fullmatch(text)
+        if said and said["test"] is not None:
+            return self.test(said["node"], said["test"])[0] is not None
+        if said and said["passed"] is not None:
+            return self.is_word(None, said["passed"])
+        for node, word in (("of", "held"), ("in", "stored")):
+            if said and said[word] is not None:
+                return self.is_word(said[node], said[word])
+        return bool(said) and (kind not in ("p", "reach") or self.address(*words) is not None)
+
+    def label(self, node):
+        """The addresses of a node's labels."""
+        return lambda text: node and self.notes.address(number_of(node), text)
+
+    def number(self, node, text):
+        return number_in(text, self.label(node))
+
+    def is_word(self, node, text):
+        number = self.number(node, text)
+        return number is not None and number < 1 << 18
+
+    def test(self, node, text):
+        return test_in(text, self.label(node))
 
     @staticmethod
     def written(conditions):
@@ -143,20 +188,17 @@ class Explorer(Machine):
     @command(
         "run [greedy|random SEED] [N] [until COND]",
         "make up to N events, in rounds or in this order\n"
-        "COND: pass NNN MMM = W, pass NNN MMM J, step NNN K, stop, stop NNN, wait NNN,\n"
-        "      mem NNN HH = W, p NNN X, reach NNN X, change NNN HH [= W], COND or COND\n"
-        "X: an address, a label, line N",
-        "reached M EVENT, made M, quiet M or full M: how many events, and why no more", "run 1000 until stop or reach 001 000012", 230,
+        "COND: NNN VALUE OP N, pass NNN MMM OP N, pass NNN MMM J, step NNN K, stop, stop NNN,\n"
+        "      wait NNN, mem NNN HH = N, p NNN X, reach NNN X, change NNN HH [= N], COND or COND\n"
+        "VALUE: t s r p a b i, d2 to d9, r1 to r8, io, slot, carry, step, [HH]\n"
+        "OP: = != < <= > >=   N: a number, a port, a label   X: an address, a label, line N",
+        "reached M EVENT, made M, quiet M or full M: how many events, and why no more", "run 1000 until stop or 001 t = 0x150", 230,
     )  # fmt: skip
     def run(self, order, seed, most, conditions):
         turn, state = 0, seed
         written = self.written(conditions)
-        if order == "random":
-            word, state = mixed(state)
-            turn = word % NODES
         for made in range(most):
-            nodes = [(turn + at) % NODES for at in range(NODES)]
-            node = next((it for it in nodes if self.next(it) is not None), None)
+            node = next_node(self, order, turn, state)
             if node is None:
                 return f"quiet {made}"
             if len(self.events) == self.limit:
@@ -167,8 +209,7 @@ class Explorer(Machine):
             if held:
                 return f"reached {made + 1}{f' by {held}' if len(conditions) > 1 else ''} {told}"
             if order == "random":
-                word, state = mixed(state)
-                turn = word % NODES
+                state = mixed(state)[1]
             else:
                 turn = node if order == "greedy" else (node + 1) % NODES
         return f"made {most}"
@@ -183,15 +224,19 @@ class Explorer(Machine):
         if kind == "pass" and len(words) == 3:
             return len(self.sent(*map(number_of, words[:2]))) == int(words[2])
         if kind == "pass":
-            return event[5] == words[3].lower()
+            return SIGNS[words[2]](int(event[5], 16), self.number(None, words[3]))
         if kind == "step":
             ends = [event[:2]] if own else [event[1:3], event[3:5]]
             return words in ends
         if kind in ("stop", "wait"):
             return own and event[2] == kind and (not words or event[0] == words[0])
+        if re.fullmatch(NODE, kind):
+            node = number_of(kind)
+            return self.test(kind, " ".join(words))[0](self.chip[node], self.steps[node])
         node = number_of(words[0])
+        asked = self.number(words[0], " ".join(words[3:])) if kind in ("mem", "change") and words[3:] else None
         if kind == "mem":
-            return self.mem(node, int(words[1], 16)).split(" ")[3] == words[3].lower()
+            return int(self.mem(node, int(words[1], 16)).split(" ")[3], 16) == asked
         if kind == "p":
             return self.chip[node].p == self.address(*words)
         if words[0] not in ([event[0]] if own else event[1:4:2]):
@@ -199,7 +244,7 @@ class Explorer(Machine):
         if kind == "reach":
             it = self.chip[node]
             return not it.wait and not it.stop and it.slot == FETCH_DUE and it.p == self.address(*words)
-        return self.wrote(before[node], told, int(words[1], 16)) and [it.lower() for it in words[3:]] in ([], [self.mem(node, int(words[1], 16)).split(" ")[3]])
+        return self.wrote(before[node], told, int(words[1], 16)) and asked in (None, int(self.mem(node, int(words[1], 16)).split(" ")[3], 16))
 
     @staticmethod
     def wrote(before, told, address):
@@ -272,13 +317,15 @@ class Explorer(Machine):
             marked -= freed
 
     def idle(self):
-        """The nodes into which nothing was loaded, and which kept nothing but the event by which they came to wait for code."""
+        """The nodes into which nothing was loaded, and which kept nothing but the event by which they came to wait for code; and those that
+        were loaded as they are after it, and kept none."""
         waits = [event[0] for event, told in zip(self.events, self.told) if told.endswith(" 1 wait")]
-        return {node for node in waits if self.steps[node] == 1 and vars(self.load[node]) == vars(Node(node))}
+        idle = {node for node in waits if self.steps[node] == 1 and vars(self.load[node]) == vars(Node(node))}
+        return idle | {node for node in range(NODES) if not self.steps[node] and vars(self.load[node]) == vars(waiting(node))}
 
     @command(
         "who", "who waits for whom, and which nodes can never go on",
-        "for each that waits what it does, and the nodes that it awaits; then stuck, ring and idle", "who", 30,
+        "for each that waits what it does, and the nodes that it awaits; then stuck, ring, ended and idle", "who", 30,
     )  # fmt: skip
     def answer_who(self):
         return "\n".join(self.waiting())
@@ -289,12 +336,25 @@ class Explorer(Machine):
             if self.chip[node].wait and node not in idle:
                 beside = "".join(f" {side} {name(other)} {self.does(other)}" for side, other in self.awaited(node))
                 yield f"{name(node)} {self.does(node)}{beside}"
-        busy = [name(node) for node in stuck if node not in idle]
+        ended, still = self.ended(), sum(node in idle for node in stuck)
+        busy = [name(node) for node in stuck if node not in ended]
         if busy:
-            yield " ".join(["stuck", *busy] + ([f"and {len(stuck) - len(busy)} idle"] if len(busy) < len(stuck) else []))
+            yield " ".join(["stuck", *busy] + ([f"and {still} idle"] if still else []))
         yield from (" ".join(["ring", *map(name, ring)]) for ring in self.rings(stuck))
+        over = [name(node) for node in stuck if node in ended and node not in idle]
+        if over:
+            yield " ".join(["ended", *over])
         if idle:
             yield f"idle {len(idle)}"
+
+    def ended(self):
+        """The least set of nodes that wait for code, or to read from nodes of the set alone."""
+        ended, more = set(), {node for node in range(NODES) if self.chip[node].wait and self.chip[node].wait[0] == "fetch"}
+        while more:
+            ended |= more
+            reading = [node for node in range(NODES) if node not in ended and self.chip[node].wait and self.chip[node].wait[0] == "read"]
+            more = {node for node in reading if self.awaited(node) and all(other in ended for _, other in self.awaited(node))}
+        return ended
 
     def rings(self, stuck):
         """The rings among some nodes, each of which awaits the next alone: each from its node of the lowest number on."""
@@ -308,8 +368,8 @@ class Explorer(Machine):
                 yield ring
 
     @command(
-        "effects NNN K", "what rewind NNN K would take",
-        "effects X N, and for each of N nodes its first step that would go, and how many would", "effects 001 last", 50,
+        "effects NNN K", "what rewind NNN K would remove",
+        "effects X N, and for each of N nodes its first step that it would remove, and their number", "effects 001 last", 50,
     )  # fmt: skip
     def answer_effects(self, node, step):
         place = self.place(node, step)
@@ -325,7 +385,7 @@ class Explorer(Machine):
         return [told for event, told in zip(self.events, self.told) if event == (writer, reader)]
 
     @command(
-        "words NNN MMM", "the words that went from NNN to MMM",
+        "words NNN MMM", "the words transferred from NNN to MMM",
         "words NNN MMM C, and for each of C words its number, the steps of both nodes and the word", "words 000 001", 60,
     )  # fmt: skip
     def answer_words(self, writer, reader):
@@ -346,7 +406,7 @@ class Explorer(Machine):
 
     @command(
         "writes NNN HH", "the steps that wrote the cell HH of NNN, the newest first",
-        "for each the step, the opcode and the word that stood there then", "writes 001 20", 70,
+        "for each the step, the opcode and the word", "writes 001 20", 70,
     )  # fmt: skip
     def answer_writes(self, node, address):
         """The steps by which a node wrote a cell of its RAM: one of four opcodes, at an address that names the cell."""
@@ -376,8 +436,8 @@ class Explorer(Machine):
         return NAMES[int(words[3], 16)] if words[2] == "run" else " ".join(words[2:])
 
     @command(
-        "at NNN K [N]", "N steps before and behind step K of NNN, with registers",
-        "for each the step, what it did, and the registers t, s, r, a, b and p behind it", "at 001 last 5", 80,
+        "at NNN K [N]", "N steps before and after step K of NNN, with registers",
+        "for each the step, what it did, and the registers t, s, r, a, b and p after it", "at 001 last 5", 80,
     )  # fmt: skip
     def answer_at(self, node, step, around):
         if not 1 <= step <= self.steps[node]:
@@ -409,16 +469,18 @@ class Explorer(Machine):
         return f"{name(node)} {told}"
 
     @command(
-        "whence NNN K", "the steps whose values went into what step K of NNN made",
-        "a tree: below each step, two blanks deeper, the steps that made the values it used", "whence 001 last", 160,
+        f"whence NNN K [{VALUE}]",
+        "the steps whose values went into what step K of NNN made, or\n"
+        "                      into a register, a word of a stack or a cell as it is after step K",
+        "a tree: below each step, two blanks deeper, the steps that made the values it used", "whence 001 last, or whence 001 last r", 160,
     )  # fmt: skip
-    def answer_whence(self, node, step):
+    def answer_whence(self, node, step, value):
         if not 1 <= step <= self.steps[node]:
             return "no 6 nostep"
         passed, deeds = self.followed()
         asked, made = asked_of(passed, NODES)
         tails = self.tails(passed)
-        first = asked[node, step]
+        first = held_after(passed, NODES, node, step, value) if value else asked[node, step]
         head = f"{name(node)} {step} {deeds[node, step]}{tails[node, step]}"
         if first is None:
             return head
@@ -430,7 +492,7 @@ class Explorer(Machine):
 
     @command(
         "because NNN K [N]",
-        "N steps before step K at which a value decided where NNN went on\n"
+        "N steps before step K at which a value decided where NNN continued\n"
         "K of effects, at, whence, because: a step's number, or last",
         "for each the step and the word that it tested, and below it the step that made that word", "because 001 last", 100,
     )  # fmt: skip
@@ -450,7 +512,7 @@ class Explorer(Machine):
                 mark = f" {register} {word:06x}" if register else ""
                 head = f"{name(node)} {number} {deeds[node, number]}{mark}{tails[node, number]}"
                 lines.append(f"{head}\n  {self.made_line(tag, deeds, tails)}")
-        return "\n".join(reversed(lines[-most:] if most else []))
+        return "\n".join(reversed(lines[-most:] if most else [])) if lines else "none"
 
     def offers(self, node, step):
         """The neighbours that a step of each would make give a node a word, were a step of it taken back, with that word."""
@@ -533,8 +595,8 @@ class Explorer(Machine):
         return [line for look, change in pairs if only is None or self.events[look] == (only,) for line in self.reading(words[look], look, change)]
 
     @command(
-        "races [NNN]", "steps that could have come out otherwise, and how",
-        "races N, and for each of N steps what else it could have got, and two commands that lead there", "races 001", 40,
+        "races [NNN]", "steps that yield another word in another order, and how",
+        "races N, and for each of N steps the other word, and two commands that lead there", "races 001", 40,
     )  # fmt: skip
     def answer_races(self, only):
         """The steps that could have come out otherwise, of a node or of all, and what holds of other orders."""
@@ -555,8 +617,8 @@ class Explorer(Machine):
         return "\n".join([f"races {len(lines)}"] + lines + last)
 
     @command(
-        "save", "the kept events as lines of debug",
-        "step NNN for each kept event, the oldest first", "save", 10,
+        "save", "the history as lines of debug",
+        "step NNN for each event, the oldest first", "save", 10,
     )  # fmt: skip
     def answer_save(self):
         return "\n".join(f"step {name(event[0])}" for event in self.events)
@@ -572,23 +634,23 @@ class Explorer(Machine):
 # Those of the debugger, of which `back until` is one of exploring.
 COMMANDS += [
     ("step NNN", "make the next event of NNN",
-     "NNN K and what the step did, or pass WWW K RRR J W: the word W went from WWW to RRR", "step 001"),
+     "NNN K and what the step did, or pass WWW K RRR J W: it moved the word W from WWW to RRR", "step 001"),
     ("back [[NNN] until COND]",
-     "take the newest event back; or that behind which COND held last,\n"
-     "                      with all since; or such a step of NNN, with what depends on it",
-     "removed X kept M: X events went, and M are left; or none, and nothing changes, where COND held behind no event", "back until change 001 20", 40),
-    ("rewind NNN K", "take step K of NNN back, with all that depends on it",
-     "removed X kept M: X events went, and M are left", "rewind 001 4"),
-    ("node NNN", "what NNN holds",
+     "undo the newest event; or the newest after which COND held, and all\n"
+     "                      later ones; or such a step of NNN, with its dependents",
+     "removed X kept M: X events were removed, and M are left; or none if there is no such event", "back until change 001 20", 40),
+    ("rewind NNN K", "remove step K of NNN, with its dependents",
+     "removed X kept M: X events were removed, and M are left", "rewind 001 4"),
+    ("node NNN", "the state of NNN",
      "the state, the registers and both stacks, the top first", "node 001"),
     ("mem NNN HH", "the word at HH of the memory of NNN",
      "mem NNN HH W: RAM below 80, ROM from there on", "mem 001 20"),
     ("trace NNN", "the steps of NNN",
      "trace NNN C, and C events, the oldest first", "trace 001"),
     ("why NNN K MMM J", "by which events step K of NNN led to step J of MMM",
-     "chain C, and C events from the cause to what came of it; or independent",
-     "why 000 3 001 7, the cause first: did step 3 of 000 lead to step 7 of 001?"),
-    ("count", "how many events are kept and were made",
+     "chain C, and C events from the cause to its effect; or independent",
+     "why 000 3 001 7, did step 3 of 000 lead to step 7 of 001?"),
+    ("count", "how many events the history has, and how many were made",
      "kept K made M limit L", "count"),
     ("dump", "the chip as an image",
      "an image of format 2, which every command reads", "dump"),

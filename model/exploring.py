@@ -12,7 +12,8 @@ import subprocess
 import sys
 from itertools import zip_longest
 
-from explore import FORMS, NODE, OFTEN, ROWS, STORES, Explorer, number_of
+from conditions import generated_test, value_of
+from explore import FORMS, NODE, OFTEN, ROWS, STORES, VALUE, Explorer, kind_of, number_of
 from files import answer, load_of
 from machine import name
 from notes import Notes
@@ -107,6 +108,11 @@ class Session:
         draw = self.random
         return draw.choice((draw.randrange(8), draw.randrange(0x20, 0x24), draw.randrange(256))) ^ draw.choice((0, 0, 0, 0x40, 0x80))
 
+    def cell(self, node):
+        """An address, half of the time that of a cell of the node that was written, if there is one."""
+        written = [at for at, (now, loaded) in enumerate(zip(self.machine.chip[node].ram, self.machine.load[node].ram)) if now != loaded]
+        return self.random.choice(written) if written and self.random.random() < 0.5 else self.address()
+
     def link(self):
         """Two nodes between which words went, one way or the other, or any two."""
         passed = [event for event in self.machine.events if len(event) == 2]
@@ -130,7 +136,8 @@ class Session:
         if words[0] == "pass":
             _, writer, _, reader, its, word = words
             number = len(machine.sent(number_of(writer), number_of(reader)))
-            return [f"pass {writer} {reader} = {word.upper()}", f"pass {writer} {reader} {number}", f"step {reader} {its}"]
+            compared = f"pass {writer} {reader} {pick(('<=', '>', '!=', '=='))} {pick((word, str(int(word, 16)), 'right'))}"
+            return [f"pass {writer} {reader} = {word.upper()}", compared, f"pass {writer} {reader} {number}", f"step {reader} {its}"]
         held = machine.chip[number_of(words[0])]
         ended = ["stop", f"{words[2]} {words[0]}"] if words[2] in ("wait", "stop") else []
         ended += [f"{kind} {words[0]} {label}" for kind in ("p", "reach") for label, address in self.places(held.number) if address == held.p]
@@ -141,6 +148,8 @@ class Session:
             store = machine.chip[number_of(node)]
             cell = pick([at for at in range(64) if store.ram[at] != self.machine.chip[number_of(node)].ram[at]] or [0x22])
             ended += [f"change {node} {cell:02x}", f"change {node} {cell + 0x40:02x} = {store.ram[cell]:06X}"]
+        value = pick(("t", "s", "r", "a", "p", "slot", "carry", "d4", "r1", "[22]", "step"))
+        ended += [f"{words[0]} {generated_test(self.random, value, value_of(held, int(words[1]), value))}"] * 3
         return [f"step {words[0]} {words[1]}", f"p {words[0]} {held.p:06x}", f"mem {words[0]} 22 = {held.ram[0x22]:06x}"] + ended
 
     def conditions(self, order):
@@ -158,7 +167,8 @@ class Session:
             f"{passing} = {self.word():06X}", f"{passing} {len(self.machine.sent(writer, reader)) + pick((0, 1, 2))}", "stop", f"stop {name(node)}",
             f"wait {name(node)}", f"mem {name(node)} {self.address():02x} = {self.word():06X}",
             f"{pick(('p', 'reach'))} {name(node)} {pick([f'{self.random.randrange(12):06x}', *(place for place, _ in self.places(node)), f'line {self.random.randrange(20)}'])}",
-            f"change {name(node)} {self.address():02x}" + pick(("", f" = {self.word():06X}")),
+            f"change {name(node)} {self.address():02x}" + pick(("", f" = {self.word():06X}", f" = {self.word()}")), f"{name(node)} {generated_test(self.random)}",
+            f"{passing} {generated_test(self.random, 't')[2:]}",
         ))  # fmt: skip
 
     def run(self):
@@ -192,9 +202,10 @@ class Session:
             if word.startswith("[") and draw.randrange(3) == 0:
                 break
             line.append({
-                "NNN": lambda: name(first), "MMM": lambda: name(second), "K": lambda: f"{self.step(first)}", "HH": lambda: f"{self.address():02x}",
+                "NNN": lambda: name(first), "MMM": lambda: name(second), "K": lambda: f"{self.step(first)}", "HH": lambda: f"{self.cell(first):02x}",
                 "N": lambda: f"{draw.randrange(draw.choice((4, 100)))}", "COMMAND": lambda: draw.choice([*ROWS, "cond"]),
-            }[word.strip("[]")]())  # fmt: skip
+                VALUE: lambda: draw.choice((*"tsrpabi", f"d{draw.randrange(2, 10)}", f"r{draw.randrange(1, 9)}", "io", "carry", "slot", f"[{self.address():02x}]")),
+            }[kind_of(word)]())  # fmt: skip
         return " ".join(line)
 
     def wrong(self):

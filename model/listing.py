@@ -1,14 +1,10 @@
 """A second reading of "Source" in docs/REFERENCE.md: what `ga144 list` and `ga144 dis` write."""
 
-import re
-
 from machine import name as name_of
 from node import Node, advanced, target_of
-from source import FIELDS, programs_of
-from words import OPCODES, PORTS, Fault, lines_of, words_of
+from source import FIELDS, numbered, on_line, programs_left, programs_of, told_of
+from words import OPCODES, PORTS, Fault, lines_of
 
-MOST_FAULTS = 200
-LEADING = ("node", ":", "org", "/p", "/a", "/b")
 NAMES = ["invert" if it == "-" else it for it in OPCODES]
 
 
@@ -33,53 +29,30 @@ def cell_lines(cell, layout, line):
         yield f"{address:03x} {layout.value(value):06x} {value_text(value)}"
 
 
-def left_by(words, number):
-    """The words without the one of a number and those that go with it."""
-    at = next(place for place, (it, _) in enumerate(words) if it == number)
-    texts = [word if isinstance(word, str) else "" for _, word in words]
-    first = at - 1 if at and texts[at - 1] in LEADING else at
-    if first and texts[first] != "node":
-        return words[:first] + words[at + 2 if texts[at + 1 : at + 2] == [","] else at + 1 :]
-    nodes = [place for place in range(max(at, first + 1), len(words)) if texts[place] == "node"]
-    return words[:first] + (words[nodes[0] :] if nodes else [])
-
-
-def mended(words):
-    """The programs of words that are numbered, without those at fault, and the faults; no programs where there are too many."""
-    faults = []
-    while len(faults) < MOST_FAULTS:
-        try:
-            return programs_of(words), faults
-        except Fault as error:
-            faults.append(error)
-            words = left_by(words, error.line)
-    return None, faults
-
-
 def listed(source):
     """What `list` writes, and tells, and its status."""
-    said = list(words_of(source, goes_on=True))
     lines = [it.strip(" \t\r\f") for it in lines_of(source)]
-    line_of = [0] + [line for line, _ in said]
-    programs, faults = mended([(at, Fault(at, it.text) if isinstance(it, Fault) else it) for at, (_, it) in enumerate(said, 1)])
-    told = [(it.line, Fault(line_of[it.line], re.sub("(?<=before on line )[0-9]+", lambda found: str(line_of[int(found[0])]), it.text))) for it in faults]
+    words, line_of = numbered(source)
+    try:
+        programs, faults = programs_of(words), []
+    except Fault:
+        programs, faults = programs_left(words)
     parts = []
-    for node, (_, words, layout) in (programs or {}).items():
-        parts.append((words.begun, [f"node {node}"]))
+    for node, (_, read, layout) in programs.items():
+        parts.append((read.begun, [f"node {node}"]))
         for at, it in layout.order:
             if isinstance(it, str):
                 parts.append((at, [f"{it}:"]))
             elif not isinstance(it, int):
                 parts.append((at, cell_lines(it, layout, lines[line_of[at] - 1])))
     before = None
-    for at, it in sorted(told, key=lambda it: it[0]):
+    for error in faults:
+        it = on_line(error, line_of)
         if str(it) != before:
-            parts.append((at, [f"{it} \\ {lines[it.line - 1]}"]))
+            parts.append((error.line, [f"{it} \\ {lines[it.line - 1]}"]))
         before = str(it)
     text = [line for _, part in sorted(parts, key=lambda it: it[0]) for line in part]
-    if programs is None:
-        text.append("\\ too many faults to list what is left")
-    return "".join(f"{it}\n" for it in text), "".join(f"ga144: {it}\n" for _, it in told[:1]), 1 if told else 0
+    return "".join(f"{it}\n" for it in text), told_of([on_line(it, line_of) for it in faults]), 1 if faults else 0
 
 
 def slots_of(word, address):

@@ -69,7 +69,7 @@ class Places(Notes):
         self.given, self.words, self.names, self.is_data, self.slots = {}, {}, {}, set(), []
         for of, (_, words, layout) in (programs_of(words_of(source)) if source is not None else {}).items():
             node = NODE_NAMES[of]
-            self.names[node] = [(it, cell_of(layout.labels[it])) for it in words.lines]
+            self.names[node] = [(it, cell_of(layout.labels[it])) for it in dict.fromkeys(label for _, label in words.named)]
             for group in layout.cells:
                 self.give(node, group)
 

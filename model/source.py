@@ -1,8 +1,13 @@
 """A second reading of "Source" in docs/REFERENCE.md, apart from the crates: what `ga144 asm` writes and tells for a source."""
 
+import re
+
 from machine import NODES, block_of, name
 from node import Node, advanced
-from words import BOUNDS, CODE, OPCODES, Fault, Words, demand, demand_range, words_of
+from words import BOUNDS, CODE, GAP, OPCODES, Fault, Words, demand, demand_range, out_of_range, words_of
+
+MOST_TOLD = 20
+LEADING = (":", "org", "/p", "/a", "/b")
 
 FIELDS = {0: 10, 1: 8, 2: 3}
 NODE_NAMES = {name(it): it for it in range(NODES)}
@@ -107,19 +112,22 @@ class Layout:
     def load(self, node, given):
         """Writes the cells; `given` gets the line of each."""
         for cell in self.cells:
-            demand(cell.loop is None, cell.loop, f"the loop of unext in {cell.address:03x} is longer than its cell")
-            address = cell.address
-            for line, word in [(cell.slots[0][0], self.word(cell))] + [(line, self.value(it)) for line, it in cell.literals]:
-                low = address % 0x200
-                demand(low < 0x40 or 0x80 <= low < 0xC0, line, f"{low:03x} is past the end of RAM or ROM")
-                demand(low not in given, line, f"cell {low:03x} given before on line {given.get(low)} (org {low} is {low:03x})")
-                given[low] = line
-                (node.rom if low >= 0x80 else node.ram)[low % 0x40] = word
-                address = advanced(address)
-            line, _, label = cell.slots[-1]
-            if label is not None:
-                target = self.labels[label]
-                demand(cell.reaches(len(cell.slots) - 1, target), line, f"{target:03x} is out of reach of a jump in {cell.address:03x}")
+            self.load_cell(node, given, cell)
+
+    def load_cell(self, node, given, cell):
+        demand(cell.loop is None, cell.loop, f"the loop of unext in {cell.address:03x} is longer than its cell")
+        address = cell.address
+        for line, word in [(cell.slots[0][0], self.word(cell))] + [(line, self.value(it)) for line, it in cell.literals]:
+            low = address % 0x200
+            demand(low < 0x40 or 0x80 <= low < 0xC0, line, f"{low:03x} is past the end of RAM or ROM")
+            demand(low not in given, line, f"cell {low:03x} given before on line {given.get(low)} (org {low} is {low:03x})")
+            given[low] = line
+            (node.rom if low >= 0x80 else node.ram)[low % 0x40] = word
+            address = advanced(address)
+        line, _, label = cell.slots[-1]
+        if label is not None:
+            target = self.labels[label]
+            demand(cell.reaches(len(cell.slots) - 1, target), line, f"{target:03x} is out of reach of a jump in {cell.address:03x}")
 
 
 def warnings(words, layout):
@@ -157,32 +165,137 @@ def warnings(words, layout):
             a = None
 
 
+def name_behind(words, begun):
+    """The name of the node that begins with these words; or a Fault."""
+    line, first = words[0]
+    if isinstance(first, Fault):
+        raise first
+    demand(first == "node", line, "no node has begun")
+    demand(len(words) > 1, line, "a name or a value is missing")
+    line, second = words[1]
+    if isinstance(second, Fault):
+        raise second
+    demand(second in NODE_NAMES, line, "no such node")
+    demand(second not in begun, line, "the node has a program already")
+    return second
+
+
 def programs_of(words):
     """The nodes that words name, with their words and layouts, in order; or a Fault."""
     nodes, words = {}, list(words)
     while words:
-        line, first = words.pop(0)
-        if isinstance(first, Fault):
-            raise first
-        demand(first == "node", line, "no node has begun")
-        demand(words, line, "a name or a value is missing")
-        line, second = words.pop(0)
-        if isinstance(second, Fault):
-            raise second
-        demand(second in NODE_NAMES, line, "no such node")
-        demand(second not in nodes, line, "the node has a program already")
+        named = name_behind(words, nodes)
+        line, words = words[1][0], words[2:]
         count = next((at for at, (_, it) in enumerate(words) if it == "node"), len(words))
         body, words = words[:count], words[count:]
-        nodes[second] = node_of(Node(NODE_NAMES[second]), line, body)
+        nodes[named] = node_of(Node(NODE_NAMES[named]), line, body)
     return nodes
+
+
+def numbered(source):
+    """All words of a source with their numbers, from 1 on, in place of their lines; and the line of each number."""
+    said = list(words_of(source, goes_on=True))
+    return [(at, Fault(at, it.text) if isinstance(it, Fault) else it) for at, (_, it) in enumerate(said, 1)], [0] + [line for line, _ in said]
+
+
+def with_gap(words, number):
+    """The words with gaps in place of the one of a number, of a directive right before it and of each `,` right behind it."""
+    at = next(place for place, (it, _) in enumerate(words) if it == number)
+    assert words[at][1] != GAP, "a gap has a fault"
+    first = at - 1 if at and words[at - 1][1] in LEADING else at
+    last = next((place for place in range(at + 1, len(words)) if words[place][1] != ","), len(words))
+    return words[:first] + [(it, GAP) for it, _ in words[first:last]] + words[last:]
+
+
+def words_left(line, words):
+    """What the words of a node ask for, with a gap for each that is at fault, and the faults."""
+    faults = []
+    while True:
+        try:
+            read = Words(line, words)
+        except Fault as error:
+            faults.append(error)
+            words = with_gap(words, error.line)
+        else:
+            return read, faults + read.unfinished()
+
+
+def label_in(kind, what):
+    """The label of which a request needs the place, None where it needs none."""
+    if kind in ("ahead", "back", "unext"):
+        return what[-1]
+    return what[0] if kind in ("literal", "cell") and isinstance(what[0], str) else None
+
+
+def stands(read, label):
+    return label is None or label in read.marked
+
+
+def node_left(node, line, body):
+    """A node with the cells that are not at fault, and the faults. Cells that go on behind one past the end are left out."""
+    read, faults = words_left(line, body)
+    read.asked = [(at, kind, *what) for at, kind, *what in read.asked if stands(read, label_in(kind, what))]
+    layout, given, left, past = Layout(read.asked), {}, [], None
+    for register, (at, value) in read.registers.items():
+        if stands(read, label_in("literal", [value])) and layout.value(value) >= BOUNDS[register]:
+            faults.append(out_of_range(at, str(value), register))
+    for cell in layout.cells:
+        if past and cell.address % 0x200 == past.p() % 0x200:
+            past = cell
+            continue
+        past = None
+        try:
+            layout.load_cell(node, given, cell)
+            left.append(cell)
+        except Fault as error:
+            faults.append(error)
+            past = cell if "past the end" in error.text else None
+    layout.order = [(at, it) for at, it in layout.order if not isinstance(it, Cell) or it in left]
+    return (node, read, layout), faults
+
+
+def programs_left(words):
+    """The nodes that words name, as far as they are not at fault, and all faults in the order of their words."""
+    nodes, faults, begun = {}, [], {}
+    while words:
+        try:
+            named = name_behind(words, begun)
+        except Fault as error:
+            faults.append(error)
+            words = words[2 if words[0][1] == "node" else 1 :]
+            words = words[next((at for at, (_, it) in enumerate(words) if it == "node"), len(words)) :]
+            continue
+        begun[named] = True
+        count = next((at for at, (_, it) in enumerate(words[2:], 2) if it == "node"), len(words))
+        nodes[named], more = node_left(Node(NODE_NAMES[named]), words[1][0], words[2:count])
+        faults, words = faults + more, words[count:]
+    return nodes, sorted(faults, key=lambda it: it.line)
+
+
+def faults_of(source):
+    """All faults of a source in the order of lines."""
+    words, lines = numbered(source)
+    return [on_line(it, lines) for it in programs_left(words)[1]]
+
+
+def on_line(error, lines):
+    """A fault that is told of the number of a word, told of its line."""
+    return Fault(lines[error.line], re.sub("(?<=before on line )[0-9]+", lambda found: str(lines[int(found[0])]), error.text))
+
+
+def told_of(faults):
+    """What standard error is told of faults: the first ones, and how many more there are; not twice in a row the same."""
+    faults = [it for at, it in enumerate(faults) if not at or str(faults[at - 1]) != str(it)]
+    more = [f"and {len(faults) - MOST_TOLD} more"] if len(faults) > MOST_TOLD else []
+    return "".join(f"ga144: {it}\n" for it in [*faults[:MOST_TOLD], *more])
 
 
 def asm(source):
     """Standard output, standard error and the status."""
     try:
         nodes = programs_of(words_of(source))
-    except Fault as error:
-        return "", f"ga144: {error}\n", 1
+    except Fault:
+        return "", told_of(faults_of(source)), 1
     told = [it for _, words, layout in nodes.values() for it in warnings(words, layout)]
     blocks = [block_of(nodes[it][0]) for it in sorted(nodes)]
     image = ["ga144 2"] + [line for block in blocks if len(block) > 1 for line in block] + ["end"]
@@ -192,6 +305,8 @@ def asm(source):
 def node_of(node, line, body):
     """The node with its program, its words and their layout."""
     words = Words(line, body)
+    for error in words.unfinished():
+        raise error
     layout = Layout(words.asked)
     given = dict(words.registers)
     if "/p" not in given and layout.cells:

@@ -73,12 +73,14 @@ class Generator:
 
 
 def changed(seed):
-    """A variant of the small source: cut, with another byte somewhere, or with a word more."""
+    """A variant of the small source: cut, with another byte somewhere, with a word more, or with many."""
     draw = random.Random(seed)
     place = draw.randrange(len(SMALL))
     how = draw.random()
     if how < 0.15:
         return SMALL[:place]
+    if how < 0.2:
+        return SMALL + " ".join(draw.choice(STRANGE) for _ in range(draw.randrange(60)))
     if how < 0.55:
         words = SMALL.split(" ")
         words.insert(draw.randrange(len(words)), draw.choice(STRANGE))

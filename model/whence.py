@@ -32,6 +32,11 @@ class Tags:
         self.one[part] = self.tag(part, *sources)
         return self.one[part]
 
+    def held(self, value):
+        """The tag of the word that has this name."""
+        names = dict(zip(["t", "s"] + [f"d{at}" for at in range(2, 10)], self.d)) | dict(zip(["r"] + [f"r{at}" for at in range(1, 9)], self.r))
+        return self.cells[target_of(int(value[1:3], 16))] if value[0] == "[" else (names | self.one)[value]
+
     # Each of these answers the tag for which `whence` asks.
 
     def own(self, before, what):
@@ -147,6 +152,18 @@ def asked_of(passed, nodes):
     """The tag for which each step of a node asks, and from which tags each tag was made. `passed` has the events, each with what is
     told of it and its nodes before it."""
     asked, made = {}, {}
+    for _ in followed(passed, nodes, asked, made):
+        pass
+    return asked, made
+
+
+def held_after(passed, nodes, node, step, value):
+    """The tag of the word of a node that has this name, after a step."""
+    return next(tags[node].held(value) for tags in followed(passed, nodes, {}, {}) if tags[node].step == step)
+
+
+def followed(passed, nodes, asked, made):
+    """The tags of all nodes after each event."""
     tags = [Tags(number, made) for number in range(nodes)]
     for event, told, before in passed:
         it = tags[event[0]]
@@ -156,7 +173,7 @@ def asked_of(passed, nodes):
             other = tags[event[1]]
             word = asked[event[0], it.step] = it.send()
             asked[event[1], other.step] = other.take(before[1].wait, word)
-    return asked, made
+        yield tags
 
 
 def tested_by(told, before, asked, made, came):

@@ -12,6 +12,8 @@ ENDINGS = {"again": "jump", "until": "if", "-until": "-if", "next": "next"}
 CONTROLS = {*BEGINNINGS, *ENDINGS, "begin", "for", "else", "then", "while", "-while", "repeat", "unext", "*next"}
 DIRECTIVES = {":", "org", "/p", "/a", "/b", "..", "+cy", "-cy", "node", ",", "\\", "("}
 MARK = "\xef\xbb\xbf"
+# In the place of a word that was skipped.
+GAP = ""
 BOUNDS = {"/p": 0x400, "/a": 0x40000, "/b": 0x200}
 RANGES = {"": "-131072 to 262143", "/p": "0 to 0x3ff", "/a": "-131072 to 262143", "/b": "0 to 0x1ff", "org": "0 to 0x3f, 0x80 to 0xbf"}
 OTHERS = {">r": "push", "r>": "pop", "r@": "pop dup push", "2dup": "over over", "2drop": "drop drop", "nip": "push drop pop"}
@@ -125,8 +127,13 @@ def words_of(source, goes_on=False):
                 return
 
 
+def out_of_range(line, word, place=""):
+    return fault(line, f"number out of range: {shown(word)} ({RANGES[place]})")
+
+
 def demand_range(holds, line, word, place=""):
-    demand(holds, line, f"number out of range: {shown(word)} ({RANGES[place]})")
+    if not holds:
+        raise out_of_range(line, word, place)
 
 
 def number_of(word, line, place=""):
@@ -159,15 +166,18 @@ class Words:
     """What the words of a node ask for. A label is its name, or a number where a control word makes it."""
 
     def __init__(self, line, words):
-        self.asked, self.lines, self.marked, self.registers, self.open = [], {}, set(), {}, []
-        self.words, self.bit, self.made, self.begun = list(words), 0, 0, line
+        self.asked, self.marked, self.registers, self.open = [], set(), {}, []
+        self.words, self.bit, self.made, self.begun, self.named = list(words), 0, 0, line, []
         while self.words:
-            line = self.word()
-        if self.open:
-            raise fault(self.open[0][2], "this is never closed")
-        for label, first in self.lines.items():
-            if label not in self.marked:
-                raise unknown(first, label)
+            if self.words[0][1] == GAP:
+                self.words.pop(0)
+            else:
+                self.word()
+
+    def unfinished(self):
+        """The faults of control words that are open and of labels that stand nowhere."""
+        open_ones = [fault(line, "this is never closed") for _, _, line in self.open]
+        return open_ones + [unknown(line, label) for line, label in self.named if label not in self.marked]
 
     def take(self, line):
         """The word behind a directive."""
@@ -188,7 +198,7 @@ class Words:
         self.asked.append((line, *what))
 
     def label(self, line, word):
-        self.lines.setdefault(word, line)
+        self.named.append((line, word))
         return word
 
     def mark(self, line, label):

@@ -21,6 +21,7 @@ use ga_console::{LineFault, Settings, Status, arguments, race_report, session};
 use ga_explorer::{Usage, explore};
 use ga_orders::{Verdict, check_orders};
 use ga_picture::{View, draw_session};
+use std::io::IsTerminal;
 use std::process::ExitCode;
 use std::sync::atomic::{AtomicBool, AtomicU64, Ordering};
 use std::thread::{Threads, join};
@@ -178,7 +179,9 @@ fn served(rt: &HostRuntime, work: Work, chip: &Option<String>, file: &Option<Str
     let alloc = rt.alloc();
     let (input, output, told) = (&mut reader, &mut writer, &mut errors);
     let status = match work {
-        Work::Explore { limit } => explore(alloc, input, output, told, chip, limit),
+        Work::Explore { limit } => {
+            explore(alloc, input, output, told, chip, limit, is_at_terminal(rt))
+        }
         Work::Assemble => assemble_source(alloc, input, output, told),
         Work::List => list_source(alloc, input, output, told),
         Work::Disassemble => disassemble(alloc, input, output, told),
@@ -187,6 +190,11 @@ fn served(rt: &HostRuntime, work: Work, chip: &Option<String>, file: &Option<Str
         }
     };
     exit(rt, status)
+}
+
+/// Whether both standard input and standard output are a terminal, so that a person types the commands.
+fn is_at_terminal(rt: &HostRuntime) -> bool {
+    rt.stdin().is_terminal() && rt.stdout().is_terminal()
 }
 
 /// The maximum number of runs of a program, whether its idle nodes come to rest first, the number of the requested order, if it

@@ -1,3 +1,4 @@
+pub mod FaultListing
 pub mod Sources
 pub mod HexLemmas
 pub mod Telling

@@ -1,18 +1,20 @@
 -- From the image of a source to what is written.
-use Rattle.std.proofs.Common.{◌≡◌, ◌∙◌, ◌<◌, ℕ, List, [], ◌∷◌, ◌++◌, length, Option, Some, None, arith, ap, inl, inr, refl, sym, subst}
-use Rattle.std.specs.Prelude.{IfSome}
+use Rattle.std.proofs.Common.{◌≡◌, ◌≢◌, ◌∙◌, ℕ, Bool, true, false, List, [], ◌++◌, map, ap, inl, inr, refl, sym, subst}
 use Rattle.ga_parser.specs.declared.fault.Fault.{Fault}
+use Rattle.ga_parser.specs.declared.fault.SourceCause.TheVariants.{Memory}
 use Rattle.ga_source.specs.declared.program.Assembled.{Assembled}
 use Rattle.ga_parser.specs.declared.scan.Token.{Token}
 use Rattle.ga_parser.specs.Saying.{all_in, token_contents}
-use Rattle.ga_source.specs.Recovery.{with_numbers, mended, IsAssembledOf}
+use Rattle.ga_source.specs.Made.{IsSoundSource}
+use Rattle.ga_source.specs.Recovery.{with_numbers, IsAssembledOf, fault_at_line, faults_by_line, or_first, AreFaultsOfWords}
 use Rattle.ga_image.specs.FirstFault.{no_memory}
 use Rattle.ga_image.specs.declared.fault.ImageFault.{ImageFault}
 use Rattle.ga_console.specs.Run.{IsReadAlone, IsFault, Refused, Refuses}
 use Rattle.ga_console.specs.inner.Run.{Writes}
-use Rattle.ga_asm_text.specs.Source.{IsAssembly, Assembles, IsMendedBy, IsFaulty, Lists, IsAccepted, Disassembles}
+use Rattle.ga_asm_text.specs.Source.{IsAssembly, Assembles, IsListedOf, listed_fault, AreAmong, ListsFaults, Lists, IsAccepted, Disassembles}
 use Rattle.ga_text.specs.Output.{IsReadWhole}
 use Rattle.ga_asm_text.specs.inner.{Assembly, IsListed, with_fault, behind_listing, Listing, Disassembly, IsUnread}
+use Rattle.ga_asm_text.proofs.FaultListing.{first_alone}
 use Rattle.ga_console.specs.declared.run.Status.{Status}
 use Rattle.ga_console.specs.declared.run.Status.TheVariants.{Done, ImageRefused, StreamFault, NotFinished}
 use Rattle.ga_console.proofs.RunLemmas.{refused_in}
@@ -38,45 +40,42 @@ assembles_nothing read rest ImageRefused unread = refl
 assembles_nothing read rest StreamFault unread = inl (refl, unread)
 assembles_nothing read rest NotFinished unread = unread
 
--- what was assembled of a source, and the first fault
-listed_of : (source : List ℕ) (words : List Token) (assembled : Option Assembled) (faults : List Fault) (first : Option Fault) → token_contents words ≡ all_in source
-    → IfSome assembled (IsAssembledOf (mended (with_numbers 1 words) faults)) → (assembled ≡ None → length faults ≡ 200) → (first ≡ None → faults ≡ []) → IfSome first (λ _. 0 < length faults) → IsListed source first
-listed_of source words (Some all) faults None said is many none some =
-    record { words = words; all = all; said = said; assembled = subst (λ (list : List Fault). IsAssembledOf (mended (with_numbers 1 words) list) all) (none refl) is }
-listed_of source words None faults None said is many none some =
-    let found = many refl in
-    let empty : length faults ≡ 0 = ap length (none refl) in
-    absurd (omega arith)
-listed_of source words assembled [] (Some first) said is many none some = absurd (omega arith)
-listed_of source words (Some all) (fault ∷ faults) (Some first) said is many none some =
-    (fault, faults, inl (record { words = words; all = all; said = said; assembled = is }))
-listed_of source words None (fault ∷ faults) (Some first) said is many none some = (fault, faults, inr (many refl))
+-- all words of a source were assembled
+pub listed_whole : (source text : List ℕ) (words : List Token) (all : Assembled) → token_contents words ≡ all_in source → IsAssembledOf (with_numbers 1 words) all → IsListed source false text
+listed_whole source text words all said is = record { words = words; all = all; said = said; assembled = is }
 
--- the same by faults that were looked at
-pub listed_seen : (source : List ℕ) (words : List Token) (assembled : Option Assembled) (faults seen : List Fault) (first : Option Fault) → token_contents words ≡ all_in source → seen ≡ faults
-    → IfSome assembled (IsAssembledOf (mended (with_numbers 1 words) faults)) → (assembled ≡ None → length faults ≡ 200) → (first ≡ None → seen ≡ []) → IfSome first (λ _. 0 < length seen) → IsListed source first
-listed_seen source words assembled faults seen first said same is many none some =
-    listed_of source words assembled faults first said is many (λ e. sym same ∙ none e) (subst (λ (list : List Fault). IfSome first (λ _. 0 < length list)) same some)
+-- or it has a fault
+pub listed_faulty : (source text : List ℕ) (words : List Token) (fault : Fault) (found all : List Fault) → token_contents words ≡ all_in source → (IsSoundSource source → fault.cause ≡ Memory) → fault.cause ≢ Memory
+    → AreFaultsOfWords (token_contents (with_numbers 1 words)) found → all ≡ or_first found fault → AreAmong (map (listed_fault source) (faults_by_line words all)) text → IsListed source true text
+listed_faulty source text words fault found all said sound other are is among = (
+  (λ is_sound. other (sound is_sound)),
+  (
+    fault_at_line words fault,
+    faults_by_line words all,
+    record { words = words; numbered = found; said = said; found = are; lines = ap (faults_by_line words) is ∙ first_alone words found fault },
+    among,
+  ),
+)
 
 -- the listing was written, or a front of it
-whole_written : (source whole text : List ℕ) (status : Status) → IsMendedBy source [] → Writes whole text status → Listing source text status
+whole_written : (source whole text : List ℕ) (status : Status) → IsListedOf source → Writes whole text status → Listing source text status
 whole_written source whole text Done is written = is
 whole_written source whole text StreamFault is written = tt
 whole_written source whole text ImageRefused is written = absurd written
 whole_written source whole text NotFinished is written = absurd written
 
-faulty_written : (source whole text : List ℕ) (status : Status) → IsFaulty source → Writes whole text status → Listing source text (with_fault status)
-faulty_written source whole text Done faulty written = inr faulty
+faulty_written : (source whole text : List ℕ) (status : Status) → IsListed source true whole → Writes whole text status → Listing source text (with_fault status)
+faulty_written source whole text Done faulty written = inr (faulty.0, subst (ListsFaults source) (sym written) faulty.1)
 faulty_written source whole text StreamFault faulty written = tt
 faulty_written source whole text ImageRefused faulty written = absurd written
 faulty_written source whole text NotFinished faulty written = absurd written
 
-status_written : (source whole text : List ℕ) (first : Option Fault) (status : Status) → IsListed source first → Writes whole text status → Listing source text (behind_listing status first)
-status_written source whole text None status is written = whole_written source whole text status is written
-status_written source whole text (Some fault) status is written = faulty_written source whole text status is written
+status_written : (source whole text : List ℕ) (is_faulty : Bool) (status : Status) → IsListed source is_faulty whole → Writes whole text status → Listing source text (behind_listing status is_faulty)
+status_written source whole text false status is written = whole_written source whole text status is written
+status_written source whole text true status is written = faulty_written source whole text status is written
 
-pub listing_written : (source whole text : List ℕ) (first : Option Fault) (status result : Status) → result ≡ behind_listing status first → IsListed source first → Writes whole text status → Listing source text result
-listing_written source whole text first status result e is written = subst (Listing source text) (sym e) (status_written source whole text first status is written)
+pub listing_written : (source whole text : List ℕ) (is_faulty : Bool) (status result : Status) → result ≡ behind_listing status is_faulty → IsListed source is_faulty whole → Writes whole text status → Listing source text result
+listing_written source whole text is_faulty status result e is written = subst (Listing source text) (sym e) (status_written source whole text is_faulty status is written)
 
 -- what was listed of the source that was read
 pub lists : (source ahead read rest text : List ℕ) (status : Status) → read ≡ source ++ ahead → IsReadWhole source ahead rest → Listing source text status → Lists read rest text status

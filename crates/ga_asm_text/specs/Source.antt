@@ -1,5 +1,5 @@
 -- What may be written for source (docs/REFERENCE.md, "Source"; this project's own).
-use Rattle.std.specs.Prelude.{◌≡◌, ℕ, ◌<◌, ◌⊎◌, List, [], ◌∷◌, ◌++◌, length, slice_index}
+use Rattle.std.specs.Prelude.{◌≡◌, ℕ, ◌<◌, ◌⊎◌, List, [], ◌∷◌, ◌++◌, map, slice_index, codes}
 use Rattle.ga_node.specs.Record.{NodeState}
 use Rattle.ga_grid.specs.Chip.{node_at, records_of}
 use Rattle.ga_text.specs.Lines.{Bytes, Text, lines_of}
@@ -11,7 +11,9 @@ use Rattle.ga_source.specs.declared.program.Program.{Program}
 use Rattle.ga_source.specs.declared.program.Assembled.{Assembled}
 use Rattle.ga_parser.specs.declared.scan.Token.{Token}
 use Rattle.ga_parser.specs.Saying.{all_in, token_contents}
-use Rattle.ga_source.specs.Recovery.{with_numbers, mended, IsAssembledOf}
+use Rattle.ga_source.specs.Recovery.{with_numbers, IsAssembledOf, AreFaultsOfSource}
+use Rattle.ga_debug_info.specs.Faults.{fault_text}
+use Rattle.ga_debug_info.specs.Source.{line_in}
 use Rattle.ga_source.specs.Programs.{IsAssembled, AreRead, AreAsked}
 use Rattle.ga_source.specs.Made.{IsChipOfSource, IsSoundSource}
 use Rattle.ga_text.specs.Image.{HasNoEnd}
@@ -45,21 +47,39 @@ Assembles read rest text ImageRefused = text ≡ []
 Assembles read rest text StreamFault = ((text ≡ []) × HasNoEnd read) ⊎ OfSource read rest (λ source. IsCutShort (IsAssembly source) text)
 Assembles read rest text NotFinished = ⊥
 
--- The chip has the programs of all words of the source that these faults leave, one fault after another.
-pub record IsMendedBy (source : Text) (faults : List Fault) : Type 0 where
+-- The chip has the programs of all words of the source.
+pub record IsListedOf (source : Text) : Type 0 where
   pub words : List Token
   pub all : Assembled
   pub said : token_contents words ≡ all_in source
-  pub assembled : IsAssembledOf (mended (with_numbers 1 words) faults) all
+  pub assembled : IsAssembledOf (with_numbers 1 words) all
 
--- the source has a fault; there is a chip without the words at fault, unless too many are
+-- the source isn't one of plain words that give each cell once
 abbrev pub IsFaulty : Text → Type 0
-IsFaulty source = (first : Fault) × (faults : List Fault) × (IsMendedBy source (first ∷ faults) ⊎ (length (first ∷ faults) ≡ 200))
+IsFaulty source = IsSoundSource source → ⊥
+
+-- ---- faults in a listing
+
+-- a fault as it is listed: with its line's number, before the source line
+abbrev pub fault_before : Fault → Text → Text
+fault_before fault line = fault_text fault ++ codes " \\ " ++ line ++ codes "\n"
+
+abbrev pub listed_fault : Text → Fault → Text
+listed_fault source fault = fault_before fault (line_in source fault.line)
+
+-- the text has these parts in this order, among others
+unfoldable pub AreAmong : List Text → Text → Type 0
+AreAmong [] text = Unit {0}
+AreAmong (part ∷ parts) text = (before after : Text) × (text ≡ before ++ part ++ after) × AreAmong parts after
+
+-- each fault of the source is in the listing, in the order of lines
+abbrev pub ListsFaults : Text → Text → Type 0
+ListsFaults source text = (first : Fault) × (faults : List Fault) × AreFaultsOfSource source first faults × AreAmong (map (listed_fault source) faults) text
 
 -- What `list` may have written. Where nothing is wrong, all words of the source have a chip.
 abbrev pub Lists : Bytes → Bytes → Bytes → Status → Type 0
-Lists read rest text Done = OfSource read rest (λ source. IsMendedBy source [])
-Lists read rest text ImageRefused = (text ≡ []) ⊎ OfSource read rest IsFaulty
+Lists read rest text Done = OfSource read rest (λ source. IsListedOf source)
+Lists read rest text ImageRefused = (text ≡ []) ⊎ OfSource read rest (λ source. IsFaulty source × ListsFaults source text)
 Lists read rest text StreamFault = ((text ≡ []) × HasNoEnd read) ⊎ OfSource read rest (λ source. Unit {0})
 Lists read rest text NotFinished = ⊥
 

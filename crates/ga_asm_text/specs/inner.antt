@@ -1,12 +1,17 @@
 -- What only private contracts and proofs name.
-use Rattle.std.specs.Prelude.{◌≡◌, ◌≤◌, ◌<◌, ◌^◌, ℕ, zero, suc, ◌+◌, ◌==◌, nat_lt, Bool, true, false, not, ◌&&◌, ◌||◌, if◌then◌else◌, List, [], ◌∷◌, ◌++◌, map, length, slice_index, codes, bytes_eq, ◌⊎◌, Option, Some, None}
-use Rattle.std.specs.List.{All, list_all}
+use Rattle.std.specs.Prelude.{drop, Option, Some, None, ◌≡◌, ◌≤◌, ◌<◌, ◌^◌, ℕ, zero, suc, ◌+◌, ◌==◌, nat_lt, Bool, true, false, not, ◌&&◌, ◌||◌, if◌then◌else◌, List, [], ◌∷◌, ◌++◌, map, length, slice_index, codes, bytes_eq, ◌⊎◌}
+use Rattle.std.specs.List.{All, list_all, dedup, dedup_from}
 use Rattle.ga_word.specs.Word.{hex_digit}
 use Rattle.ga_grid.specs.Grid.{yxx_of, load_p_of}
 use Rattle.ga_node.specs.Record.{NodeState}
 use Rattle.ga_text.specs.Lines.{Bytes, Text}
 use Rattle.ga_text.specs.Digits.{decimal3_of}
 use Rattle.ga_parser.specs.Saying.{has_bytes, TokenContent, is_word, source_lines, said_from}
+use Rattle.ga_parser.specs.declared.fault.Fault.{Fault}
+use Rattle.ga_parser.specs.contracts.fault.FaultPartialEq.TheImpl.{ghosts as faults_compare}
+use Rattle.ga_parser.specs.declared.scan.Token.{Token}
+use Rattle.ga_source.specs.Recovery.{fault_at_line}
+use Rattle.ga_asm_text.specs.declared.fault_lines.FaultLines.{FaultLines}
 use Rattle.ga_image.specs.declared.fault.ImageFault.{ImageFault}
 use Rattle.ga_text.specs.Image.{HasNoEnd}
 use Rattle.ga_text.specs.Output.{TextHasPrefix}
@@ -15,8 +20,7 @@ use Rattle.ga_console.specs.Run.{IsFault}
 use Rattle.ga_console.specs.Race.{IsCutShort}
 use Rattle.ga_console.specs.declared.run.Status.{Status}
 use Rattle.ga_console.specs.declared.run.Status.TheVariants.{Done, ImageRefused, StreamFault, NotFinished}
-use Rattle.ga_parser.specs.declared.fault.Fault.{Fault}
-use Rattle.ga_asm_text.specs.Source.{IsAssembly, IsAccepted, IsMendedBy, IsFaulty}
+use Rattle.ga_asm_text.specs.Source.{IsAssembly, IsAccepted, IsListedOf, IsFaulty, listed_fault, AreAmong, ListsFaults}
 
 -- ---- what the source of an image says, line by line (docs/REFERENCE.md, "Source"; this project's own)
 
@@ -170,10 +174,10 @@ Assembly source text ImageRefused = text ≡ []
 Assembly source text StreamFault = IsCutShort (IsAssembly source) text
 Assembly source text NotFinished = ⊥
 
--- a listing of the source, which has a fault if one is reported
-abbrev pub IsListed : Text → Option Fault → Type 0
-IsListed source None = IsMendedBy source []
-IsListed source (Some first) = IsFaulty source
+-- a listing of the source, with a fault or without
+abbrev pub IsListed : Text → Bool → Text → Type 0
+IsListed source false text = IsListedOf source
+IsListed source true text = IsFaulty source × ListsFaults source text
 
 -- the status after a listing with a fault
 abbrev pub with_fault : Status → Status
@@ -183,14 +187,14 @@ with_fault StreamFault = StreamFault
 with_fault NotFinished = NotFinished
 
 -- the status after a listing with a fault or none
-abbrev pub behind_listing : Status → Option Fault → Status
-behind_listing status None = status
-behind_listing status (Some first) = with_fault status
+abbrev pub behind_listing : Status → Bool → Status
+behind_listing status false = status
+behind_listing status true = with_fault status
 
--- What may be written of a listing once the source was read: nothing where memory was refused. The text itself is not defined.
+-- What may be written of a listing once the source was read: nothing where memory was refused. Of the text only the faults are defined.
 abbrev pub Listing : Text → Text → Status → Type 0
-Listing source text Done = IsMendedBy source []
-Listing source text ImageRefused = (text ≡ []) ⊎ IsFaulty source
+Listing source text Done = IsListedOf source
+Listing source text ImageRefused = (text ≡ []) ⊎ (IsFaulty source × ListsFaults source text)
 Listing source text StreamFault = Unit {0}
 Listing source text NotFinished = ⊥
 
@@ -207,3 +211,35 @@ IsUnread read ImageRefused = Unit {0}
 IsUnread read StreamFault = HasNoEnd read
 IsUnread read Done = ⊥
 IsUnread read NotFinished = ⊥
+
+-- ---- a listing with faults, as it is made
+
+abbrev pub is_repeated : Option Fault → Fault → Bool
+is_repeated None fault = false
+is_repeated (Some last) fault = faults_compare.eq fault last
+
+-- the faults that are listed after this last one: none that is equal to the one before
+abbrev pub news : Option Fault → List Fault → List Fault
+news None faults = dedup faults_compare.eq faults
+news (Some last) faults = drop 1 (dedup_from faults_compare.eq last faults)
+
+-- the lines of faults at the numbers of words, after this last one
+abbrev pub lines_of : Text → List Token → Option Fault → List Fault → List Text
+lines_of source words last faults = map (listed_fault source) (news last (map (fault_at_line words) faults))
+
+-- the lines that are still to be listed
+abbrev pub lines_left : FaultLines → List Text
+lines_left l = lines_of l.lines l.words.now l.last (drop l.told l.faults.items)
+
+-- a text grew
+pub record Grows (old new : Text) : Type 0 where
+  pub added : Text
+  pub text : new ≡ old ++ added
+
+-- a text grew by those of the lines before that aren't left, among others
+pub record Tells (old new : Text) (before left : List Text) : Type 0 where
+  pub added : Text
+  pub lines : List Text
+  pub text : new ≡ old ++ added
+  pub told : before ≡ lines ++ left
+  pub among : AreAmong lines added

@@ -7,7 +7,7 @@ ghost use Rattle.ga_asm_text.specs.Source.{IsAssembly, Assembles};
 
 use super::reading::read_source;
 use ga_console::Status;
-use ga_debug_info::{report_code_stores, report_fault, report_out_of_memory};
+use ga_debug_info::{report_code_stores, report_faults, report_out_of_memory};
 use ga_image::print;
 use ga_source::assemble;
 use ga_text::{WriteError, write_all};
@@ -52,21 +52,17 @@ fn image_of<E: Write>(alloc: Global, errors: &mut E, source: Vec<u8>) -> Option<
     ensures { IfSome result (λ image. IsAssembly source.items image.items) }
 {
     match assemble(alloc, source.as_slice()) {
-        Ok(assembled) => match print(alloc, &assembled.chip) {
-            Ok(image) => {
-                if report_code_stores(alloc, errors, &assembled) {
-                    Some(image)
-                } else {
-                    None
+        Ok(assembled) => {
+            if let Ok(image) = print(alloc, &assembled.chip) {
+                if report_code_stores(alloc, errors, &assembled).is_ok() {
+                    return Some(image);
                 }
             }
-            Err(_) => {
-                report_out_of_memory(errors);
-                None
-            }
-        },
+            let _written = report_out_of_memory(errors);
+            None
+        }
         Err(fault) => {
-            report_fault(errors, fault);
+            let _written = report_faults(alloc, errors, source.as_slice(), fault);
             None
         }
     }

@@ -76,7 +76,9 @@ fn source_for<E: Write>(
     let chip = parse_told(alloc, errors, image.as_slice())?;
     match source_of(alloc, &chip) {
         Ok(text) => {
-            report_unrepresented(errors, &chip);
+            if report_unrepresented(alloc, errors, &chip).is_err() {
+                return Err(NO_MEMORY);
+            }
             Ok(text)
         }
         Err(_) => Err(NO_MEMORY),
@@ -90,7 +92,7 @@ fn parse_told<E: Write>(alloc: Global, errors: &mut E, image: &[u8]) -> Result<C
 {
     let parsed = parse(alloc, image);
     if parsed.is_err() {
-        report_editor_artifact(errors, edited_image(image));
+        let _written = report_editor_artifact(errors, edited_image(image));
     }
     parsed
 }

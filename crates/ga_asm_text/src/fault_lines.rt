@@ -1,7 +1,12 @@
 //! The faults of a listing, each between the cells at its word.
 
+ghost use Rattle.std.specs.Prelude.{◌≡◌, ◌+◌, ◌<◌, ◌++◌, [], true, length, map, OnOk};
+ghost use Rattle.ga_source.specs.Recovery.{faults_by_line};
+ghost use Rattle.ga_asm_text.specs.Source.{fault_before, listed_fault};
+ghost use Rattle.ga_asm_text.specs.inner.{is_repeated as is_repeated_by, lines_left, Tells};
+
 use ga_debug_info::{Lines, push_fault};
-use ga_source::{Fault, SourceCause, Token};
+use ga_source::{Fault, Token, fault_on_line, line_of_number};
 use std::alloc::AllocError;
 
 /// The words of a source by their numbers, and its faults in the order of their words.
@@ -12,114 +17,101 @@ pub(crate) struct FaultLines<'a, 's> {
     lines: Lines<'s>,
     /// The faults. The line of each is the number of a word.
     faults: Vec<Fault<'s>>,
-    /// How many faults were written.
+    /// How many faults were listed or left out.
     told: usize,
-    /// The last fault that was written, with its line.
+    /// The last fault that was listed, with its line.
     last: Option<Fault<'s>>,
 }
 
 impl<'a, 's> FaultLines<'a, 's> {
-    /// The lines of faults of a source, its words and its faults.
-    ///
-    /// # Errors
-    /// Memory was refused.
-    pub(crate) fn new(
-        source: &'s [u8],
-        words: &'a [Token<'s>],
-        faults: Vec<Fault<'s>>,
-    ) -> Result<Self, AllocError> {
-        let mut faults = faults;
-        faults.sort_by_key(|fault| fault.line)?;
-        Ok(FaultLines {
+    /// The lines of faults of a source, its words and its faults in their order.
+    pub(crate) fn new(source: &'s [u8], words: &'a [Token<'s>], faults: Vec<Fault<'s>>) -> Self
+        ensures { lines_left result ≡ map (listed_fault source.now) (faults_by_line words.now faults.entry.items) }
+    {
+        FaultLines {
             words,
             lines: Lines::new(source),
             faults,
             told: 0,
             last: None,
-        })
+        }
     }
 
     /// The line of the source that has the word with a number.
-    pub(crate) fn line(&mut self, number: u32) -> &'s [u8] {
-        let line = line_of(self.words, number);
+    pub(crate) fn line(&mut self, number: u32) -> &'s [u8]
+        ensures { lines_left self.new ≡ lines_left self.old }
+    {
+        let line = line_of_number(self.words, number);
         self.lines.line(line)
     }
 
-    /// Adds the faults of the words before the one of a number, each with its line. What says the same as the one before is left out.
-    pub(crate) fn push_before(
-        &mut self,
-        text: &mut Vec<u8>,
-        number: u32,
-    ) -> Result<(), AllocError> {
-        for _ in 0..self.faults.len() {
-            let Some(fault) = self.next_before(number) else {
-                return Ok(());
-            };
-            self.push(text, fault)?;
+    /// Adds the faults of the words before the one of a number, each with its line. What is equal to the one before is left out.
+    #[tactic(auto, using(crate::proofs::FaultListing::tells_same, crate::proofs::FaultListing::tells_both, crate::proofs::FaultListing::left_none))]
+    pub(crate) fn push_before(&mut self, text: &mut Vec<u8>, number: u32) -> Result<(), AllocError>
+        ensures { OnOk result (Tells text.old.items text.new.items (lines_left self.old) (lines_left self.new)) }
+    {
+        while self.is_before(number) {
+            self.push_next(text)?;
         }
         Ok(())
     }
 
     /// Adds the faults that are left.
-    pub(crate) fn push_rest(&mut self, text: &mut Vec<u8>) -> Result<(), AllocError> {
-        self.push_before(text, u32::MAX)
-    }
-
-    /// The next fault, with its line, if its word comes before the one with a number.
-    fn next_before(&mut self, number: u32) -> Option<Fault<'s>> {
-        let Some(found) = self.faults.get(self.told) else {
-            return None;
-        };
-        let fault = *found;
-        if fault.line >= number {
-            return None;
+    #[tactic(auto, using(crate::proofs::FaultListing::tells_same, crate::proofs::FaultListing::tells_both, crate::proofs::FaultListing::left_none))]
+    pub(crate) fn push_rest(&mut self, text: &mut Vec<u8>) -> Result<(), AllocError>
+        ensures { OnOk result (Tells text.old.items text.new.items (lines_left self.old) []) }
+    {
+        while self.told < self.faults.len() {
+            self.push_next(text)?;
         }
-        self.told = self.told.saturating_add(1);
-        Some(on_line(self.words, fault))
+        Ok(())
     }
 
-    /// Adds a fault with its line, unless the last one said the same.
-    fn push(&mut self, text: &mut Vec<u8>, fault: Fault<'s>) -> Result<(), AllocError> {
-        if is_same(self.last, fault) {
+    /// Whether the word of the next fault is before the one with a number.
+    fn is_before(&self, number: u32) -> bool
+        ensures { result ≡ true → self.now.told < length self.now.faults.items }
+    {
+        match self.faults.get(self.told) {
+            Some(fault) => fault.line < number,
+            None => false,
+        }
+    }
+
+    /// Adds the next fault with its line, unless it is equal to the last one.
+    fn push_next(&mut self, text: &mut Vec<u8>) -> Result<(), AllocError>
+        requires { self.old.told < length self.old.faults.items }
+        ensures told { OnOk result (Tells text.old.items text.new.items (lines_left self.old) (lines_left self.new)) }
+        ensures next { OnOk result (self.new.told ≡ self.old.told + 1) }
+        ensures same { self.new.faults ≡ self.old.faults }
+    {
+        let fault = fault_on_line(self.words, self.faults[self.told]);
+        self.told += 1;
+        if is_repeated(self.last, fault) {
             return Ok(());
         }
         self.last = Some(fault);
-        push_fault(text, fault)?;
-        text.extend_from_slice(b" \\ ")?;
-        text.extend_from_slice(self.lines.line(fault.line))?;
-        text.push(b'\n')?;
+        push_listed(text, fault, self.lines.line(fault.line))?;
         Ok(())
     }
 }
 
-/// Whether a fault says what another said before it.
-fn is_same(before: Option<Fault<'_>>, fault: Fault<'_>) -> bool {
-    match before {
-        Some(before) => before == fault,
+/// Whether a fault is equal to the last one.
+fn is_repeated(last: Option<Fault<'_>>, fault: Fault<'_>) -> bool
+    ensures { result ≡ is_repeated_by last.entry fault.entry }
+{
+    match last {
+        Some(last) => fault == last,
         None => false,
     }
 }
 
-/// The line of a word by its number; 0 where there is none.
-fn line_of(words: &[Token<'_>], number: u32) -> u32 {
-    match words.get((number as usize).saturating_sub(1)) {
-        Some(word) => word.line,
-        None => 0,
-    }
-}
-
-/// A fault with the number of a word, with its line instead.
-pub(crate) fn on_line<'s>(words: &[Token<'_>], fault: Fault<'s>) -> Fault<'s> {
-    let own = line_of(words, fault.line);
-    if let SourceCause::CellTwice { cell, line } = fault.cause {
-        let line = line_of(words, line);
-        return Fault {
-            line: own,
-            cause: SourceCause::CellTwice { cell, line },
-        };
-    }
-    Fault {
-        line: own,
-        cause: fault.cause,
-    }
+/// Adds a fault before its line.
+fn push_listed(text: &mut Vec<u8>, fault: Fault<'_>, line: &[u8]) -> Result<(), AllocError>
+    ensures { OnOk result (text.new.items ≡ text.old.items ++ fault_before fault.entry line.now) }
+{
+    push_fault(text, fault)?;
+    text.extend_from_slice(b" \\ ")?;
+    text.extend_from_slice(line)?;
+    text.push(b'\n')?;
+    Ok(())
 }

@@ -1,32 +1,38 @@
 //! Source in, a listing of its cells out.
 ghost use Rattle.ga_text.specs.Output.{ReadsAndWrites};
-ghost use Rattle.std.specs.Prelude.{◌≡◌, ◌≤◌, ◌<◌, ◌++◌, [], ◌∷◌, codes, length, Some, None, IfOk, IfSome, OnOk, slice_index};
+ghost use Rattle.std.specs.Prelude.{◌≡◌, ◌≤◌, ◌<◌, ◌++◌, [], ◌∷◌, codes, Some, IfOk, OnOk, slice_index};
 ghost use Rattle.ga_text.specs.Lines.{Bytes};
 ghost use Rattle.hex.specs.Hex.{lower_digits};
 ghost use Rattle.ga_grid.specs.Grid.{yxx_of};
 ghost use Rattle.ga_text.specs.Digits.{decimal3_of};
-ghost use Rattle.ga_asm_text.specs.inner.{Adds, hex_of, Listing, IsListed, with_fault, behind_listing};
-ghost use Rattle.ga_asm_text.specs.Source.{Lists};
+ghost use Rattle.ga_parser.specs.Saying.{token_contents, all_in};
+ghost use Rattle.ga_asm_text.specs.inner.{Adds, hex_of, Listing, IsListed, with_fault, behind_listing, lines_left, Grows, Tells};
+ghost use Rattle.ga_parser.specs.declared.fault.SourceCause.TheVariants.{Memory};
+ghost use Rattle.ga_source.specs.Made.{IsSoundSource};
+ghost use Rattle.ga_source.specs.Recovery.{faults_by_line};
+ghost use Rattle.ga_debug_info.specs.Faults.{faults_text, program_name};
+ghost use Rattle.ga_asm_text.specs.Source.{Lists, AreAmong};
 
 use super::assembling::write_text;
-use super::fault_lines::{FaultLines, on_line};
+use super::fault_lines::FaultLines;
 use super::reading::read_source;
 use ga_console::Status;
-use ga_debug_info::{report_fault, report_out_of_memory};
+use ga_debug_info::{push_faults, report_out_of_memory};
 use ga_grid::{Chip, NodeId};
 use ga_node::Place;
 use ga_ports::{Target, advance_p, classify};
 use ga_slots::Op;
 use ga_source::{
-    Assembled, Fault, Group, Item, Operand, Program, Request, Token, assemble_with_recovery,
-    source_words,
+    Assembled, Fault, Group, Item, Operand, Program, RecoveredSource, Request, SourceCause, Token,
+    assemble_by_word_number, faults_on_lines, or_first, recover_words, source_words,
 };
+use ga_text::write_all;
 use std::alloc::{AllocError, Global};
 use std::io::{Read, Write};
 
 /// Reads source up to its end or to its first line `end`, and writes for each cell its address, its word, what it holds, and
-/// its line in the source. For source with a fault the first one is written to `errors`, and the rest is listed without the
-/// words at fault, with each fault at its place.
+/// the line that asks for it. Source with faults is listed without the faulty words and cells, with each fault at its word, and `errors`
+/// has the lines that `asm` writes there.
 pub fn list_source<R: Read, W: Write, E: Write>(
     alloc: Global,
     reader: &mut R,
@@ -41,7 +47,7 @@ pub fn list_source<R: Read, W: Write, E: Write>(
         Ok(source) => match listing_of(alloc, source.as_slice()) {
             Ok(listed) => write_listed(writer, errors, listed),
             Err(_) => {
-                report_out_of_memory(errors);
+                let _written = report_out_of_memory(errors);
                 Status::ImageRefused
             }
         },
@@ -49,32 +55,28 @@ pub fn list_source<R: Read, W: Write, E: Write>(
     }
 }
 
-/// Writes a listing, and reports the first fault.
-fn write_listed<W: Write, E: Write>(writer: &mut W, errors: &mut E, listed: Listed<'_>) -> Status
-    ensures { (before source : Bytes) → W.contents writer.old ≡ Some before → IsListed source listed.entry.fault →
+/// Writes a listing, and the lines of its faults to `errors`.
+fn write_listed<W: Write, E: Write>(writer: &mut W, errors: &mut E, listed: Listed) -> Status
+    ensures { (before source : Bytes) → W.contents writer.old ≡ Some before → IsListed source listed.is_faulty listed.text.items →
         (text : Bytes) × (W.contents writer.new ≡ Some (before ++ text)) × Listing source text result }
 {
-    let Listed { text, fault } = listed;
-    tell_first(errors, fault);
+    let Listed {
+        text,
+        report,
+        is_faulty,
+    } = listed;
+    if is_faulty {
+        let _written = write_all(errors, report.as_slice());
+    }
     let written = write_text(writer, text);
-    status_behind(written, fault)
+    status_behind(written, is_faulty)
 }
 
-/// Reports a fault, if there is one.
-fn tell_first<E: Write>(errors: &mut E, fault: Option<Fault<'_>>) {
-    if let Some(fault) = fault {
-        report_fault(errors, fault);
-    }
-}
-
-/// The status after a listing, which has a fault or none.
-fn status_behind(written: Status, fault: Option<Fault<'_>>) -> Status
-    ensures { result ≡ behind_listing written fault.entry }
+/// The status after a listing, with a fault or without.
+fn status_behind(written: Status, is_faulty: bool) -> Status
+    ensures { result ≡ behind_listing written is_faulty }
 {
-    match fault {
-        Some(_) => refused(written),
-        None => written,
-    }
+    if is_faulty { refused(written) } else { written }
 }
 
 /// The status after a listing with a fault.
@@ -87,59 +89,111 @@ fn refused(written: Status) -> Status
     }
 }
 
-/// A listing, and the first fault that its source has.
+/// A listing, and the lines of the faults of its source.
 #[derive(Drop)]
-struct Listed<'s> {
+struct Listed {
     text: Vec<u8>,
-    fault: Option<Fault<'s>>,
+    report: Vec<u8>,
+    is_faulty: bool,
 }
 
 /// The listing of a source.
 ///
 /// # Errors
-/// Memory was refused.
-fn listing_of(alloc: Global, source: &[u8]) -> Result<Listed<'_>, Fault<'_>>
-    ensures { IfOk result (λ listed. IsListed source.now listed.fault) }
+/// Out of memory.
+fn listing_of(alloc: Global, source: &[u8]) -> Result<Listed, Fault<'_>>
+    ensures { IfOk result (λ listed. IsListed source.now listed.is_faulty listed.text.items) }
 {
     let words = source_words(alloc, source)?;
     let all = words.as_slice();
-    let mended = assemble_with_recovery(alloc, all)?;
-    let fault = first_of(all, mended.faults.as_slice());
-    let mut lines = FaultLines::new(source, all, mended.faults)?;
-    let text = listing(alloc, mended.assembled.as_ref(), &mut lines)?;
-    Ok(Listed { text, fault })
+    match assemble_by_word_number(alloc, all) {
+        Ok(assembled) => {
+            let lines = FaultLines::new(source, all, Vec::new(alloc));
+            let text = listing(alloc, &assembled, lines)?;
+            Ok(Listed {
+                text,
+                report: Vec::new(alloc),
+                is_faulty: false,
+            })
+        }
+        Err(fault) => faulty_listing(alloc, source, all, fault),
+    }
 }
 
-/// The first of the faults, with its line.
-fn first_of<'s>(words: &[Token<'_>], faults: &[Fault<'s>]) -> Option<Fault<'s>>
-    ensures none { result ≡ None → faults.now ≡ [] }
-    ensures some { IfSome result (λ _. 0 < length faults.now) }
+/// The listing of a source whose words have this fault, at the number of a word.
+///
+/// # Errors
+/// Out of memory.
+fn faulty_listing<'s>(
+    alloc: Global,
+    source: &'s [u8],
+    words: &[Token<'s>],
+    fault: Fault<'s>,
+) -> Result<Listed, Fault<'s>>
+    requires words { token_contents words.now ≡ all_in source.now }
+    requires fault { IsSoundSource source.now → fault.cause ≡ Memory }
+    ensures { IfOk result (λ listed. IsListed source.now listed.is_faulty listed.text.items) }
 {
-    let Some(fault) = faults.first() else {
-        return None;
-    };
-    Some(on_line(words, *fault))
+    if fault.cause == SourceCause::Memory {
+        return Err(fault);
+    }
+    let RecoveredSource { assembled, faults } = recover_words(alloc, words)?;
+    let faults = or_first(faults, fault)?;
+    let report = report_of(alloc, words, faults.as_slice())?;
+    let lines = FaultLines::new(source, words, faults);
+    let text = listing(alloc, &assembled, lines)?;
+    Ok(Listed {
+        text,
+        report,
+        is_faulty: true,
+    })
 }
 
-/// The listing of a chip, where there is one, and of faults.
+/// The lines of faults at the numbers of words, as `asm` writes them.
+fn report_of(
+    alloc: Global,
+    words: &[Token<'_>],
+    faults: &[Fault<'_>],
+) -> Result<Vec<u8>, AllocError>
+    ensures { IfOk result (λ report. report.items ≡ faults_text program_name (faults_by_line words.now faults.now)) }
+{
+    let faults = faults_on_lines(alloc, words, faults)?;
+    let mut report = Vec::new(alloc);
+    push_faults(&mut report, b"ga144: ", faults.as_slice())?;
+    Ok(report)
+}
+
+/// The listing of a chip, and of faults.
+#[tactic(auto, using(crate::proofs::FaultListing::tells_same, crate::proofs::FaultListing::tells_both, crate::proofs::FaultListing::all_told))]
 fn listing(
     alloc: Global,
-    assembled: Option<&Assembled<'_>>,
-    lines: &mut FaultLines<'_, '_>,
-) -> Result<Vec<u8>, AllocError> {
+    assembled: &Assembled<'_>,
+    mut lines: FaultLines<'_, '_>,
+) -> Result<Vec<u8>, AllocError>
+    ensures { IfOk result (λ text. AreAmong (lines_left lines.entry) text.items) }
+{
     let mut text = Vec::new(alloc);
-    let Some(assembled) = assembled else {
-        lines.push_rest(&mut text)?;
-        text.extend_from_slice(b"\\ too many faults to list what is left\n")?;
-        return Ok(text);
-    };
     for program in &assembled.programs {
-        lines.push_before(&mut text, program.line)?;
-        push_node(&mut text, program.node)?;
-        push_program(&mut text, &assembled.chip, program, lines)?;
+        push_listed_program(&mut text, &assembled.chip, program, &mut lines)?;
     }
     lines.push_rest(&mut text)?;
     Ok(text)
+}
+
+/// Adds the name of a node, and its program.
+#[tactic(auto, using(crate::proofs::FaultListing::grows, crate::proofs::FaultListing::tells_none, crate::proofs::FaultListing::tells_same, crate::proofs::FaultListing::tells_both))]
+fn push_listed_program(
+    text: &mut Vec<u8>,
+    chip: &Chip,
+    program: &Program<'_>,
+    lines: &mut FaultLines<'_, '_>,
+) -> Result<(), AllocError>
+    ensures { OnOk result (Tells text.old.items text.new.items (lines_left lines.old) (lines_left lines.new)) }
+{
+    lines.push_before(text, program.line)?;
+    push_node(text, program.node)?;
+    push_program(text, chip, program, lines)?;
+    Ok(())
 }
 
 /// Adds `node` and the node's name.
@@ -191,41 +245,60 @@ fn digit_of(value: u8) -> u8
 }
 
 /// Adds the labels and the cells of a program, in the order of the source.
+#[tactic(auto, using(crate::proofs::FaultListing::grows, crate::proofs::FaultListing::tells_none, crate::proofs::FaultListing::tells_same, crate::proofs::FaultListing::tells_both))]
 fn push_program(
     text: &mut Vec<u8>,
     chip: &Chip,
     program: &Program<'_>,
     lines: &mut FaultLines<'_, '_>,
-) -> Result<(), AllocError> {
-    let mut groups = program.groups.iter();
-    let mut left = 0usize;
-    for asked in &program.asked {
-        match asked.request {
-            Request::Mark(label) => push_label(text, program, label, asked.line, lines)?,
-            Request::Put(_) | Request::Unext(_) => {
-                if left == 0 {
-                    let Some(group) = groups.next() else {
-                        return Ok(());
-                    };
-                    push_group(text, chip, program, group, lines)?;
-                    left = group.items.len();
-                }
-                left = left.saturating_sub(1);
-            }
-            _ => {}
-        }
+) -> Result<(), AllocError>
+    ensures { OnOk result (Tells text.old.items text.new.items (lines_left lines.old) (lines_left lines.new)) }
+{
+    let mut told = 0usize;
+    for group in &program.groups {
+        told = push_labels(text, program, told, group.line(), lines)?;
+        push_group(text, chip, program, group, lines)?;
     }
+    push_labels(text, program, told, u32::MAX, lines)?;
     Ok(())
 }
 
+/// Adds the labels of a program that come before the word with a number, but for those of the first requests. Returns how many
+/// requests come before it.
+#[tactic(auto, using(crate::proofs::FaultListing::grows, crate::proofs::FaultListing::tells_none, crate::proofs::FaultListing::tells_same, crate::proofs::FaultListing::tells_both))]
+fn push_labels(
+    text: &mut Vec<u8>,
+    program: &Program<'_>,
+    first: usize,
+    number: u32,
+    lines: &mut FaultLines<'_, '_>,
+) -> Result<usize, AllocError>
+    ensures { OnOk result (Tells text.old.items text.new.items (lines_left lines.old) (lines_left lines.new)) }
+{
+    let mut told = first;
+    for asked in program.asked.iter().skip(first) {
+        if asked.line >= number {
+            return Ok(told);
+        }
+        if let Request::Mark(label) = asked.request {
+            push_label(text, program, label, asked.line, lines)?;
+        }
+        told = told.saturating_add(1);
+    }
+    Ok(told)
+}
+
 /// Adds the name of a label that has one.
+#[tactic(auto, using(crate::proofs::FaultListing::grows, crate::proofs::FaultListing::tells_none, crate::proofs::FaultListing::tells_same, crate::proofs::FaultListing::tells_both))]
 fn push_label(
     text: &mut Vec<u8>,
     program: &Program<'_>,
     label: usize,
     number: u32,
     lines: &mut FaultLines<'_, '_>,
-) -> Result<(), AllocError> {
+) -> Result<(), AllocError>
+    ensures { OnOk result (Tells text.old.items text.new.items (lines_left lines.old) (lines_left lines.new)) }
+{
     let Some(found) = program.names.get(label) else {
         return Ok(());
     };
@@ -234,46 +307,95 @@ fn push_label(
     }
     lines.push_before(text, number)?;
     text.extend_from_slice(found.name)?;
-    text.extend_from_slice(b":\n")
+    text.extend_from_slice(b":\n")?;
+    Ok(())
 }
 
-/// Adds the instruction word and the literals of a group, or its cell of data.
-fn push_group(
+/// Adds items, each after a blank.
+#[tactic(auto, using(crate::proofs::FaultListing::grows, crate::proofs::FaultListing::grows_none, crate::proofs::FaultListing::grows_both))]
+fn push_items(text: &mut Vec<u8>, program: &Program<'_>, items: &[Item]) -> Result<(), AllocError>
+    ensures { OnOk result (Grows text.old.items text.new.items) }
+{
+    for item in items {
+        text.push(b' ')?;
+        push_item(text, program, *item)?;
+    }
+    Ok(())
+}
+
+/// Adds the cell of a literal.
+#[tactic(auto, using(crate::proofs::FaultListing::grows, crate::proofs::FaultListing::grows_none, crate::proofs::FaultListing::grows_both))]
+fn push_literal(
+    text: &mut Vec<u8>,
+    chip: &Chip,
+    program: &Program<'_>,
+    address: u32,
+    value: Operand,
+) -> Result<(), AllocError>
+    ensures { OnOk result (Grows text.old.items text.new.items) }
+{
+    push_cell(text, chip, program.node, address)?;
+    text.push(b' ')?;
+    push_value(text, program, value)?;
+    text.push(b'\n')?;
+    Ok(())
+}
+
+/// Adds the cells of the literals of a group.
+#[tactic(auto, using(crate::proofs::FaultListing::grows, crate::proofs::FaultListing::grows_none, crate::proofs::FaultListing::grows_both))]
+fn push_literals(
     text: &mut Vec<u8>,
     chip: &Chip,
     program: &Program<'_>,
     group: &Group,
-    lines: &mut FaultLines<'_, '_>,
-) -> Result<(), AllocError> {
-    lines.push_before(text, group.line())?;
-    push_cell(text, chip, program.node, group.address)?;
-    for item in &group.items {
-        text.push(b' ')?;
-        push_item(text, program, *item)?;
-    }
-    text.extend_from_slice(b" \\ ")?;
-    text.extend_from_slice(lines.line(group.line()))?;
-    text.push(b'\n')?;
+) -> Result<(), AllocError>
+    ensures { OnOk result (Grows text.old.items text.new.items) }
+{
     let mut p = advance_p(group.address);
     for item in &group.items {
         if let Item::Literal(value) = item {
-            push_cell(text, chip, program.node, p)?;
-            text.push(b' ')?;
-            push_value(text, program, *value)?;
-            text.push(b'\n')?;
+            push_literal(text, chip, program, p, *value)?;
             p = advance_p(p);
         }
     }
     Ok(())
 }
 
-/// Adds the address and the word of a cell.
-fn push_cell(
+/// Adds the instruction word and the literals of a group, or its cell of data.
+#[tactic(auto, using(crate::proofs::FaultListing::grows, crate::proofs::FaultListing::tells_none, crate::proofs::FaultListing::tells_same, crate::proofs::FaultListing::tells_both))]
+fn push_group(
     text: &mut Vec<u8>,
     chip: &Chip,
-    node: NodeId,
-    address: u32,
-) -> Result<(), AllocError> {
+    program: &Program<'_>,
+    group: &Group,
+    lines: &mut FaultLines<'_, '_>,
+) -> Result<(), AllocError>
+    ensures { OnOk result (Tells text.old.items text.new.items (lines_left lines.old) (lines_left lines.new)) }
+{
+    lines.push_before(text, group.line())?;
+    push_cell(text, chip, program.node, group.address)?;
+    push_items(text, program, group.items.as_slice())?;
+    push_line(text, lines.line(group.line()))?;
+    push_literals(text, chip, program, group)?;
+    Ok(())
+}
+
+/// Adds a line of the source after a `\`.
+#[tactic(auto, using(crate::proofs::FaultListing::grows, crate::proofs::FaultListing::grows_none, crate::proofs::FaultListing::grows_both))]
+fn push_line(text: &mut Vec<u8>, line: &[u8]) -> Result<(), AllocError>
+    ensures { OnOk result (Grows text.old.items text.new.items) }
+{
+    text.extend_from_slice(b" \\ ")?;
+    text.extend_from_slice(line)?;
+    text.push(b'\n')?;
+    Ok(())
+}
+
+/// Adds the address and the word of a cell.
+#[tactic(auto, using(crate::proofs::FaultListing::grows, crate::proofs::FaultListing::grows_none, crate::proofs::FaultListing::grows_both))]
+fn push_cell(text: &mut Vec<u8>, chip: &Chip, node: NodeId, address: u32) -> Result<(), AllocError>
+    ensures { OnOk result (Grows text.old.items text.new.items) }
+{
     let place = match classify(address) {
         Target::Rom(cell) => Place::Rom(cell),
         Target::Ram(cell) => Place::Ram(cell),
@@ -281,11 +403,15 @@ fn push_cell(
     };
     push_hex(text, address, 3)?;
     text.push(b' ')?;
-    push_hex(text, chip.node(node).get(place), 6)
+    push_hex(text, chip.node(node).get(place), 6)?;
+    Ok(())
 }
 
 /// Adds an opcode, with the label that it leads to.
-fn push_item(text: &mut Vec<u8>, program: &Program<'_>, item: Item) -> Result<(), AllocError> {
+#[tactic(auto, using(crate::proofs::FaultListing::grows, crate::proofs::FaultListing::grows_none, crate::proofs::FaultListing::grows_both))]
+fn push_item(text: &mut Vec<u8>, program: &Program<'_>, item: Item) -> Result<(), AllocError>
+    ensures { OnOk result (Grows text.old.items text.new.items) }
+{
     match item {
         Item::Opcode(op) => text.extend_from_slice(op.name().as_bytes()),
         Item::Literal(_) => text.extend_from_slice(Op::FetchP.name().as_bytes()),
@@ -299,7 +425,10 @@ fn push_item(text: &mut Vec<u8>, program: &Program<'_>, item: Item) -> Result<()
 }
 
 /// Adds a number in decimal and hexadecimal digits, or a label's name after an apostrophe.
-fn push_value(text: &mut Vec<u8>, program: &Program<'_>, value: Operand) -> Result<(), AllocError> {
+#[tactic(auto, using(crate::proofs::FaultListing::grows, crate::proofs::FaultListing::grows_none, crate::proofs::FaultListing::grows_both))]
+fn push_value(text: &mut Vec<u8>, program: &Program<'_>, value: Operand) -> Result<(), AllocError>
+    ensures { OnOk result (Grows text.old.items text.new.items) }
+{
     match value {
         Operand::Number(number) => {
             text.extend_from_slice(b"0x")?;
@@ -313,7 +442,10 @@ fn push_value(text: &mut Vec<u8>, program: &Program<'_>, value: Operand) -> Resu
 }
 
 /// Adds the name of a label, or its address where it has none.
-fn push_target(text: &mut Vec<u8>, program: &Program<'_>, label: usize) -> Result<(), AllocError> {
+#[tactic(auto, using(crate::proofs::FaultListing::grows, crate::proofs::FaultListing::grows_none, crate::proofs::FaultListing::grows_both))]
+fn push_target(text: &mut Vec<u8>, program: &Program<'_>, label: usize) -> Result<(), AllocError>
+    ensures { OnOk result (Grows text.old.items text.new.items) }
+{
     if let Some(found) = program.names.get(label) {
         if !found.name.is_empty() {
             return text.extend_from_slice(found.name);

@@ -24,12 +24,12 @@ pub(crate) fn read_source<R: Read, E: Write>(
     match read_whole(alloc, reader) {
         WholeRead::Whole(source) => Ok(source),
         WholeRead::TooLong(_) => {
-            report_input_too_long(errors);
+            let _written = report_input_too_long(errors);
             Err(Status::ImageRefused)
         }
         WholeRead::ReadFailed => Err(Status::StreamFault),
         WholeRead::NoMemory => {
-            report_out_of_memory(errors);
+            let _written = report_out_of_memory(errors);
             Err(Status::ImageRefused)
         }
     }

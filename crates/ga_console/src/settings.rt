@@ -70,11 +70,10 @@ pub enum Settings {
     Disassemble {
         file: Option<String>,
     },
-    /// Draw the kept events of a session that keeps up to `limit`, 1 to 100000000, from one place of their list on and up to another, both counted from 1. Shown are the
-    /// causes of a step, and what a rollback of a step would take; each step is a node and a number, counted from 1. Idle nodes and
-    /// those that work by themselves are drawn too where `all` is set, and with `only` nothing but such causes and what would be taken;
-    /// from `fold` on that many own steps in a row are one mark, where it is not 0. Steps that could have come out otherwise are marked
-    /// where `races` is set.
+    /// Draw the history of a session, at most `limit` events, 1 to 100000000, from one place on and up to another, both counted from 1.
+    /// Marked are the causes of a step, and what a rollback of a step would remove; each step is a node and a number, counted from 1.
+    /// Idle and independent nodes are drawn too where `all` is set, and with `only` nothing but such causes and what would be removed;
+    /// a run of at least `fold` own steps is one mark, where `fold` is not 0. Races are marked where `races` is set.
     Draw {
         limit: u32,
         cause: Option<(NodeId, u32)>,

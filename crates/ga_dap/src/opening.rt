@@ -16,7 +16,7 @@ ghost use Rattle.ga_dap.specs.inner.Unopened.{IfFault};
 
 use ga_console::{open_image, refuse};
 use ga_dap_queries::Debuggee;
-use ga_debug_info::{DebugInfo, debug_info_of, push_fault};
+use ga_debug_info::{DebugInfo, debug_info_of, text_of_faults};
 use ga_grid::{Chip, NodeId};
 use ga_image::{ImageCause, ImageFault};
 use ga_lab::{Lab, LabFault};
@@ -180,7 +180,7 @@ fn source_contents(alloc: Global, source: &[u8], limit: u32) -> Result<Contents,
     ensures err { IfErr result (λ why. IfFault why (IsSoundSource source.now → ⊥)) }
 {
     match assemble(alloc, source) {
-        Err(fault) => Err(source_refused(alloc, fault)),
+        Err(fault) => Err(source_refused(alloc, source, fault)),
         Ok(assembled) => {
             let programs = assembled.programs.as_slice();
             let warnings = warnings_of(alloc, programs)?;
@@ -206,16 +206,15 @@ fn lab_of(alloc: Global, chip: Chip, limit: u32) -> Result<Lab, AllocError>
     }
 }
 
-/// The text about a fault of source.
-fn source_refused(alloc: Global, fault: Fault<'_>) -> LaunchError
+/// The refusal of a source with this fault.
+fn source_refused<'s>(alloc: Global, source: &'s [u8], fault: Fault<'s>) -> LaunchError
     ensures { IfFault result (fault.entry.cause ≢ Wanting) }
 {
     if fault.cause == SourceCause::Memory {
         return LaunchError::Memory;
     }
-    let mut text = Vec::new(alloc);
-    match push_fault(&mut text, fault) {
-        Ok(()) => told(alloc, text.as_slice()),
+    match text_of_faults(alloc, b"", source, fault) {
+        Ok(text) => told(alloc, text.as_slice()),
         Err(_) => LaunchError::Memory,
     }
 }

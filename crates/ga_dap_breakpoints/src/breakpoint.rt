@@ -5,10 +5,11 @@ ghost use Rattle.ga_debug_info.specs.Notes.{worded_slot};
 ghost use Rattle.ga_dap_breakpoints.specs.Breakpoints.{on_slot, on_word, breakpoint_of_line, breakpoint_of_address};
 
 use crate::back::Watched;
-use crate::condition::{HitCount, ValueTest};
+use crate::condition::HitCount;
 use ga_dap_views::{SlotAddress, memory_cell};
 use ga_debug_info::{DebugInfo, SlotWord};
 use ga_grid::NodeId;
+use ga_scheduler::ValueTest;
 
 /// What a node is watched for.
 #[derive(Clone, Copy, PartialEq, Eq, Debug)]

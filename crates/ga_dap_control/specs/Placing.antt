@@ -13,11 +13,12 @@ use Rattle.ga_dap_views.specs.Json.{whole_number}
 use Rattle.ga_dap_breakpoints.specs.declared.back.Watched.TheVariants.{Writes}
 use Rattle.ga_dap_breakpoints.specs.declared.breakpoint.Breakpoint.{Breakpoint}
 use Rattle.ga_dap_breakpoints.specs.declared.breakpoint.LineBreakpoint.{LineBreakpoint}
-use Rattle.ga_dap_breakpoints.specs.declared.condition.ValueTest.{ValueTest}
-use Rattle.ga_dap_breakpoints.specs.Conditions.{is_step_number}
+use Rattle.ga_scheduler.specs.Values.{is_possible}
+use Rattle.ga_scheduler.specs.declared.value_test.ValueTest.{ValueTest}
+use Rattle.ga_conditions.specs.Tests.{test_in}
 use Rattle.serde_json.specs.Find.{get, as_str, as_null}
 use Rattle.ga_dap_breakpoints.specs.declared.condition.HitCount.{HitCount}
-use Rattle.ga_dap_breakpoints.specs.Saying.{parse_condition, parse_hit_condition}
+use Rattle.ga_dap_breakpoints.specs.Saying.{parse_hit_condition}
 use Rattle.ga_dap_breakpoints.specs.Breakpoints.{breakpoint_of_line, breakpoint_of_address}
 use Rattle.ga_dap_protocol.specs.Messages.{member_text, member_number}
 use Rattle.ga_dap_queries.specs.declared.debuggee.Debuggee.{Debuggee}
@@ -105,19 +106,16 @@ is_other_kind (Some given) = not (is_some (as_str given)) && not (is_some (as_nu
 abbrev pub is_no_text : Text → Data → Bool
 is_no_text name d = is_other_kind (get name d)
 
--- a word has 18 bits; the number of a step is any
-abbrev pub can_be : ValueTest → Bool
-can_be test = nat_lt test.number 262144 || is_step_number test.variable
-
 abbrev pub on_condition : BreakpointLocation → Option ValueTest → Result BreakpointLocation PlacementError
 on_condition place None = Err Condition
 on_condition place (Some test) =
-    if can_be test then Ok (record place { breakpoint = record place.breakpoint { condition = Some test } }) else Err Range
+    if is_possible test then Ok (record place { breakpoint = record place.breakpoint { condition = Some test } }) else Err Range
 
-abbrev pub with_condition : BreakpointLocation → Bool → Option Text → Result BreakpointLocation PlacementError
-with_condition place true text = Err Condition
-with_condition place false None = Ok place
-with_condition place false (Some text) = on_condition place (parse_condition text)
+-- the condition may name a label of the breakpoint's node
+abbrev pub with_condition : List LabelAddress → BreakpointLocation → Bool → Option Text → Result BreakpointLocation PlacementError
+with_condition names place true text = Err Condition
+with_condition names place false None = Ok place
+with_condition names place false (Some text) = on_condition place (test_in names place.breakpoint.node text)
 
 -- hits are counted of the first 64 breakpoints
 abbrev pub on_hits : BreakpointLocation → ℕ → Option HitCount → Result BreakpointLocation PlacementError
@@ -134,13 +132,13 @@ abbrev pub then_hits : ℕ → Data → Result BreakpointLocation PlacementError
 then_hits before d (Err why) = Err why
 then_hits before d (Ok place) = with_hits place before (is_no_text (codes "hitCondition") d) (member_text (codes "hitCondition") d)
 
-abbrev pub asked_there : BreakpointLocation → ℕ → Data → Result BreakpointLocation PlacementError
-asked_there place before d = then_hits before d (with_condition place (is_no_text (codes "condition") d) (member_text (codes "condition") d))
+abbrev pub asked_there : List LabelAddress → BreakpointLocation → ℕ → Data → Result BreakpointLocation PlacementError
+asked_there names place before d = then_hits before d (with_condition names place (is_no_text (codes "condition") d) (member_text (codes "condition") d))
 
 -- the requested breakpoint, given the number of breakpoints before it; else why it is not set
-abbrev pub requested_breakpoint : Option BreakpointLocation → ℕ → Data → Result BreakpointLocation PlacementError
-requested_breakpoint None before d = Err Nowhere
-requested_breakpoint (Some place) before d = asked_there place before d
+abbrev pub requested_breakpoint : List LabelAddress → Option BreakpointLocation → ℕ → Data → Result BreakpointLocation PlacementError
+requested_breakpoint names None before d = Err Nowhere
+requested_breakpoint names (Some place) before d = asked_there names place before d
 
 -- ---- what is sent for one, by its number
 
@@ -152,7 +150,7 @@ unfound_words family.Data = codes "no such cell of RAM"
 
 abbrev pub unplaced_words : BreakpointKind → PlacementError → Text
 unplaced_words kind Nowhere = unfound_words kind
-unplaced_words kind Condition = codes "condition: a register or [HH], then = != < <= > or >=, then a number"
+unplaced_words kind Condition = codes "condition: a register or [HH], then = != < <= > or >=, then a number, port or label"
 unplaced_words kind Range = codes "condition: the number is past 0x3ffff, the last word"
 unplaced_words kind Hits = codes "hitCondition: N, >= N or % N, from 1 on"
 unplaced_words kind Uncounted = codes "hitCondition: hits are counted of 64 breakpoints at most"
@@ -195,7 +193,7 @@ placed_next p kind found old =
     record { told = old.told ++ told_placed p kind old.next found ∷ []; placed = old.placed ++ set_by kind old.next found; next = (old.next + 1) % 2 ^ 64 }
 
 abbrev pub PlacesOne : Debuggee → BreakpointKind → Data → Placement → Placement → Type 0
-PlacesOne p kind d old new = (found : Option BreakpointLocation) × IsPlaceOf p kind d found × (new ≡ placed_next p kind (requested_breakpoint found (length old.placed) d) old)
+PlacesOne p kind d old new = (found : Option BreakpointLocation) × IsPlaceOf p kind d found × (new ≡ placed_next p kind (requested_breakpoint (program_notes p).names.items found (length old.placed) d) old)
 
 abbrev pub Places : Debuggee → BreakpointKind → List Data → Placement → Placement → Type 0
 Places p kind [] old new = new ≡ old

@@ -4,19 +4,21 @@ ghost use Rattle.std.specs.Prelude.{◌≡◌, ◌<◌, length, position, codes,
 ghost use Rattle.serde_json.specs.View.{view};
 ghost use Rattle.ga_dap_protocol.specs.Messages.{member_text};
 ghost use Rattle.ga_dap_queries.specs.Disassembling.{offset_given, addresses_after};
-ghost use Rattle.ga_dap_breakpoints.specs.Saying.{parse_condition, parse_hit_condition};
-ghost use Rattle.ga_dap_control.specs.Placing.{line_asked, found_on_line, is_label, at_any_label, at_label_of, names_node, node_named_before, at_label, at_cell_on, on_writes, on_no_line, is_no_text, can_be, on_condition, with_condition, on_hits, with_hits, asked_there, requested_breakpoint, unfound_words, unplaced_words, IsReferredBy, IsPlaceOf};
+ghost use Rattle.ga_dap_breakpoints.specs.Saying.{parse_hit_condition};
+ghost use Rattle.ga_conditions.specs.Tests.{test_in};
+ghost use Rattle.ga_dap_control.specs.Placing.{line_asked, found_on_line, is_label, at_any_label, at_label_of, names_node, node_named_before, at_label, at_cell_on, on_writes, on_no_line, is_no_text, on_condition, with_condition, on_hits, with_hits, asked_there, requested_breakpoint, unfound_words, unplaced_words, IsReferredBy, IsPlaceOf};
 
 use crate::configuration::BreakpointKind;
+use ga_conditions::parse_test;
 use ga_dap_breakpoints::{
-    Breakpoint, MAX_COUNTED, ValueTest, Watched, breakpoint_of_address, breakpoint_of_line,
-    parse_condition, parse_hit_condition,
+    Breakpoint, MAX_COUNTED, Watched, breakpoint_of_address, breakpoint_of_line,
+    parse_hit_condition,
 };
 use ga_dap_protocol::{number_at, text_at};
 use ga_dap_queries::{Debuggee, addresses_after, offset_at, resolve_memory_reference};
-use ga_dap_views::Variable;
 use ga_debug_info::{DebugInfo, LabelAddress};
 use ga_grid::NodeId;
+use ga_scheduler::ValueTest;
 use ga_text::parse_node;
 use serde_json::Value;
 
@@ -77,7 +79,7 @@ pub fn placement_error_text(family: BreakpointKind, why: PlacementError) -> &'st
     match why {
         PlacementError::Nowhere => unfound(family),
         PlacementError::Condition =>
-            "condition: a register or [HH], then = != < <= > or >=, then a number",
+            "condition: a register or [HH], then = != < <= > or >=, then a number, port or label",
         PlacementError::Range => "condition: the number is past 0x3ffff, the last word",
         PlacementError::Hits => "hitCondition: N, >= N or % N, from 1 on",
         PlacementError::Uncounted => "hitCondition: hits are counted of 64 breakpoints at most",
@@ -92,13 +94,6 @@ fn is_no_text(asked: &Value, name: &str) -> bool
         Some(given) => !given.is_string() && !given.is_null(),
         None => false,
     }
-}
-
-/// Whether the number of a condition is one that the value can be.
-fn can_be(test: &ValueTest) -> bool
-    ensures { result ≡ can_be test.now }
-{
-    test.number < 0x4_0000 || test.variable == Variable::Step
 }
 
 /// A breakpoint at a place, with this condition.
@@ -116,14 +111,15 @@ fn with_test(place: BreakpointLocation, test: ValueTest) -> BreakpointLocation
 
 /// A breakpoint at a place, with the condition that a text says.
 fn on_condition(
+    names: &[LabelAddress],
     place: BreakpointLocation,
     text: &[u8],
 ) -> Result<BreakpointLocation, PlacementError>
-    ensures { result ≡ on_condition place (parse_condition text.now) }
+    ensures { result ≡ on_condition place (test_in names.now place.breakpoint.node text.now) }
 {
-    match parse_condition(text) {
+    match parse_test(names, place.breakpoint.node, text) {
         Some(test) => {
-            if can_be(&test) {
+            if test.is_possible() {
                 Ok(with_test(place, test))
             } else {
                 Err(PlacementError::Range)
@@ -135,16 +131,17 @@ fn on_condition(
 
 /// A breakpoint at a place, with the requested condition, if there is one.
 fn with_condition(
+    names: &[LabelAddress],
     place: BreakpointLocation,
     asked: &Value,
 ) -> Result<BreakpointLocation, PlacementError>
-    ensures { result ≡ with_condition place (is_no_text (codes "condition") (view asked.now)) (member_text (codes "condition") (view asked.now)) }
+    ensures { result ≡ with_condition names.now place (is_no_text (codes "condition") (view asked.now)) (member_text (codes "condition") (view asked.now)) }
 {
     if is_no_text(asked, "condition") {
         return Err(PlacementError::Condition);
     }
     match text_at(asked, "condition") {
-        Some(text) => on_condition(place, text.as_bytes()),
+        Some(text) => on_condition(names, place, text.as_bytes()),
         None => Ok(place),
     }
 }
@@ -194,28 +191,30 @@ fn with_hits(
 
 /// The requested breakpoint at a place, if its condition and its hit condition can be parsed.
 fn asked_there(
+    names: &[LabelAddress],
     place: BreakpointLocation,
     before: usize,
     asked: &Value,
 ) -> Result<BreakpointLocation, PlacementError>
-    ensures { result ≡ asked_there place before (view asked.now) }
+    ensures { result ≡ asked_there names.now place before (view asked.now) }
 {
-    match with_condition(place, asked) {
+    match with_condition(names, place, asked) {
         Ok(place) => with_hits(place, before, asked),
         Err(why) => Err(why),
     }
 }
 
-/// The requested breakpoint, given the number of breakpoints before it; else why it is not set.
+/// The requested breakpoint, given the labels of the program and the number of breakpoints before it; else why it is not set.
 pub fn requested_breakpoint(
+    names: &[LabelAddress],
     found: Option<BreakpointLocation>,
     before: usize,
     asked: &Value,
 ) -> Result<BreakpointLocation, PlacementError>
-    ensures { result ≡ requested_breakpoint found before (view asked.now) }
+    ensures { result ≡ requested_breakpoint names.now found before (view asked.now) }
 {
     match found {
-        Some(place) => asked_there(place, before, asked),
+        Some(place) => asked_there(names, place, before, asked),
         None => Err(PlacementError::Nowhere),
     }
 }

@@ -152,7 +152,8 @@ fn place_one(
     ensures { OnOk result (PlacesOne program.now family (view asked.now) (placement_of placing.old) (placement_of placing.new)) }
 {
     let found = resolve_breakpoint(program, family, asked);
-    let asked = requested_breakpoint(found, placing.placed.len(), asked);
+    let names = program.notes().names.as_slice();
+    let asked = requested_breakpoint(names, found, placing.placed.len(), asked);
     place_found(alloc, program, family, asked, placing)
 }
 

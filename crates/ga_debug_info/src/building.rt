@@ -255,7 +255,7 @@ fn push_label(
 }
 
 /// An address in three hexadecimal digits.
-fn three_digits(address: u32) -> [u8; 3]
+pub(crate) fn three_digits(address: u32) -> [u8; 3]
     ensures { result ≡ address_text address }
 {
     let [_, _, _, high, middle, low] = Word18::truncated(address).hex6();

@@ -1,7 +1,12 @@
 //! What editors write into a text, where it has no place.
 
+ghost use Rattle.std.specs.Prelude.{◌≡◌, ◌≤◌, ◌++◌, true, false, [], length, codes, decimal};
+ghost use Rattle.ga_text.specs.Lines.{Bytes};
+ghost use Rattle.ga_text.specs.Output.{IsWrittenOrTruncated};
+ghost use Rattle.ga_debug_info.specs.Edited.{first_return, first_hidden, hides_lines as hides_by, edited_in_image, edited_in_source, byte_order_mark_text, edited_text};
+
 use super::faults::tell;
-use ga_text::{TextBuffer, push_text};
+use ga_text::{TextBuffer, WriteResult, push_number, push_text};
 use std::io::Write;
 
 /// What an editor wrote into a text where it has no place.
@@ -15,18 +20,19 @@ pub enum EditorArtifact {
     ReturnBehindEnd(u32),
 }
 
-/// What an editor wrote into an image: a byte order mark before it, or else the first carriage return at a line's end.
-pub fn edited_image(image: &[u8]) -> Option<EditorArtifact> {
-    if let [0xef, 0xbb, 0xbf, ..] = image {
-        return Some(EditorArtifact::Mark);
-    }
+/// The first line that ends with a carriage return.
+#[tactic(auto, using(crate::proofs::EditedLemmas::return_more, crate::proofs::EditedLemmas::return_none, std::proofs::lemmas::List::drop_all))]
+fn return_in(image: &[u8]) -> Option<EditorArtifact>
+    ensures { result ≡ first_return 1 false image.now }
+{
     let mut line = 1u32;
     let mut is_return = false;
     for byte in image {
-        if *byte == b'\n' {
-            if is_return {
-                return Some(EditorArtifact::Return(line));
-            }
+        let is_feed = *byte == b'\n';
+        if is_return && is_feed {
+            return Some(EditorArtifact::Return(line));
+        }
+        if is_feed {
             line = line.saturating_add(1);
         }
         is_return = *byte == b'\r';
@@ -34,12 +40,21 @@ pub fn edited_image(image: &[u8]) -> Option<EditorArtifact> {
     None
 }
 
-/// What an editor wrote into source so that the commands after it are not read: a byte order mark before an image, which is
-/// then source, or a carriage return after a line `end` that is followed by other lines.
-pub fn edited_source(source: &[u8]) -> Option<EditorArtifact> {
-    if let [0xef, 0xbb, 0xbf, b'g', b'a', b'1', b'4', b'4', ..] = source {
+/// What an editor wrote into an image: a byte order mark before it, or else the first carriage return at a line's end.
+pub fn edited_image(image: &[u8]) -> Option<EditorArtifact>
+    ensures { result ≡ edited_in_image image.now }
+{
+    if image.starts_with(b"\xef\xbb\xbf".as_slice()) {
         return Some(EditorArtifact::Mark);
     }
+    return_in(image)
+}
+
+/// The first line `end` with a carriage return that is followed by other lines.
+#[tactic(auto, using(crate::proofs::EditedLemmas::hidden_more, crate::proofs::EditedLemmas::hidden_none, std::proofs::lemmas::List::drop_all))]
+fn hidden_in(source: &[u8]) -> Option<EditorArtifact>
+    ensures { result ≡ first_hidden 1 true source.now }
+{
     let mut line = 1u32;
     let mut is_start = true;
     for (i, byte) in source.iter().enumerate() {
@@ -54,40 +69,72 @@ pub fn edited_source(source: &[u8]) -> Option<EditorArtifact> {
     None
 }
 
-/// Whether a text begins with a line `end` with a carriage return, and other lines than `end` follow it.
-fn hides_lines(text: &[u8]) -> bool {
-    match text {
-        [b'e', b'n', b'd', b'\r', b'\n'] => false,
-        [b'e', b'n', b'd', b'\r', b'\n', b'e', b'n', b'd'] => false,
-        [b'e', b'n', b'd', b'\r', b'\n', b'e', b'n', b'd', b'\n'] => false,
-        [b'e', b'n', b'd', b'\r', b'\n', ..] => true,
-        _ => false,
+/// What an editor wrote into source so that the commands after it are not read: a byte order mark before an image, which is
+/// then source, or a carriage return after a line `end` that is followed by other lines.
+pub fn edited_source(source: &[u8]) -> Option<EditorArtifact>
+    ensures { result ≡ edited_in_source source.now }
+{
+    if source.starts_with(b"\xef\xbb\xbfga144".as_slice()) {
+        return Some(EditorArtifact::Mark);
     }
+    hidden_in(source)
 }
 
-/// Reports what an editor wrote into a text.
-pub fn report_editor_artifact<E: Write>(errors: &mut E, edited: Option<EditorArtifact>) {
+/// Whether a text begins with a line `end` with a carriage return, and other lines than `end` follow it.
+fn hides_lines(text: &[u8]) -> bool
+    ensures { result ≡ hides_by text.now }
+{
+    text.starts_with(b"end\r\n".as_slice())
+        && text != b"end\r\n".as_slice()
+        && text != b"end\r\nend".as_slice()
+        && text != b"end\r\nend\n".as_slice()
+}
+
+/// The text about a carriage return after a line.
+fn line_told(line: u32, behind: &[u8]) -> TextBuffer
+    requires { length behind.now ≤ 100 }
+    ensures { result.items ≡ codes "ga144: line " ++ decimal line ++ behind.now }
+{
     let mut text = TextBuffer::new();
+    push_text(&mut text, b"ga144: line ");
+    push_number(&mut text, u64::from(line));
+    push_text(&mut text, behind);
+    text
+}
+
+/// Reports a byte order mark.
+fn tell_mark<E: Write>(errors: &mut E) -> WriteResult
+    ensures { (before : Bytes) → E.contents errors.old ≡ Some before → IsWrittenOrTruncated result (E.contents errors.new) before byte_order_mark_text [] }
+{
+    tell(
+        errors,
+        b"ga144: a byte order mark stands before the image; leave it out\n",
+    )
+}
+
+/// Reports what an editor wrote into a text, if it did.
+pub fn report_editor_artifact<E: Write>(
+    errors: &mut E,
+    edited: Option<EditorArtifact>,
+) -> WriteResult
+    ensures { (before : Bytes) → E.contents errors.old ≡ Some before → IsWrittenOrTruncated result (E.contents errors.new) before (edited_text edited) [] }
+{
     match edited {
-        Some(EditorArtifact::Mark) => push_text(
-            &mut text,
-            b"ga144: a byte order mark stands before the image; leave it out\n",
-        ),
+        Some(EditorArtifact::Mark) => tell_mark(errors),
         Some(EditorArtifact::Return(line)) => {
-            let _ = write!(
-                text,
-                "ga144: line {}: a carriage return ends the line; end it with a line feed alone\n",
-                line
+            let text = line_told(
+                line,
+                b": a carriage return ends the line; end it with a line feed alone\n",
             );
+            tell(errors, text.as_slice())
         }
         Some(EditorArtifact::ReturnBehindEnd(line)) => {
-            let _ = write!(
-                text,
-                "ga144: line {}: a carriage return ends the line end; end it with a line feed alone\n",
-                line
+            let text = line_told(
+                line,
+                b": a carriage return ends the line end; end it with a line feed alone\n",
             );
+            tell(errors, text.as_slice())
         }
-        None => return,
+        None => tell(errors, b""),
     }
-    tell(errors, text.as_slice());
 }

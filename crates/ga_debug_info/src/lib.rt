@@ -3,19 +3,22 @@
 #![tactic(auto)]
 
 mod building;
+mod causes;
 mod editor_artifact;
 mod faults;
 mod label;
 mod line;
 mod notes;
+mod unrepresented;
 mod wording;
 
 pub use building::debug_info_of;
+pub use causes::{push_fault, push_faults};
 pub use editor_artifact::{EditorArtifact, edited_image, edited_source, report_editor_artifact};
 pub use faults::{
-    push_fault, report_code_stores, report_fault, report_input_too_long, report_out_of_memory,
-    report_unrepresented,
+    report_code_stores, report_faults, report_input_too_long, report_out_of_memory, text_of_faults,
 };
 pub use line::Lines;
-pub use notes::{CellSource, DebugInfo, LabelAddress};
+pub use notes::{CellSource, DebugInfo, LabelAddress, label_address};
+pub use unrepresented::report_unrepresented;
 pub use wording::{DisplayedWord, SlotWord};

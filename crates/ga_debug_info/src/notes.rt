@@ -1,7 +1,7 @@
 //! Notes of cells, and the names of addresses.
 
 ghost use Rattle.std.specs.Prelude.{◌≡◌, position};
-ghost use Rattle.ga_debug_info.specs.Notes.{is_note_of, is_begun, is_node_name, worded_slot as slot_worded_by, is_slot_word, is_nearer as is_nearer_word, nearer_word};
+ghost use Rattle.ga_debug_info.specs.Notes.{is_note_of, is_begun, is_node_name, worded_slot as slot_worded_by, is_slot_word, is_nearer as is_nearer_word, nearer_word, address_of};
 
 use crate::wording::{DisplayedWord, SlotWord};
 use ga_grid::NodeId;
@@ -44,7 +44,7 @@ pub struct DebugInfo {
 }
 
 impl DebugInfo {
-    ghost use Rattle.std.specs.Prelude.{◌≡◌, [], None, Some, option_map};
+    ghost use Rattle.std.specs.Prelude.{◌≡◌, ◌==◌, length, [], None, Some, option_map};
     ghost use Rattle.ga_debug_info.specs.Notes.{first_note_text, first_note_is_long, slot_text, slot_word_of, nearest_word, line_address, address_of};
 
     /// The notes of an image: none.
@@ -61,7 +61,9 @@ impl DebugInfo {
     }
 
     /// Whether there is no debug info of any cell.
-    pub fn is_empty(&self) -> bool {
+    pub fn is_empty(&self) -> bool
+        ensures { result ≡ (length self.now.notes.items == 0) }
+    {
         self.notes.is_empty()
     }
 
@@ -151,11 +153,7 @@ impl DebugInfo {
     pub fn address_of(&self, node: NodeId, text: &[u8]) -> Option<u32>
         ensures { result ≡ address_of self.now.names.items node text.now }
     {
-        let place = name_place(self.names.as_slice(), node, text)?;
-        match self.names.get(place) {
-            Some(name) => Some(name.address),
-            None => None,
-        }
+        label_address(self.names.as_slice(), node, text)
     }
 }
 
@@ -199,6 +197,17 @@ fn name_place(names: &[LabelAddress], node: NodeId, text: &[u8]) -> Option<usize
     ensures { result ≡ position (is_node_name node text.now) names.now }
 {
     names.iter().position(|name| is_named(name, node, text))
+}
+
+/// The address of a label of a node, of the labels of all nodes.
+pub fn label_address(names: &[LabelAddress], node: NodeId, text: &[u8]) -> Option<u32>
+    ensures { result ≡ address_of names.now node text.now }
+{
+    let place = name_place(names, node, text)?;
+    match names.get(place) {
+        Some(name) => Some(name.address),
+        None => None,
+    }
 }
 
 /// The slot whose word is shown: for a fetch, which has slot 4, the first.

@@ -2,5 +2,6 @@ pub mod Done
 pub mod LineAnswers
 pub mod Fronts
 pub mod Finding
-pub mod Alternatives
 pub mod Leading
+pub mod Serving
+pub mod Prompted

@@ -1,6 +1,6 @@
 -- The commands of exploring: of each how a line spells it, what it answers, and what `help` says of it (docs/REFERENCE.md, "Exploring";
 -- this project's own).
-use Rattle.std.specs.Prelude.{◌≡◌, ℕ, ◌≤◌, nat_eq, if◌then◌else◌, List, [], ◌∷◌, length, slice_get, codes, Option, Some, None, option_map}
+use Rattle.std.specs.Prelude.{◌≡◌, ℕ, ◌≤◌, nat_eq, if◌then◌else◌, List, [], ◌∷◌, length, slice_get, codes, Option, Some, None, option_map, option_and_then}
 use Rattle.std.specs.Cmp.Lexicographic.{pointwise}
 use Rattle.ga_text.specs.Lines.{Text, Line}
 use Rattle.ga_text.specs.Parsing.{split_at_space, parse_node}
@@ -22,7 +22,8 @@ use Rattle.ga_explorer_text.specs.Around.{around_text}
 use Rattle.ga_explorer_text.specs.Trees.{TellsWhence}
 use Rattle.ga_explorer_text.specs.Because.{because_text}
 use Rattle.ga_explorer_text.specs.Races.{TellsRaces}
-use Rattle.ga_explorer.specs.Reading.{step_meant, run_in, back_in, most_events, no_condition, node_and_step, two_nodes, node_and_cell, node_and_steps}
+use Rattle.ga_explorer.specs.Reading.{step_meant, part_named, run_in, back_in, most_events, node_and_step, two_nodes, node_and_cell, node_and_value, node_and_steps}
+use Rattle.ga_conditions.specs.Conditions.{no_condition}
 use Rattle.ga_explorer.specs.Forms.{CommandForm, entry, place_from, form_rows_text, about_found}
 use Rattle.ga_explorer.specs.Opening.{ExplorerState}
 use Rattle.ga_explorer.specs.declared.commands.ExplorerCommand.{ExplorerCommand}
@@ -35,26 +36,26 @@ use Rattle.ga_explorer.specs.declared.commands.Query.TheVariants as told
 -- the commands of exploring and those of the debugger, in the order of `help`
 unfoldable pub command_table : List CommandForm
 command_table =
-    entry (codes "run") (codes "run [greedy|random SEED] [N] [until COND]") (codes "\n                      make up to N events, in rounds or in this order\nCOND: pass NNN MMM = W, pass NNN MMM J, step NNN K, stop, stop NNN, wait NNN,\n      mem NNN HH = W, p NNN X, reach NNN X, change NNN HH [= W], COND or COND\nX: an address, a label, line N\n") (codes "answers: reached M EVENT, made M, quiet M or full M: how many events, and why no more\nexample: run 1000 until stop or reach 001 000012\n")
+    entry (codes "run") (codes "run [greedy|random SEED] [N] [until COND]") (codes "\n                      make up to N events, in rounds or in this order\nCOND: NNN VALUE OP N, pass NNN MMM OP N, pass NNN MMM J, step NNN K, stop, stop NNN,\n      wait NNN, mem NNN HH = N, p NNN X, reach NNN X, change NNN HH [= N], COND or COND\nVALUE: t s r p a b i, d2 to d9, r1 to r8, io, slot, carry, step, [HH]\nOP: = != < <= > >=   N: a number, a port, a label   X: an address, a label, line N\n") (codes "answers: reached M EVENT, made M, quiet M or full M: how many events, and why no more\nexample: run 1000 until stop or 001 t = 0x150\n")
     ∷ entry (codes "chip") (codes "chip") (codes "                  what each node does\n") (codes "answers: rows 7 to 0 of nodes: . made no step, * runs, x stopped, @ waits for code, ? reads, ! writes\nexample: chip\n")
-    ∷ entry (codes "who") (codes "who") (codes "                   who waits for whom, and which nodes can never go on\n") (codes "answers: for each that waits what it does, and the nodes that it awaits; then stuck, ring and idle\nexample: who\n")
-    ∷ entry (codes "effects") (codes "effects NNN K") (codes "         what rewind NNN K would take\n") (codes "answers: effects X N, and for each of N nodes its first step that would go, and how many would\nexample: effects 001 last\n")
-    ∷ entry (codes "words") (codes "words NNN MMM") (codes "         the words that went from NNN to MMM\n") (codes "answers: words NNN MMM C, and for each of C words its number, the steps of both nodes and the word\nexample: words 000 001\n")
-    ∷ entry (codes "writes") (codes "writes NNN HH") (codes "         the steps that wrote the cell HH of NNN, the newest first\n") (codes "answers: for each the step, the opcode and the word that stood there then\nexample: writes 001 20\n")
-    ∷ entry (codes "at") (codes "at NNN K [N]") (codes "          N steps before and behind step K of NNN, with registers\n") (codes "answers: for each the step, what it did, and the registers t, s, r, a, b and p behind it\nexample: at 001 last 5\n")
-    ∷ entry (codes "whence") (codes "whence NNN K") (codes "          the steps whose values went into what step K of NNN made\n") (codes "answers: a tree: below each step, two blanks deeper, the steps that made the values it used\nexample: whence 001 last\n")
-    ∷ entry (codes "because") (codes "because NNN K [N]") (codes "     N steps before step K at which a value decided where NNN went on\nK of effects, at, whence, because: a step's number, or last\n") (codes "answers: for each the step and the word that it tested, and below it the step that made that word\nexample: because 001 last\n")
-    ∷ entry (codes "races") (codes "races [NNN]") (codes "           steps that could have come out otherwise, and how\n") (codes "answers: races N, and for each of N steps what else it could have got, and two commands that lead there\nexample: races 001\n")
-    ∷ entry (codes "save") (codes "save") (codes "                  the kept events as lines of debug\n") (codes "answers: step NNN for each kept event, the oldest first\nexample: save\n")
+    ∷ entry (codes "who") (codes "who") (codes "                   who waits for whom, and which nodes can never go on\n") (codes "answers: for each that waits what it does, and the nodes that it awaits; then stuck, ring, ended and idle\nexample: who\n")
+    ∷ entry (codes "effects") (codes "effects NNN K") (codes "         what rewind NNN K would remove\n") (codes "answers: effects X N, and for each of N nodes its first step that it would remove, and their number\nexample: effects 001 last\n")
+    ∷ entry (codes "words") (codes "words NNN MMM") (codes "         the words transferred from NNN to MMM\n") (codes "answers: words NNN MMM C, and for each of C words its number, the steps of both nodes and the word\nexample: words 000 001\n")
+    ∷ entry (codes "writes") (codes "writes NNN HH") (codes "         the steps that wrote the cell HH of NNN, the newest first\n") (codes "answers: for each the step, the opcode and the word\nexample: writes 001 20\n")
+    ∷ entry (codes "at") (codes "at NNN K [N]") (codes "          N steps before and after step K of NNN, with registers\n") (codes "answers: for each the step, what it did, and the registers t, s, r, a, b and p after it\nexample: at 001 last 5\n")
+    ∷ entry (codes "whence") (codes "whence NNN K [VALUE]") (codes "  the steps whose values went into what step K of NNN made, or\n                      into a register, a word of a stack or a cell as it is after step K\n") (codes "answers: a tree: below each step, two blanks deeper, the steps that made the values it used\nexample: whence 001 last, or whence 001 last r\n")
+    ∷ entry (codes "because") (codes "because NNN K [N]") (codes "     N steps before step K at which a value decided where NNN continued\nK of effects, at, whence, because: a step's number, or last\n") (codes "answers: for each the step and the word that it tested, and below it the step that made that word\nexample: because 001 last\n")
+    ∷ entry (codes "races") (codes "races [NNN]") (codes "           steps that yield another word in another order, and how\n") (codes "answers: races N, and for each of N steps the other word, and two commands that lead there\nexample: races 001\n")
+    ∷ entry (codes "save") (codes "save") (codes "                  the history as lines of debug\n") (codes "answers: step NNN for each event, the oldest first\nexample: save\n")
     ∷ entry (codes "help") (codes "help [COMMAND]") (codes "        these lines, or more of one command\n") (codes "answers: the command's form and what it does, what it answers, and an example\nexample: help why\n")
-    ∷ entry (codes "step") (codes "step NNN") (codes "              make the next event of NNN\n") (codes "answers: NNN K and what the step did, or pass WWW K RRR J W: the word W went from WWW to RRR\nexample: step 001\n")
-    ∷ entry (codes "back") (codes "back [[NNN] until COND]") (codes "\n                      take the newest event back; or that behind which COND held last,\n                      with all since; or such a step of NNN, with what depends on it\n") (codes "answers: removed X kept M: X events went, and M are left; or none, and nothing changes, where COND held behind no event\nexample: back until change 001 20\n")
-    ∷ entry (codes "rewind") (codes "rewind NNN K") (codes "          take step K of NNN back, with all that depends on it\n") (codes "answers: removed X kept M: X events went, and M are left\nexample: rewind 001 4\n")
-    ∷ entry (codes "node") (codes "node NNN") (codes "              what NNN holds\n") (codes "answers: the state, the registers and both stacks, the top first\nexample: node 001\n")
+    ∷ entry (codes "step") (codes "step NNN") (codes "              make the next event of NNN\n") (codes "answers: NNN K and what the step did, or pass WWW K RRR J W: it moved the word W from WWW to RRR\nexample: step 001\n")
+    ∷ entry (codes "back") (codes "back [[NNN] until COND]") (codes "\n                      undo the newest event; or the newest after which COND held, and all\n                      later ones; or such a step of NNN, with its dependents\n") (codes "answers: removed X kept M: X events were removed, and M are left; or none if there is no such event\nexample: back until change 001 20\n")
+    ∷ entry (codes "rewind") (codes "rewind NNN K") (codes "          remove step K of NNN, with its dependents\n") (codes "answers: removed X kept M: X events were removed, and M are left\nexample: rewind 001 4\n")
+    ∷ entry (codes "node") (codes "node NNN") (codes "              the state of NNN\n") (codes "answers: the state, the registers and both stacks, the top first\nexample: node 001\n")
     ∷ entry (codes "mem") (codes "mem NNN HH") (codes "            the word at HH of the memory of NNN\n") (codes "answers: mem NNN HH W: RAM below 80, ROM from there on\nexample: mem 001 20\n")
     ∷ entry (codes "trace") (codes "trace NNN") (codes "             the steps of NNN\n") (codes "answers: trace NNN C, and C events, the oldest first\nexample: trace 001\n")
-    ∷ entry (codes "why") (codes "why NNN K MMM J") (codes "       by which events step K of NNN led to step J of MMM\n") (codes "answers: chain C, and C events from the cause to what came of it; or independent\nexample: why 000 3 001 7, the cause first: did step 3 of 000 lead to step 7 of 001?\n")
-    ∷ entry (codes "count") (codes "count") (codes "                 how many events are kept and were made\n") (codes "answers: kept K made M limit L\nexample: count\n")
+    ∷ entry (codes "why") (codes "why NNN K MMM J") (codes "       by which events step K of NNN led to step J of MMM\n") (codes "answers: chain C, and C events from the cause to its effect; or independent\nexample: why 000 3 001 7, did step 3 of 000 lead to step 7 of 001?\n")
+    ∷ entry (codes "count") (codes "count") (codes "                 how many events the history has, and how many were made\n") (codes "answers: kept K made M limit L\nexample: count\n")
     ∷ entry (codes "dump") (codes "dump") (codes "                  the chip as an image\n") (codes "answers: an image of format 2, which every command reads\nexample: dump\n")
     ∷ entry (codes "quit") (codes "quit") (codes "                  end\n") (codes "answers: nothing\nexample: quit\n")
     ∷ []
@@ -95,8 +96,8 @@ query_with_arguments name text =
       it ← node_and_steps text
       Some (told.At it.0 it.1 it.2))
     else if pointwise nat_eq name (codes "whence") then (do
-      it ← node_and_step text
-      Some (told.Whence it.0 it.1))
+      it ← node_and_value text
+      Some (told.Whence it.0 it.1 it.2))
     else if pointwise nat_eq name (codes "because") then (do
       it ← node_and_steps text
       Some (told.Because it.0 it.1 it.2))
@@ -144,7 +145,7 @@ AnswersQuery e (told.Effects node which) answer = TellsEffects e.lab node (step_
 AnswersQuery e (told.Words from to) answer = answer ≡ link_words_text e.lab from to
 AnswersQuery e (told.Writes node address) answer = answer ≡ writes_text e.lab node address
 AnswersQuery e (told.At node which around) answer = answer ≡ around_text e.notes e.lab node (step_meant e.lab node which) around
-AnswersQuery e (told.Whence node which) answer = TellsWhence e.notes e.lab node (step_meant e.lab node which) answer
+AnswersQuery e (told.Whence node which value) answer = TellsWhence e.notes e.lab node (step_meant e.lab node which) (option_and_then part_named value) answer
 AnswersQuery e (told.Because node which most) answer = answer ≡ because_text e.notes e.lab node (step_meant e.lab node which) most
 AnswersQuery e (told.Races only) answer = TellsRaces e.lab only answer
 AnswersQuery e told.Who answer = TellsWho e.lab answer

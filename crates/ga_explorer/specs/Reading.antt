@@ -1,22 +1,25 @@
 -- The arguments of exploring commands, and how they are parsed: words with one space between two of them (docs/REFERENCE.md,
 -- "Exploring"; this project's own). Nodes and numbers have the form that they have in the debugger's commands.
-use Rattle.std.specs.Prelude.{ℕ, nat_eq, if◌then◌else◌, codes, Option, Some, option_map, zero, suc, ◌+◌, ◌*◌, ◌^◌, ◌==◌, nat_lt, nat_le, ◌&&◌, List, [], ◌∷◌, ◌++◌, replicate, None}
+use Rattle.std.specs.Prelude.{ℕ, nat_eq, if◌then◌else◌, codes, Option, Some, None, option_map, option_and_then, ◌%◌, nat_lt, nat_le}
 use Rattle.std.specs.Cmp.Lexicographic.{pointwise}
 use Rattle.ga_text.specs.Lines.{Line}
 use Rattle.ga_grid.specs.declared.node_id.NodeId.{NodeId}
 use Rattle.ga_event.specs.Told.{steps_of}
 use Rattle.ga_lab.specs.Machine.{State}
-use Rattle.ga_text.specs.Parsing.{parse_number, in_front, split_at_space, parse_node}
+use Rattle.ga_text.specs.Parsing.{parse_number, split_at_space, parse_node}
 use Rattle.ga_explorer.specs.declared.which.StepSelector.{StepSelector}
 use Rattle.ga_explorer.specs.declared.which.StepSelector.TheVariants.{Number, Last}
+use Rattle.ga_scheduler.specs.declared.value_test.NodeValue.{NodeValue}
+use Rattle.ga_scheduler.specs.declared.value_test.NodeValue.TheVariants as value
+use Rattle.ga_conditions.specs.Tests.{named_value_in}
+use Rattle.ga_event.specs.declared.flow.part.Part.{Part}
+use Rattle.ga_event.specs.declared.flow.part.Part.TheVariants as part
 use Rattle.ga_ports.specs.Steps.{◌>>=◌}
 use Rattle.ga_text.specs.Digits.{byte_in}
 use Rattle.ga_scheduler.specs.Schedules.{round_robin, greedy, random}
 use Rattle.ga_scheduler.specs.declared.schedule.Schedule.{Schedule}
-use Rattle.ga_scheduler.specs.declared.condition.Condition.{Condition}
-use Rattle.ga_scheduler.specs.declared.condition.Condition.TheVariants.{Never, Passes, PassesNumber, Steps, Stops, StopsAt, WaitsAt, Holds, ComesTo, Reaches, Writes as WritesTo}
 use Rattle.ga_debug_info.specs.declared.notes.DebugInfo.{DebugInfo}
-use Rattle.ga_debug_info.specs.Notes.{line_address, address_of}
+use Rattle.ga_conditions.specs.Conditions.{conditions_in, until_in, no_condition}
 use Rattle.ga_explorer.specs.declared.commands.ExplorerCommand.{ExplorerCommand}
 use Rattle.ga_explorer.specs.declared.commands.ExplorerCommand.TheVariants.{Run, BackUntil}
 
@@ -31,217 +34,32 @@ abbrev pub step_meant : State → NodeId → StepSelector → ℕ
 step_meant s node (Number step) = step
 step_meant s node Last = steps_of node.number s.kept
 
+-- ---- which part of a node a command means: RAM is below address 80 hexadecimal, ROM from there on
+
+abbrev pub part_named : NodeValue → Option Part
+part_named value.Step = None
+part_named value.P = Some part.P
+part_named value.A = Some part.A
+part_named value.B = Some part.B
+part_named value.I = Some part.I
+part_named value.Slot = Some part.Slot
+part_named value.Carry = Some part.Carry
+part_named value.Io = Some part.Io
+part_named (value.DataWord place) = Some (part.Data (place % 10))
+part_named (value.ReturnWord place) = Some (part.Return (place % 9))
+part_named (value.Cell address) = Some (if nat_lt address 128 then part.Ram (address % 64) else part.Rom (address % 64))
+
+-- a value that is a part of a node: all but the number of its steps are
+abbrev pub with_part : NodeValue → Option NodeValue
+with_part value.Step = None
+with_part other = Some other
+
+abbrev pub part_value_in : Line → Option NodeValue
+part_value_in word = option_and_then with_part (named_value_in word)
+
 -- how many events are made at most where no number is given
 abbrev pub most_events : ℕ
 most_events = 4294967295
-
--- ---- a condition: of the last two, each holds at an event alone that makes it so
-
--- a number that fits in a word
-abbrev pub in_word : ℕ → Option ℕ
-in_word n = if nat_lt n (2 ^ 18) then Some n else None
-
--- a word of six hexadecimal digits, in either case
-unfoldable pub hex_word_in : Line → Option ℕ
-hex_word_in (a ∷ b ∷ c ∷ d ∷ e ∷ f ∷ []) = do
-  high ← byte_in (a ∷ b ∷ [])
-  middle ← byte_in (c ∷ d ∷ [])
-  low ← byte_in (e ∷ f ∷ [])
-  in_word (65536 * high + 256 * middle + low)
-hex_word_in _ = None
-
--- `= W`
-unfoldable pub equal_in : Line → Option ℕ
-equal_in text = do
-  parts ← split_at_space text
-  if pointwise nat_eq parts.0 (codes "=") then hex_word_in parts.1 else None
-
--- `NNN K`
-unfoldable pub steps_condition : Line → Option Condition
-steps_condition text = do
-  parts ← split_at_space text
-  node ← parse_node parts.0
-  step ← parse_number parts.1
-  Some (Steps node step)
-
--- `= W` or `J` after `NNN MMM`
-abbrev pub passed_cut : NodeId → NodeId → Option (Line × Line) → Line → Option Condition
-passed_cut writer reader None text = option_map (PassesNumber writer reader) (parse_number text)
-passed_cut writer reader (Some parts) text = option_map (Passes writer reader) (equal_in text)
-
-abbrev pub passed_in : NodeId → NodeId → Line → Option Condition
-passed_in writer reader text = passed_cut writer reader (split_at_space text) text
-
--- `NNN MMM = W` or `NNN MMM J`
-unfoldable pub passes_in : Line → Option Condition
-passes_in text = do
-  first ← split_at_space text
-  second ← split_at_space first.1
-  writer ← parse_node first.0
-  reader ← parse_node second.0
-  passed_in writer reader second.1
-
--- `NNN HH = W`
-unfoldable pub holds_in : Line → Option Condition
-holds_in text = do
-  first ← split_at_space text
-  second ← split_at_space first.1
-  node ← parse_node first.0
-  address ← byte_in second.0
-  word ← equal_in second.1
-  Some (Holds node address word)
-
--- a label of a node, which only source gives
-abbrev pub label_in : Option DebugInfo → NodeId → Line → Option ℕ
-label_in None node text = None
-label_in (Some notes) node text = address_of notes.names.items node text
-
-abbrev pub word_or : Option ℕ → Option ℕ → Option ℕ
-word_or None other = other
-word_or (Some word) other = Some word
-
--- the address of the first instruction word of a node that a line begins, which only source gives
-abbrev pub begun_in : Option DebugInfo → NodeId → ℕ → Option ℕ
-begun_in None node line = None
-begun_in (Some notes) node line = line_address notes.notes.items node line
-
--- `line N`
-unfoldable pub cell_of_line : Option DebugInfo → NodeId → Line → Line → Option ℕ
-cell_of_line notes node name text =
-    if pointwise nat_eq name (codes "line") then (do
-      line ← parse_number text
-      begun_in notes node line)
-    else None
-
-abbrev pub noted_cut : Option DebugInfo → NodeId → Option (Line × Line) → Line → Option ℕ
-noted_cut notes node None text = label_in notes node text
-noted_cut notes node (Some parts) text = cell_of_line notes node parts.0 parts.1
-
--- a label, or `line N`
-abbrev pub noted_in : Option DebugInfo → NodeId → Line → Option ℕ
-noted_in notes node text = noted_cut notes node (split_at_space text) text
-
--- an address, or else a label or a line
-abbrev pub address_or_label : Option DebugInfo → NodeId → Line → Option ℕ
-address_or_label notes node text = word_or (hex_word_in text) (noted_in notes node text)
-
--- `NNN X`
-unfoldable pub node_and_place : Option DebugInfo → Line → Option (NodeId × ℕ)
-node_and_place notes text = do
-  parts ← split_at_space text
-  node ← parse_node parts.0
-  address ← address_or_label notes node parts.1
-  Some (node, address)
-
--- `HH` or `HH = W` after `NNN`
-abbrev pub written_cut : NodeId → Option (Line × Line) → Line → Option Condition
-written_cut node None text = do
-  address ← byte_in text
-  Some (WritesTo node address None)
-written_cut node (Some parts) text = do
-  address ← byte_in parts.0
-  word ← equal_in parts.1
-  Some (WritesTo node address (Some word))
-
-abbrev pub written_in : NodeId → Line → Option Condition
-written_in node text = written_cut node (split_at_space text) text
-
--- `NNN HH` or `NNN HH = W`
-unfoldable pub writes_to_in : Line → Option Condition
-writes_to_in text = do
-  parts ← split_at_space text
-  node ← parse_node parts.0
-  written_in node parts.1
-
--- a condition of one word
-unfoldable pub lone_condition : Line → Option Condition
-lone_condition name = if pointwise nat_eq name (codes "stop") then Some Stops else None
-
--- a condition of a word and what follows it
-unfoldable pub named_condition : Option DebugInfo → Line → Line → Option Condition
-named_condition notes name text =
-    if pointwise nat_eq name (codes "stop") then option_map StopsAt (parse_node text)
-    else if pointwise nat_eq name (codes "wait") then option_map WaitsAt (parse_node text)
-    else if pointwise nat_eq name (codes "step") then steps_condition text
-    else if pointwise nat_eq name (codes "pass") then passes_in text
-    else if pointwise nat_eq name (codes "mem") then holds_in text
-    else if pointwise nat_eq name (codes "p") then (do
-      it ← node_and_place notes text
-      Some (ComesTo it.0 it.1))
-    else if pointwise nat_eq name (codes "reach") then (do
-      it ← node_and_place notes text
-      Some (Reaches it.0 it.1))
-    else if pointwise nat_eq name (codes "change") then writes_to_in text
-    else None
-
-abbrev pub condition_by : Option DebugInfo → Option (Line × Line) → Line → Option Condition
-condition_by notes None text = lone_condition text
-condition_by notes (Some parts) text = named_condition notes parts.0 parts.1
-
-abbrev pub condition_in : Option DebugInfo → Line → Option Condition
-condition_in notes text = condition_by notes (split_at_space text) text
-
--- ---- conditions with ` or ` between them
-
--- what follows ` or ` if a text begins with that
-unfoldable pub behind_or : Line → Option Line
-behind_or (a ∷ b ∷ c ∷ d ∷ rest) = if (a == 32) && ((b == 111) && ((c == 114) && (d == 32))) then Some rest else None
-behind_or _ = None
-
-abbrev pub cut_here : Option Line → Option (Line × Line) → Option (Line × Line)
-cut_here None later = later
-cut_here (Some rest) later = Some ([], rest)
-
--- what comes before the first ` or ` of a text, and what follows it
-abbrev pub or_cut : Line → Option (Line × Line)
-or_cut [] = None
-or_cut (b ∷ text) = cut_here (behind_or (b ∷ text)) (in_front b (or_cut text))
-
--- the first condition, and those after it if there are some
-abbrev pub split_by : Option (Line × Line) → Line → Line × Option Line
-split_by None text = (text, None)
-split_by (Some parts) text = (parts.0, Some parts.1)
-
-abbrev pub or_split : Line → Line × Option Line
-or_split text = split_by (or_cut text) text
-
--- how many are watched at most
-abbrev pub most_conditions : ℕ
-most_conditions = 8
-
--- some conditions in front of others
-abbrev pub with_front : List Condition → Option (List Condition) → Option (List Condition)
-with_front front others = option_map (λ more. front ++ more) others
-
-abbrev pub with_first : Option Condition → Option (List Condition) → Option (List Condition)
-with_first None others = None
-with_first (Some one) others = with_front (one ∷ []) others
-
--- the conditions after the first, or otherwise as many that never hold as there are places left
-abbrev pub others_by : ℕ → (Line → Option (List Condition)) → Option Line → Option (List Condition)
-others_by more others None = Some (replicate more Never)
-others_by more others (Some text) = others text
-
-abbrev pub conditions_by : Option DebugInfo → ℕ → (Line → Option (List Condition)) → Line × Option Line → Option (List Condition)
-conditions_by notes more others parts = with_first (condition_in notes parts.0) (others_by more others parts.1)
-
--- conditions with ` or ` between them, for a number of places
-unfoldable pub conditions_within : Option DebugInfo → ℕ → Line → Option (List Condition)
-conditions_within notes zero text = None
-conditions_within notes (suc more) text = conditions_by notes more (conditions_within notes more) (or_split text)
-
-abbrev pub conditions_in : Option DebugInfo → Line → Option (List Condition)
-conditions_in notes text = conditions_within notes most_conditions text
-
--- the conditions where none is given: each holds never
-abbrev pub no_condition : List Condition
-no_condition = replicate most_conditions Never
-
--- `until COND or COND ..`
-unfoldable pub until_in : Option DebugInfo → Line → Option (List Condition)
-until_in notes text = do
-  parts ← split_at_space text
-  if pointwise nat_eq parts.0 (codes "until") then conditions_in notes parts.1 else None
 
 -- ---- `run`
 
@@ -323,6 +141,25 @@ node_and_step text = do
   node ← parse_node parts.0
   which ← which_in parts.1
   Some (node, which)
+
+-- `K` or `K VALUE`: a step, and a value after it
+abbrev pub value_cut : Option (Line × Line) → Line → Option (StepSelector × Option NodeValue)
+value_cut None text = option_map (λ which. (which, None)) (which_in text)
+value_cut (Some parts) text = do
+  which ← which_in parts.0
+  named ← part_value_in parts.1
+  Some (which, Some named)
+
+abbrev pub step_and_value : Line → Option (StepSelector × Option NodeValue)
+step_and_value text = value_cut (split_at_space text) text
+
+-- `NNN K` or `NNN K VALUE`
+unfoldable pub node_and_value : Line → Option (NodeId × StepSelector × Option NodeValue)
+node_and_value text = do
+  parts ← split_at_space text
+  node ← parse_node parts.0
+  asked ← step_and_value parts.1
+  Some (node, asked.0, asked.1)
 
 -- `NNN MMM`
 unfoldable pub two_nodes : Line → Option (NodeId × NodeId)

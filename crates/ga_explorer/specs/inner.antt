@@ -1,11 +1,11 @@
 -- What only private contracts and proofs name.
-use Rattle.std.specs.Prelude.{Option, Some, None, ◌≡◌, ℕ, true, false, [], Result, Ok, Err}
+use Rattle.std.specs.Prelude.{Bool, Option, Some, None, ◌≡◌, ℕ, true, false, [], Result, Ok, Err}
 use Rattle.ga_lab.specs.Machine.{State}
 use Rattle.ga_debug_info.specs.declared.notes.DebugInfo.{DebugInfo}
 use Rattle.ga_explorer.specs.Opening.{ExplorerState, begins_as_image, is_read_as_image, OpensFront}
 use Rattle.ga_explorer.specs.Forms.{CommandForm}
 use Rattle.ga_explorer.specs.declared.forms.Row.{Row}
-use Rattle.ga_text.specs.Lines.{Text, Bytes}
+use Rattle.ga_text.specs.Lines.{Text, Line, Bytes}
 use Rattle.ga_image.specs.declared.fault.ImageFault.{ImageFault}
 use Rattle.ga_console.specs.Run.{IsFault, Refuses}
 use Rattle.ga_console.specs.declared.run.Status.{Status}
@@ -16,6 +16,7 @@ use Rattle.ga_text.specs.Output.{WritesSome}
 use Rattle.ga_text.specs.declared.output.Writer.{Writer}
 use Rattle.ga_text.specs.declared.output.WriteError.{WriteError}
 use Rattle.ga_explorer.specs.Commands.{AnswersQuery}
+use Rattle.ga_explorer.specs.Session.{Prompts}
 use Rattle.ga_explorer.specs.declared.commands.Query.{Query}
 
 -- ---- what is explored, of its two parts
@@ -57,3 +58,8 @@ pub record IsTold {W : Type 0} (result : Result (Unit {0}) WriteError) (e : Expl
   pub meant : Query
   pub is : asked ≡ meant
   pub said : WritesSome result (AnswersQuery e meant) contents old new
+
+-- ---- A session that may prompt for commands, by what its machine has
+
+abbrev pub PromptsFor : Bool → ExplorerState → Line → Text → Bool → ExplorerState → Type 0
+PromptsFor prompts e line written prompts_on new = Prompts prompts e line written new × (prompts_on ≡ prompts)

@@ -1,10 +1,12 @@
 //! The arguments of commands, as lines have them.
 
 ghost use Rattle.std.specs.Prelude.{◌≡◌};
-ghost use Rattle.ga_explorer.specs.Reading.{node_and_step, two_nodes, node_and_cell, node_and_steps, step_and_more};
+ghost use Rattle.ga_explorer.specs.Reading.{node_and_step, two_nodes, node_and_cell, node_and_steps, node_and_value, step_and_value, step_and_more};
 
+use crate::named_value::parse_part_value;
 use crate::which::StepSelector;
 use ga_grid::NodeId;
+use ga_scheduler::NodeValue;
 use ga_text::{parse_hex_byte, parse_node, parse_number, split_at_space};
 
 /// How many further steps are written if no number is given, and how many at most.
@@ -48,6 +50,31 @@ pub(crate) fn node_and_steps(text: &[u8]) -> Option<(NodeId, StepSelector, u32)>
     let node = parse_node(node)?;
     let (which, many) = step_and_more(rest)?;
     Some((node, which, many))
+}
+
+/// `NNN K` or `NNN K VALUE`
+#[tactic(auto, unfolding(crate::specs::Reading::node_and_value))]
+pub(crate) fn node_and_value(text: &[u8]) -> Option<(NodeId, StepSelector, Option<NodeValue>)>
+    ensures { result ≡ node_and_value text.now }
+{
+    let (node, rest) = split_at_space(text)?;
+    let node = parse_node(node)?;
+    let (which, value) = step_and_value(rest)?;
+    Some((node, which, value))
+}
+
+/// `K` or `K VALUE`: a step, and a value after it.
+fn step_and_value(text: &[u8]) -> Option<(StepSelector, Option<NodeValue>)>
+    ensures { result ≡ step_and_value text.now }
+{
+    match split_at_space(text) {
+        Some((step, value)) => {
+            let which = StepSelector::parse(step)?;
+            let value = parse_part_value(value)?;
+            Some((which, Some(value)))
+        }
+        None => Some((StepSelector::parse(text)?, None)),
+    }
 }
 
 /// `K` or `K N`: a step, and how many further steps are written.

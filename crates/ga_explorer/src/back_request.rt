@@ -4,7 +4,7 @@ ghost use Rattle.std.specs.Prelude.{◌≡◌};
 ghost use Rattle.ga_explorer.specs.Reading.{back_in, back_by, until_back};
 
 use crate::commands::ExplorerCommand;
-use crate::conditions_request::{parse_conditions, parse_until};
+use ga_conditions::{parse_conditions, parse_until};
 use ga_debug_info::DebugInfo;
 use ga_text::{parse_node, split_at_space};
 

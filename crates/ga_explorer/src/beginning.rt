@@ -51,7 +51,7 @@ pub fn open_lab<R: Read, W: Write, E: Write>(
             if is_read_as_image(&chip, text.as_slice()) {
                 return open_or_refuse(alloc, writer, errors, text, chip, limit);
             }
-            report_input_too_long(errors);
+            let _written = report_input_too_long(errors);
             Err(Status::ImageRefused)
         }
         Ok(ImageEnd::Ended) => open_or_refuse(alloc, writer, errors, text, chip, limit),

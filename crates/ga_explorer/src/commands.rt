@@ -1,23 +1,27 @@
 //! The commands of exploring: of each how a line spells it, what `help` says of it, and what answers it.
 
-ghost use Rattle.std.specs.Prelude.{◌≡◌, map};
+ghost use Rattle.std.specs.Prelude.{◌≡◌, map, option_and_then, IfSome};
+ghost use Rattle.ga_event.specs.Flow.{IsPart};
+ghost use Rattle.ga_explorer.specs.Reading.{part_named};
 ghost use Rattle.ga_explorer.specs.Commands.{command_table, request_in, lone_request, bare_query, named_request, query_with_arguments};
 ghost use Rattle.ga_explorer.specs.inner.{explorer_state, IsTold, entry_of};
 
-use crate::arguments::{node_and_cell, node_and_step, node_and_steps, two_nodes};
+use crate::arguments::{node_and_cell, node_and_step, node_and_steps, node_and_value, two_nodes};
 use crate::back_request::parse_back;
-use crate::conditions_request::{Conditions, no_condition};
 use crate::forms::{Row, place_of, say_command, say_help};
+use crate::named_value::part_named;
 use crate::run_request::{MOST_EVENTS, parse_run};
 use crate::which::StepSelector;
+use ga_conditions::{Conditions, no_condition};
 use ga_debug_info::DebugInfo;
+use ga_event::Part;
 use ga_explorer_text::{
     chip_overview, write_at, write_because, write_effects, write_races, write_save, write_whence,
     write_who, write_words, write_writes,
 };
 use ga_grid::NodeId;
 use ga_lab::Lab;
-use ga_scheduler::Schedule;
+use ga_scheduler::{NodeValue, Schedule};
 use ga_text::{WriteResult, Writer, parse_node, split_at_space};
 use std::alloc::Global;
 use std::io::Write;
@@ -65,10 +69,11 @@ pub enum Query {
         which: StepSelector,
         most: u32,
     },
-    /// `whence`: writes the steps whose values went into what a step of a node made.
+    /// `whence`: writes the steps whose values went into what a step of a node made, or into a value after it.
     Whence {
         node: NodeId,
         which: StepSelector,
+        value: Option<NodeValue>,
     },
     /// `because`: writes the last steps of a node before one, at most a given number, at which a value decided where it
     /// continued.
@@ -169,8 +174,8 @@ fn query_with_arguments(name: &[u8], arguments: &[u8]) -> Option<Query>
         let (node, which, most) = node_and_steps(arguments)?;
         Some(Query::At { node, which, most })
     } else if name == b"whence".as_slice() {
-        let (node, which) = node_and_step(arguments)?;
-        Some(Query::Whence { node, which })
+        let (node, which, value) = node_and_value(arguments)?;
+        Some(Query::Whence { node, which, value })
     } else if name == b"because".as_slice() {
         let (node, which, most) = node_and_steps(arguments)?;
         Some(Query::Because { node, which, most })
@@ -209,9 +214,9 @@ pub(crate) fn answer_query<W: Write>(
             let step = which.resolve(lab, node);
             write_at(lab, notes, node, step, most, writer)
         }
-        Query::Whence { node, which } => {
+        Query::Whence { node, which, value } => {
             let step = which.resolve(lab, node);
-            write_whence(alloc, lab, notes, node, step, writer)
+            write_whence(alloc, lab, notes, node, step, part_of(value), writer)
         }
         Query::Because { node, which, most } => {
             let step = which.resolve(lab, node);
@@ -226,13 +231,24 @@ pub(crate) fn answer_query<W: Write>(
     }
 }
 
+/// The part of a node that is named, if one is.
+fn part_of(value: Option<NodeValue>) -> Option<Part>
+    ensures value { result ≡ option_and_then part_named value }
+    ensures part { IfSome result IsPart }
+{
+    match value {
+        Some(value) => part_named(value),
+        None => None,
+    }
+}
+
 /// The commands, in the order of `help`.
 static ROWS: &[Row] = &[
     Row {
         name: b"run",
         form: b"run [greedy|random SEED] [N] [until COND]",
-        does: b"\n                      make up to N events, in rounds or in this order\nCOND: pass NNN MMM = W, pass NNN MMM J, step NNN K, stop, stop NNN, wait NNN,\n      mem NNN HH = W, p NNN X, reach NNN X, change NNN HH [= W], COND or COND\nX: an address, a label, line N\n",
-        more: b"answers: reached M EVENT, made M, quiet M or full M: how many events, and why no more\nexample: run 1000 until stop or reach 001 000012\n",
+        does: b"\n                      make up to N events, in rounds or in this order\nCOND: NNN VALUE OP N, pass NNN MMM OP N, pass NNN MMM J, step NNN K, stop, stop NNN,\n      wait NNN, mem NNN HH = N, p NNN X, reach NNN X, change NNN HH [= N], COND or COND\nVALUE: t s r p a b i, d2 to d9, r1 to r8, io, slot, carry, step, [HH]\nOP: = != < <= > >=   N: a number, a port, a label   X: an address, a label, line N\n",
+        more: b"answers: reached M EVENT, made M, quiet M or full M: how many events, and why no more\nexample: run 1000 until stop or 001 t = 0x150\n",
         usage: "",
     },
     Row {
@@ -246,64 +262,64 @@ static ROWS: &[Row] = &[
         name: b"who",
         form: b"who",
         does: b"                   who waits for whom, and which nodes can never go on\n",
-        more: b"answers: for each that waits what it does, and the nodes that it awaits; then stuck, ring and idle\nexample: who\n",
+        more: b"answers: for each that waits what it does, and the nodes that it awaits; then stuck, ring, ended and idle\nexample: who\n",
         usage: "  who                    show who waits for whom, and which nodes can never go on\n",
     },
     Row {
         name: b"effects",
         form: b"effects NNN K",
-        does: b"         what rewind NNN K would take\n",
-        more: b"answers: effects X N, and for each of N nodes its first step that would go, and how many would\nexample: effects 001 last\n",
-        usage: "  effects NNN K          show what rewind NNN K would take, and take nothing\n",
+        does: b"         what rewind NNN K would remove\n",
+        more: b"answers: effects X N, and for each of N nodes its first step that it would remove, and their number\nexample: effects 001 last\n",
+        usage: "  effects NNN K          show what rewind NNN K would remove, and remove nothing\n",
     },
     Row {
         name: b"words",
         form: b"words NNN MMM",
-        does: b"         the words that went from NNN to MMM\n",
+        does: b"         the words transferred from NNN to MMM\n",
         more: b"answers: words NNN MMM C, and for each of C words its number, the steps of both nodes and the word\nexample: words 000 001\n",
-        usage: "  words NNN MMM          show the words that went from NNN to MMM\n",
+        usage: "  words NNN MMM          show the words transferred from NNN to MMM\n",
     },
     Row {
         name: b"writes",
         form: b"writes NNN HH",
         does: b"         the steps that wrote the cell HH of NNN, the newest first\n",
-        more: b"answers: for each the step, the opcode and the word that stood there then\nexample: writes 001 20\n",
+        more: b"answers: for each the step, the opcode and the word\nexample: writes 001 20\n",
         usage: "  writes NNN HH          show the steps that wrote the cell HH of NNN, the newest first\n",
     },
     Row {
         name: b"at",
         form: b"at NNN K [N]",
-        does: b"          N steps before and behind step K of NNN, with registers\n",
-        more: b"answers: for each the step, what it did, and the registers t, s, r, a, b and p behind it\nexample: at 001 last 5\n",
-        usage: "  at NNN K [N]           show the steps from K - N to K + N of NNN, each with registers behind it [N: 3]\n",
+        does: b"          N steps before and after step K of NNN, with registers\n",
+        more: b"answers: for each the step, what it did, and the registers t, s, r, a, b and p after it\nexample: at 001 last 5\n",
+        usage: "  at NNN K [N]           show the steps from K - N to K + N of NNN, each with the registers after it [N: 3]\n",
     },
     Row {
         name: b"whence",
-        form: b"whence NNN K",
-        does: b"          the steps whose values went into what step K of NNN made\n",
-        more: b"answers: a tree: below each step, two blanks deeper, the steps that made the values it used\nexample: whence 001 last\n",
-        usage: "  whence NNN K           show the steps whose values went into what step K of NNN made, down to literals and loaded cells\n",
+        form: b"whence NNN K [VALUE]",
+        does: b"  the steps whose values went into what step K of NNN made, or\n                      into a register, a word of a stack or a cell as it is after step K\n",
+        more: b"answers: a tree: below each step, two blanks deeper, the steps that made the values it used\nexample: whence 001 last, or whence 001 last r\n",
+        usage: "  whence NNN K [VALUE]   show the steps whose values went into what step K of NNN made, or into a register or cell after it\n",
     },
     Row {
         name: b"because",
         form: b"because NNN K [N]",
-        does: b"     N steps before step K at which a value decided where NNN went on\nK of effects, at, whence, because: a step's number, or last\n",
+        does: b"     N steps before step K at which a value decided where NNN continued\nK of effects, at, whence, because: a step's number, or last\n",
         more: b"answers: for each the step and the word that it tested, and below it the step that made that word\nexample: because 001 last\n",
-        usage: "  because NNN K [N]      show the last N steps of NNN before its step K at which a value decided where it went on [N: 3]\n",
+        usage: "  because NNN K [N]      show the last N steps of NNN before its step K at which a value decided where it continued [N: 3]\n",
     },
     Row {
         name: b"races",
         form: b"races [NNN]",
-        does: b"           steps that could have come out otherwise, and how\n",
-        more: b"answers: races N, and for each of N steps what else it could have got, and two commands that lead there\nexample: races 001\n",
-        usage: "  races [NNN]            show the steps that could have come out otherwise in another order, and by which commands\n",
+        does: b"           steps that yield another word in another order, and how\n",
+        more: b"answers: races N, and for each of N steps the other word, and two commands that lead there\nexample: races 001\n",
+        usage: "  races [NNN]            show the steps that yield another word in another order, and the commands that lead there\n",
     },
     Row {
         name: b"save",
         form: b"save",
-        does: b"                  the kept events as lines of debug\n",
-        more: b"answers: step NNN for each kept event, the oldest first\nexample: save\n",
-        usage: "  save                   show the kept events as lines step NNN\n",
+        does: b"                  the history as lines of debug\n",
+        more: b"answers: step NNN for each event, the oldest first\nexample: save\n",
+        usage: "  save                   show the history as lines step NNN\n",
     },
     Row {
         name: b"help",
@@ -316,27 +332,27 @@ static ROWS: &[Row] = &[
         name: b"step",
         form: b"step NNN",
         does: b"              make the next event of NNN\n",
-        more: b"answers: NNN K and what the step did, or pass WWW K RRR J W: the word W went from WWW to RRR\nexample: step 001\n",
+        more: b"answers: NNN K and what the step did, or pass WWW K RRR J W: it moved the word W from WWW to RRR\nexample: step 001\n",
         usage: "",
     },
     Row {
         name: b"back",
         form: b"back [[NNN] until COND]",
-        does: b"\n                      take the newest event back; or that behind which COND held last,\n                      with all since; or such a step of NNN, with what depends on it\n",
-        more: b"answers: removed X kept M: X events went, and M are left; or none, and nothing changes, where COND held behind no event\nexample: back until change 001 20\n",
+        does: b"\n                      undo the newest event; or the newest after which COND held, and all\n                      later ones; or such a step of NNN, with its dependents\n",
+        more: b"answers: removed X kept M: X events were removed, and M are left; or none if there is no such event\nexample: back until change 001 20\n",
         usage: "",
     },
     Row {
         name: b"rewind",
         form: b"rewind NNN K",
-        does: b"          take step K of NNN back, with all that depends on it\n",
-        more: b"answers: removed X kept M: X events went, and M are left\nexample: rewind 001 4\n",
+        does: b"          remove step K of NNN, with its dependents\n",
+        more: b"answers: removed X kept M: X events were removed, and M are left\nexample: rewind 001 4\n",
         usage: "",
     },
     Row {
         name: b"node",
         form: b"node NNN",
-        does: b"              what NNN holds\n",
+        does: b"              the state of NNN\n",
         more: b"answers: the state, the registers and both stacks, the top first\nexample: node 001\n",
         usage: "",
     },
@@ -358,13 +374,13 @@ static ROWS: &[Row] = &[
         name: b"why",
         form: b"why NNN K MMM J",
         does: b"       by which events step K of NNN led to step J of MMM\n",
-        more: b"answers: chain C, and C events from the cause to what came of it; or independent\nexample: why 000 3 001 7, the cause first: did step 3 of 000 lead to step 7 of 001?\n",
+        more: b"answers: chain C, and C events from the cause to its effect; or independent\nexample: why 000 3 001 7, did step 3 of 000 lead to step 7 of 001?\n",
         usage: "",
     },
     Row {
         name: b"count",
         form: b"count",
-        does: b"                 how many events are kept and were made\n",
+        does: b"                 how many events the history has, and how many were made\n",
         more: b"answers: kept K made M limit L\nexample: count\n",
         usage: "",
     },

@@ -7,7 +7,7 @@ use crate::explorer::Explorer;
 use ga_console::open_image;
 use ga_debug_info::{
     DebugInfo, debug_info_of, edited_image, edited_source, report_code_stores,
-    report_editor_artifact, report_fault, report_out_of_memory,
+    report_editor_artifact, report_faults, report_out_of_memory,
 };
 use ga_image::ImageFault;
 use ga_lab::Lab;
@@ -78,7 +78,7 @@ fn open_on_image<E: Write>(
     ensures err { IfErr result (λ why. IsUnopened (Some image.items) source.now why) }
 {
     let notes = note_source(alloc, errors, source);
-    report_editor_artifact(errors, edited_source(source));
+    let _written = report_editor_artifact(errors, edited_source(source));
     let Some(notes) = notes else {
         return Err(OpenError::Source);
     };
@@ -86,7 +86,7 @@ fn open_on_image<E: Write>(
     match open_image(alloc, image, limit) {
         Ok(lab) => Ok(Explorer::of(lab, Some(notes))),
         Err(fault) => {
-            report_editor_artifact(errors, edited);
+            let _written = report_editor_artifact(errors, edited);
             tell_chip(errors);
             Err(OpenError::Image(fault))
         }
@@ -106,19 +106,16 @@ fn note_source<E: Write>(alloc: Global, errors: &mut E, source: &[u8]) -> Option
 {
     match assemble(alloc, source) {
         Ok(assembled) => {
-            if !report_code_stores(alloc, errors, &assembled) {
-                return None;
-            }
-            match debug_info_of(alloc, source, assembled.programs.as_slice()) {
-                Ok(notes) => Some(notes),
-                Err(_) => {
-                    report_out_of_memory(errors);
-                    None
+            if report_code_stores(alloc, errors, &assembled).is_ok() {
+                if let Ok(notes) = debug_info_of(alloc, source, assembled.programs.as_slice()) {
+                    return Some(notes);
                 }
             }
+            let _written = report_out_of_memory(errors);
+            None
         }
         Err(fault) => {
-            report_fault(errors, fault);
+            let _written = report_faults(alloc, errors, source, fault);
             None
         }
     }
@@ -142,13 +139,13 @@ fn open_alone<E: Write>(
         return match open_image(alloc, text, limit) {
             Ok(lab) => Ok(Explorer::of(lab, None)),
             Err(fault) => {
-                report_editor_artifact(errors, edited);
+                let _written = report_editor_artifact(errors, edited);
                 Err(OpenError::Image(fault))
             }
         };
     }
     let opened = open_source(alloc, errors, text.as_slice(), limit);
-    report_editor_artifact(errors, edited_source(text.as_slice()));
+    let _written = report_editor_artifact(errors, edited_source(text.as_slice()));
     match opened {
         Some(begun) => Ok(begun),
         None => Err(OpenError::Source),
@@ -166,19 +163,18 @@ fn open_source<E: Write>(
 {
     match assemble(alloc, source) {
         Ok(assembled) => {
-            if !report_code_stores(alloc, errors, &assembled) {
-                return None;
-            }
-            if let Ok(notes) = debug_info_of(alloc, source, assembled.programs.as_slice()) {
-                if let Ok(lab) = Lab::new(alloc, assembled.chip, limit) {
-                    return Some(Explorer::of(lab, Some(notes)));
+            if report_code_stores(alloc, errors, &assembled).is_ok() {
+                if let Ok(notes) = debug_info_of(alloc, source, assembled.programs.as_slice()) {
+                    if let Ok(lab) = Lab::new(alloc, assembled.chip, limit) {
+                        return Some(Explorer::of(lab, Some(notes)));
+                    }
                 }
             }
-            report_out_of_memory(errors);
+            let _written = report_out_of_memory(errors);
             None
         }
         Err(fault) => {
-            report_fault(errors, fault);
+            let _written = report_faults(alloc, errors, source, fault);
             None
         }
     }

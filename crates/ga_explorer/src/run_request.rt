@@ -4,7 +4,7 @@ ghost use Rattle.std.specs.Prelude.{◌≡◌};
 ghost use Rattle.ga_explorer.specs.Reading.{run_in, lone_order, named_order, seeded_in, bounded_in, bounded_by, run_until};
 
 use crate::commands::ExplorerCommand;
-use crate::conditions_request::{no_condition, parse_conditions, parse_until};
+use ga_conditions::{no_condition, parse_conditions, parse_until};
 use ga_debug_info::DebugInfo;
 use ga_scheduler::Schedule;
 use ga_text::{parse_number, split_at_space};

@@ -4,14 +4,16 @@ ghost use Rattle.ga_explorer.specs.Opening.{image_of};
 ghost use Rattle.ga_explorer.specs.Session.{RunsExplorer};
 
 use crate::beginning::open_lab;
-use ga_console::{Status, serve, status_of};
+use crate::prompting::serve_explorer;
+use ga_console::{Status, status_of};
 use ga_text::{Input, Writer};
 use std::alloc::Global;
 use std::io::{Read, Write};
 
 /// Reads an image or source and then commands, and answers them as `ga_console::session` does. It has the debugger's commands
 /// and those of exploring. The history has at most `limit` events. Source with a fault ends the session: `errors` gets the
-/// fault, as from `ga144 asm`, and there is no answer. If an image is given for the `chip`, what is read first is its source.
+/// fault, as from `ga144 asm`, and there is no answer. If an image is given for the `chip`, what is read first is its source. If
+/// `is_prompted`, as at a terminal, a prompt is written before each command is read.
 pub fn explore<R: Read, W: Write, E: Write>(
     alloc: Global,
     reader: &mut R,
@@ -19,17 +21,18 @@ pub fn explore<R: Read, W: Write, E: Write>(
     errors: &mut E,
     chip: Option<Vec<u8>>,
     limit: u32,
+    is_prompted: bool,
 ) -> Status
     // Where the streams tell their bytes: what was read, and what was written for it by the status.
-    ensures { ReadsAndWrites (λ read rest text. RunsExplorer (image_of chip) limit read rest text result)
+    ensures { ReadsAndWrites (λ read rest text. RunsExplorer is_prompted (image_of chip) limit read rest text result)
         (R.remaining reader.old) (R.remaining reader.new) (W.contents writer.old) (W.contents writer.new) }
 {
     let mut input = Input::new();
     match open_lab(alloc, &mut input, reader, writer, errors, chip, limit) {
         Ok(begun) => {
-            let mut session = begun;
             let mut said = Writer::ready(writer);
-            status_of(serve(alloc, &mut input, reader, &mut said, &mut session))
+            let ending = serve_explorer(alloc, &mut input, reader, &mut said, begun, is_prompted);
+            status_of(ending)
         }
         Err(status) => status,
     }

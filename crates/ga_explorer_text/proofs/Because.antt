@@ -8,7 +8,7 @@ use Rattle.ga_provenance.specs.declared.deciding.Decision.{Decision}
 use Rattle.ga_provenance.specs.Deciding.{newest_decided}
 use Rattle.ga_display.specs.Texts.{refusal_text}
 use Rattle.ga_debug_info.specs.declared.notes.DebugInfo.{DebugInfo}
-use Rattle.ga_explorer_text.specs.Because.{decision_text, from_newest, decisions_text, because_text}
+use Rattle.ga_explorer_text.specs.Because.{decision_text, from_newest, decisions_text, newest_decision_text, because_text}
 
 one_more : (notes : Option DebugInfo) (s : State) (node : NodeId) (more k : ℕ)
     → decisions_text notes s node (suc more) k ≡ from_newest notes s node (decisions_text notes s node more) (newest_decided s node k)
@@ -39,11 +39,11 @@ next_decision notes s node left less k now decision some e is step =
 
 -- if the step exists, and if it doesn't
 pub because_here : (notes : Option DebugInfo) (s : State) (node : NodeId) (step most : ℕ) → has_step s node.number step ≡ true
-    → decisions_text notes s node most (step - 1) ≡ because_text notes s node step most
+    → newest_decision_text notes s node most (step - 1) (newest_decided s node (step - 1)) ≡ because_text notes s node step most
 because_here notes s node step most is =
-    sym (ap (λ (b : Bool). if b then decisions_text notes s node most (step - 1) else refusal_text NoStep) is)
+    sym (ap (λ (b : Bool). if b then newest_decision_text notes s node most (step - 1) (newest_decided s node (step - 1)) else refusal_text NoStep) is)
 
 pub because_nowhere : (notes : Option DebugInfo) (s : State) (node : NodeId) (step most : ℕ) → has_step s node.number step ≡ false
     → refusal_text NoStep ≡ because_text notes s node step most
 because_nowhere notes s node step most is =
-    sym (ap (λ (b : Bool). if b then decisions_text notes s node most (step - 1) else refusal_text NoStep) is)
+    sym (ap (λ (b : Bool). if b then newest_decision_text notes s node most (step - 1) (newest_decided s node (step - 1)) else refusal_text NoStep) is)

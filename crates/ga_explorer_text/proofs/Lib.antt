@@ -3,3 +3,4 @@ pub mod Saying
 pub mod Saving
 pub mod Because
 pub mod Rings
+pub mod Ending

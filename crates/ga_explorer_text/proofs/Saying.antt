@@ -2,7 +2,7 @@
 use Rattle.std.proofs.Common.{◌≡◌, ℕ, List, ◌++◌, Option, Result, subst, ◌+◌, ◌<◌, ◌≤◌, [], ◌∷◌, Ok, Err, length, get_or, drop, refl, sym, ap, ◌∙◌, append_assoc, arith, zero, suc, ◌-◌, Some, None, ◌==◌, Bool, false, codes, add-one, true, cond, nat_le, min, ◌⊎◌, inl, inr}
 use Rattle.ga_text.specs.Output.{IsWrittenOrTruncated, IsWritten, IsTruncated}
 use Rattle.ga_text.specs.declared.output.WriteError.{WriteError}
-use Rattle.std.specs.Prelude.{flat_map, if◌then◌else◌, IsOk, is_none}
+use Rattle.std.specs.Prelude.{flat_map, if◌then◌else◌, IsOk, is_none, ◌&&◌}
 use Rattle.std.proofs.lemmas.List.{append-nil, drop_more, drop_all}
 use Rattle.ga_text.proofs.WriteLemmas.{written_as, said_assoc, cut_assoc, truncated_within}
 use Rattle.ga_grid.specs.declared.node_id.NodeId.{NodeId}
@@ -20,7 +20,8 @@ use Rattle.ga_provenance.specs.Origins.{node_after, origin_of}
 use Rattle.ga_provenance.specs.Rows.{row_at, made_row, AreRows}
 use Rattle.ga_explorer_text.specs.inner.{is_first}
 use Rattle.ga_explorer_text.specs.Trees.{blanks, rows_by, tree_rows_text, more_text, most_rows, TellsTree}
-use Rattle.ga_explorer_text.specs.Waiting.{each_node, node_count, all_waiting, stuck_text, all_rings, idle_text}
+use Rattle.ga_explorer_text.specs.Waiting.{each_node, node_count, all_waiting, stuck_text, all_rings, rest_text}
+use Rattle.ga_explorer_text.specs.Ended.{AreEnded}
 use Rattle.std.proofs.lemmas.Bool.Decides.{nat_tests}
 use Rattle.ga_event.specs.Told.{steps_of}
 use Rattle.ga_lab.specs.declared.fault.LabFault.TheVariants.{NoStep, Memory}
@@ -296,13 +297,18 @@ effects_refused s node step why text (inl answer) t =
     inl (t ∙ ap (λ (r : Result ℕ LabFault). effects_answer (effects_of s node.number step) r) (sym answer))
 effects_refused s node step why text (inr wanting) t = inr (wanting.1, t ∙ ap advised_text wanting.0)
 
-pub who_told : (s : State) (chip : List NodeRecord) (marks idle : ℕ → Bool) (first second third last : List ℕ) → chip ≡ chip_of s → AreDeadlocked chip marks
-    → ((others : ℕ → Bool) → AreDeadlocked chip others → IsSubset others marks) → MarksIdle s idle → first ≡ all_waiting chip idle
-    → second ≡ stuck_text marks idle → third ≡ all_rings chip marks → last ≡ idle_text idle → TellsWho s (first ++ second ++ third ++ last)
-who_told s chip marks idle first second third last e stuck greatest silent f g h i = record {
+pub who_told : (s : State) (chip : List NodeRecord) (marks ended over idle : ℕ → Bool) (first second third last : List ℕ) → chip ≡ chip_of s → AreDeadlocked chip marks
+    → ((others : ℕ → Bool) → AreDeadlocked chip others → IsSubset others marks) → AreEnded chip ended → ((n : ℕ) → n < 144 → over n ≡ (marks n && ended n))
+    → MarksIdle s idle → first ≡ all_waiting chip idle
+    → second ≡ stuck_text marks over idle → third ≡ all_rings chip marks → last ≡ rest_text over idle → TellsWho s (first ++ second ++ third ++ last)
+who_told s chip marks ended over idle first second third last e stuck greatest done both silent f g h i = record {
   marks = marks;
   stuck = subst (λ z. AreDeadlocked z marks) e stuck;
   greatest = λ others h. greatest others (subst (λ z. AreDeadlocked z others) (sym e) h);
+  ended = ended;
+  done = subst (λ z. AreEnded z ended) e done;
+  over = over;
+  both = both;
   idle = idle;
   silent = silent;
   text = rw (f, g, h, i, e) refl;

@@ -42,7 +42,12 @@ unfoldable pub decisions_text : Option DebugInfo → State → NodeId → ℕ �
 decisions_text notes s node zero k = []
 decisions_text notes s node (suc more) k = from_newest notes s node (decisions_text notes s node more) (newest_decided s node k)
 
+-- at most `most` decisions among the first `k` steps of a node, where there is one, or else that there is none
+abbrev pub newest_decision_text : Option DebugInfo → State → NodeId → ℕ → ℕ → Option Decision → Text
+newest_decision_text notes s node most k None = codes "none\n"
+newest_decision_text notes s node most k (Some newest) = decisions_text notes s node most k
+
 -- the decisions before a step, if it exists
 abbrev pub because_text : Option DebugInfo → State → NodeId → ℕ → ℕ → Text
 because_text notes s node step most =
-    if has_step s node.number step then decisions_text notes s node most (step - 1) else refusal_text NoStep
+    if has_step s node.number step then newest_decision_text notes s node most (step - 1) (newest_decided s node (step - 1)) else refusal_text NoStep

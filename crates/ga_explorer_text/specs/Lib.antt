@@ -5,6 +5,7 @@ pub mod SourceSuffix
 pub mod Around
 pub mod Trees
 pub mod Because
+pub mod Ended
 pub mod Waiting
 pub mod Telling
 pub mod Saved

@@ -1,5 +1,5 @@
 -- What `effects` and `who` tell (docs/REFERENCE.md, "Exploring"; this project's own).
-use Rattle.std.specs.Prelude.{◌≡◌, ℕ, ◌⊎◌, Bool, IsOk}
+use Rattle.std.specs.Prelude.{◌≡◌, ℕ, ◌<◌, ◌⊎◌, Bool, ◌&&◌, IsOk}
 use Rattle.ga_text.specs.Lines.{Text}
 use Rattle.ga_grid.specs.declared.node_id.NodeId.{NodeId}
 use Rattle.ga_lab.specs.Machine.{State, chip_of, rewind_answer}
@@ -9,6 +9,7 @@ use Rattle.ga_races.specs.Acts.{AreDeadlocked, IsSubset}
 use Rattle.ga_scheduler.specs.Idle.{MarksIdle}
 use Rattle.ga_display.specs.Texts.{advised_text}
 use Rattle.ga_explorer_text.specs.Texts.{effects_answer}
+use Rattle.ga_explorer_text.specs.Ended.{AreEnded}
 use Rattle.ga_explorer_text.specs.Waiting.{who_text}
 
 -- The answer is what a rollback would remove, or out of memory if one is possible.
@@ -17,12 +18,16 @@ TellsEffects s node step answer =
     (answer ≡ effects_answer (effects_of s node.number step) (rewind_answer s node.number step))
     ⊎ (IsOk (rewind_answer s node.number step) × (answer ≡ advised_text Memory))
 
--- For each node that waits, unless it is idle, the answer has for whom it waits; and which nodes are deadlocked: the greatest
--- set of such nodes.
+-- For each node that waits, unless it is idle, the answer has for whom it waits; which nodes are deadlocked: the greatest set of
+-- such nodes; and which of these have ended.
 pub record TellsWho (s : State) (answer : Text) : Type 0 where
   pub marks : ℕ → Bool
   pub stuck : AreDeadlocked (chip_of s) marks
   pub greatest : (others : ℕ → Bool) → AreDeadlocked (chip_of s) others → IsSubset others marks
+  pub ended : ℕ → Bool
+  pub done : AreEnded (chip_of s) ended
+  pub over : ℕ → Bool
+  pub both : (n : ℕ) → n < 144 → over n ≡ (marks n && ended n)
   pub idle : ℕ → Bool
   pub silent : MarksIdle s idle
-  pub text : answer ≡ who_text (chip_of s) marks idle
+  pub text : answer ≡ who_text (chip_of s) marks over idle

@@ -12,7 +12,7 @@ use Rattle.ga_event.specs.declared.flow.part.Part.{Part}
 use Rattle.ga_event.specs.declared.flow.part.Part.TheVariants as part
 use Rattle.ga_provenance.specs.declared.value.Value.{Value}
 use Rattle.ga_provenance.specs.declared.listing.ProvenanceRow.{ProvenanceRow}
-use Rattle.ga_provenance.specs.Origins.{origin_of}
+use Rattle.ga_provenance.specs.Origins.{value_of_step, origin_of}
 use Rattle.ga_provenance.specs.Rows.{row_at, AreRows}
 use Rattle.ga_provenance.specs.Asked.{queried_value}
 use Rattle.ga_display.specs.Texts.{refusal_text, advised_text}
@@ -109,7 +109,12 @@ abbrev pub TellsAsked : Option DebugInfo → State → NodeId → ℕ → Option
 TellsAsked notes s node step None answer = answer ≡ head_text notes s node step
 TellsAsked notes s node step (Some value) answer = (answer ≡ advised_text Memory) ⊎ TellsTree notes s node step value answer
 
-abbrev pub TellsWhence : Option DebugInfo → State → NodeId → ℕ → Text → Type 0
-TellsWhence notes s node step answer =
+-- the value of a part after a step, or the one that the step selects where no part is named
+abbrev pub asked_value : State → NodeId → ℕ → Option Part → Option Value
+asked_value s node step None = queried_value s node step
+asked_value s node step (Some at) = Some (value_of_step node step at)
+
+abbrev pub TellsWhence : Option DebugInfo → State → NodeId → ℕ → Option Part → Text → Type 0
+TellsWhence notes s node step at answer =
     ((has_step s node.number step ≡ false) × (answer ≡ refusal_text NoStep))
-    ⊎ ((has_step s node.number step ≡ true) × TellsAsked notes s node step (queried_value s node step) answer)
+    ⊎ ((has_step s node.number step ≡ true) × TellsAsked notes s node step (asked_value s node step at) answer)

@@ -1,5 +1,5 @@
--- The texts of `who`: for whom each waiting node waits, which nodes are deadlocked, the wait cycles among them, and how many
--- nodes are idle, which aren't listed (docs/REFERENCE.md, "Exploring"; this project's own).
+-- The texts of `who`: for whom each waiting node waits, which nodes are deadlocked, the wait cycles among them, which of them have
+-- ended, and how many nodes are idle, which aren't listed (docs/REFERENCE.md, "Exploring"; this project's own).
 use Rattle.std.specs.Prelude.{ℕ, zero, suc, ◌+◌, ◌==◌, nat_le, Bool, ◌&&◌, not, if◌then◌else◌, List, [], ◌∷◌, ◌++◌, codes, decimal, Option, Some, None, option_map}
 use Rattle.ga_text.specs.Lines.{Text}
 use Rattle.ga_ports.specs.declared.side.Side.{Side}
@@ -79,13 +79,21 @@ node_count test (suc n) = node_count test n + (if test n then 1 else 0)
 abbrev pub idle_tail : ℕ → Text
 idle_tail count = if count == 0 then [] else codes " and " ++ decimal count ++ codes " idle"
 
--- the line of nodes that can never go on, where there are any that are not idle
+-- the line of deadlocked nodes, where there are any that have not ended
 abbrev pub stuck_line : Text → ℕ → Text
 stuck_line [] count = []
 stuck_line (c ∷ names) count = codes "stuck" ++ (c ∷ names) ++ idle_tail count ++ codes "\n"
 
-abbrev pub stuck_text : (ℕ → Bool) → (ℕ → Bool) → Text
-stuck_text marks idle = stuck_line (busy_names marks idle) (node_count (λ n. marks n && idle n) 144)
+abbrev pub stuck_text : (ℕ → Bool) → (ℕ → Bool) → (ℕ → Bool) → Text
+stuck_text marks over idle = stuck_line (busy_names marks over) (node_count (λ n. marks n && idle n) 144)
+
+-- the line of deadlocked nodes that have ended, where there are any that are not idle
+abbrev pub ended_line : Text → Text
+ended_line [] = []
+ended_line (c ∷ names) = codes "ended" ++ (c ∷ names) ++ codes "\n"
+
+abbrev pub ended_text : (ℕ → Bool) → (ℕ → Bool) → Text
+ended_text over idle = ended_line (busy_names over idle)
 
 -- the last line: how many nodes are idle, where some are
 abbrev pub idle_line : ℕ → Text
@@ -131,5 +139,9 @@ wait_cycle_text chip marks n = if marks n then ring_line n (ring_names chip n 14
 abbrev pub all_rings : List NodeRecord → (ℕ → Bool) → Text
 all_rings chip marks = each_node (wait_cycle_text chip marks) 0 144
 
-abbrev pub who_text : List NodeRecord → (ℕ → Bool) → (ℕ → Bool) → Text
-who_text chip marks idle = all_waiting chip idle ++ stuck_text marks idle ++ all_rings chip marks ++ idle_text idle
+-- the last lines: which nodes have ended, and how many are idle
+abbrev pub rest_text : (ℕ → Bool) → (ℕ → Bool) → Text
+rest_text over idle = ended_text over idle ++ idle_text idle
+
+abbrev pub who_text : List NodeRecord → (ℕ → Bool) → (ℕ → Bool) → (ℕ → Bool) → Text
+who_text chip marks over idle = all_waiting chip idle ++ stuck_text marks over idle ++ all_rings chip marks ++ rest_text over idle

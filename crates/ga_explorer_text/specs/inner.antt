@@ -1,5 +1,6 @@
 -- What only private contracts and proofs name.
-use Rattle.std.specs.Prelude.{[], Option, Some, None, ℕ, ◌==◌, Bool, false, List, ◌∷◌}
+use Rattle.std.specs.Prelude.{[], Option, Some, None, ℕ, ◌==◌, Bool, false, not, List, ◌∷◌}
+use Rattle.ga_causal.specs.Dependence.{is_marked}
 use Rattle.ga_text.specs.Lines.{Text}
 use Rattle.ga_grid.specs.declared.node_id.NodeId.{NodeId}
 use Rattle.ga_event.specs.declared.event.Event.{Event}
@@ -24,6 +25,10 @@ line_at (Some e) = with_feed (saved_line e)
 -- the line of an event that is listed with its cause
 abbrev pub cause_line : Cause → Text
 cause_line cause = with_feed (saved_line cause.event)
+
+-- all nodes but the live ones
+abbrev pub ended_but : List Bool → ℕ → Bool
+ended_but live n = not (is_marked live n)
 
 -- ---- which step the first of some rows is of
 

@@ -25,7 +25,7 @@ use std::io::Write;
 const TESTED_ROOM: usize = 1 + MAX_PART_BYTES + 1 + WORD_DIGITS;
 
 /// `because NNN K [N]`: writes the last steps of a node before one at which a value decided where it continued, the newest
-/// first, each with the step that made the value. Allocates nothing.
+/// first, each with the step that made the value; or `none`. Allocates nothing.
 ///
 /// # Errors
 /// A write failed.
@@ -40,7 +40,7 @@ pub fn write_because<W: Write>(
     ensures { WritesSome result (λ text. text ≡ because_text notes.now lab.now node step most) W.contents writer.old writer.new }
 {
     if lab.has_step((node, step)) {
-        StepContext::new(lab, notes, node, step).say_decisions(most, writer)
+        StepContext::new(lab, notes, node, step).write_decisions(most, writer)
     } else {
         writer.write_text(refusal_text(LabFault::NoStep))
     }
@@ -73,14 +73,37 @@ fn push_tested(out: &mut TextBuffer, part: Part, word: Word18)
 impl<'l> StepContext<'l> {
     ghost use Rattle.std.specs.Prelude.{◌≡◌, ◌-◌};
     ghost use Rattle.ga_text.specs.Output.{WritesSome, WritesExactly};
-    ghost use Rattle.ga_explorer_text.specs.Because.{decision_text, decisions_text};
+    ghost use Rattle.ga_provenance.specs.Deciding.{newest_decided};
+    ghost use Rattle.ga_explorer_text.specs.Because.{decision_text, decisions_text, newest_decision_text};
+    ghost use Rattle.ga_lab.specs.Machine.{node_at_step};
 
-    /// Says those before the step to which the node is walked back.
-    fn say_decisions<W: Write>(&self, most: u32, writer: &mut Writer<'_, W>) -> WriteResult
-        ensures { WritesSome result (λ text. text ≡ decisions_text self.now.notes.now self.now.lab.now self.now.node most (self.now.near.step - 1))
-            W.contents writer.old writer.new }
+    /// Writes those before the step to which the node is walked back, or `none`.
+    fn write_decisions<W: Write>(&self, most: u32, writer: &mut Writer<'_, W>) -> WriteResult
+        ensures { WritesSome result (λ text. text ≡ newest_decision_text self.now.notes.now self.now.lab.now self.now.node most (self.now.near.step - 1)
+            (newest_decided self.now.lab.now self.now.node (self.now.near.step - 1))) W.contents writer.old writer.new }
     {
         let mut decisions = Decisions::before(self.lab, &self.near, self.node);
+        let Some(newest) = decisions.next() else {
+            return writer.write_text(b"none\n");
+        };
+        if most == 0 {
+            return Ok(());
+        }
+        self.say_decision(newest, writer)?;
+        self.say_decisions(&mut decisions, most - 1, writer)
+    }
+
+    /// Says those that a search finds.
+    fn say_decisions<W: Write>(
+        &self,
+        decisions: &mut Decisions<'l>,
+        most: u32,
+        writer: &mut Writer<'_, W>,
+    ) -> WriteResult
+        requires { decisions.old ≡ node_at_step self.now.lab.now self.now.node decisions.old.step }
+        ensures { WritesSome result (λ text. text ≡ decisions_text self.now.notes.now self.now.lab.now self.now.node most decisions.old.step)
+            W.contents writer.old writer.new }
+    {
         let mut left = most;
         'telling: while left > 0 {
             let Some(decision) = decisions.next() else {

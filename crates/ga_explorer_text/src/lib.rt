@@ -7,6 +7,7 @@ mod because_text;
 mod chip_text;
 mod deed_text;
 mod effects_text;
+mod ended;
 mod part_text;
 mod passed_text;
 mod races_text;

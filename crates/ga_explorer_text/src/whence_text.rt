@@ -1,9 +1,11 @@
 //! The provenance of a value, written line by line.
 
-ghost use Rattle.std.specs.Prelude.{◌≡◌, ◌≤◌, ◌<◌, ◌+◌, ◌++◌};
+ghost use Rattle.std.specs.Prelude.{◌≡◌, ◌≤◌, ◌<◌, ◌+◌, ◌++◌, IfSome};
 ghost use Rattle.arrayvec.specs.ArrayVec.{array_vec_len};
 ghost use Rattle.ga_text.specs.Output.{WritesSome, WritesExactly};
-ghost use Rattle.ga_explorer_text.specs.Trees.{blanks, value_text, did_text, more_text, TellsWhence};
+ghost use Rattle.ga_explorer_text.specs.Trees.{blanks, value_text, did_text, more_text, asked_value, TellsWhence};
+ghost use Rattle.ga_event.specs.Flow.{IsPart};
+ghost use Rattle.ga_lab.specs.Machine.{node_at_step};
 ghost use Rattle.ga_explorer_text.specs.inner.{is_first};
 
 use crate::deed_text::{MAX_ACTION_BYTES, push_action};
@@ -12,8 +14,9 @@ use crate::source_suffix::StepContext;
 use arrayvec::ArrayVec;
 use ga_debug_info::DebugInfo;
 use ga_display::{advised_text, refusal_text};
+use ga_event::Part;
 use ga_grid::NodeId;
-use ga_lab::{Lab, LabFault};
+use ga_lab::{Lab, LabFault, Walk};
 use ga_provenance::{ProvenanceRow, Value, find_provenance_at, queried_value_at};
 use ga_text::{MAX_STEP_BYTES, TextBuffer, WriteResult, Writer, push_node, push_step, push_text};
 use std::alloc::Global;
@@ -25,8 +28,8 @@ const MOST_ROWS: u32 = 100;
 /// The most bytes of a step with what it did.
 const DID_ROOM: usize = MAX_STEP_BYTES + 1 + MAX_ACTION_BYTES;
 
-/// `whence NNN K`: writes the steps whose values went into what a step made, as a tree. The node is walked back to the step
-/// once, and the rest is found from there.
+/// `whence NNN K [VALUE]`: writes the steps whose values went into what a step made, or into the value of a part after it, as a
+/// tree. The node is walked back to the step once, and the rest is found from there.
 ///
 /// # Errors
 /// A write failed.
@@ -36,17 +39,36 @@ pub fn write_whence<W: Write>(
     notes: &Option<DebugInfo>,
     node: NodeId,
     step: u32,
+    part: Option<Part>,
     writer: &mut Writer<'_, W>,
 ) -> WriteResult
-    ensures { WritesSome result (TellsWhence notes.now lab.now node step) W.contents writer.old writer.new }
+    requires { IfSome part IsPart }
+    ensures { WritesSome result (TellsWhence notes.now lab.now node step part) W.contents writer.old writer.new }
 {
     if !lab.has_step((node, step)) {
         return writer.write_text(refusal_text(LabFault::NoStep));
     }
     let here = StepContext::new(lab, notes, node, step);
-    match queried_value_at(lab, &here.near, node) {
+    match asked_value(lab, &here.near, node, part) {
         Some(value) => here.say_asked(alloc, value, writer),
         None => here.say_head(writer),
+    }
+}
+
+/// The value of a part of a node where it is walked back to, or the one that its step selects where no part is named.
+fn asked_value(lab: &Lab, near: &Walk<'_>, node: NodeId, part: Option<Part>) -> Option<Value>
+    requires part { IfSome part IsPart }
+    requires near { near.now ≡ node_at_step lab.now node near.now.step }
+    ensures value { result ≡ asked_value lab.now node near.now.step part }
+    ensures part { IfSome result (λ value. IsPart value.part) }
+{
+    match part {
+        Some(part) => Some(Value {
+            node,
+            step: near.step(),
+            part,
+        }),
+        None => queried_value_at(lab, near, node),
     }
 }
 

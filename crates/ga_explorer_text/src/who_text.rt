@@ -6,9 +6,10 @@ ghost use Rattle.ga_grid.specs.Grid.{number_where_any};
 ghost use Rattle.ga_grid.specs.Chip.{records_of};
 ghost use Rattle.ga_causal.specs.Dependence.{is_marked};
 ghost use Rattle.ga_text.specs.Output.{WritesSome, WritesExactly};
-ghost use Rattle.ga_explorer_text.specs.Waiting.{doing_word, does_text, beside_text, awaited_text, awaiting_text, waiting_text, busy_text, all_waiting, name_if, busy_names, node_count, idle_tail, stuck_line, stuck_text, idle_line, idle_text};
+ghost use Rattle.ga_explorer_text.specs.Waiting.{doing_word, does_text, beside_text, awaited_text, awaiting_text, waiting_text, busy_text, all_waiting, name_if, busy_names, node_count, idle_tail, stuck_line, stuck_text, ended_line, idle_line, rest_text};
 ghost use Rattle.ga_explorer_text.specs.Telling.{TellsWho};
 
+use super::ended::{ended_among, find_live};
 use super::ring_text::write_wait_cycles;
 use arrayvec::ArrayVec;
 use ga_grid::{Chip, NodeId, neighbour};
@@ -46,8 +47,17 @@ const STUCK_ROOM: usize = b"stuck".len() + NAMES_ROOM + IDLE_ROOM + b"\n".len();
 /// The text of that line.
 type StuckLine = ArrayVec<u8, STUCK_ROOM>;
 
+/// The most bytes of the line with the number of idle nodes.
+const IDLE_LINE_ROOM: usize = b"idle ".len() + MAX_NUMBER_DIGITS + b"\n".len();
+
+/// The most bytes of the last lines.
+const REST_ROOM: usize = b"ended".len() + NAMES_ROOM + b"\n".len() + IDLE_LINE_ROOM;
+
+/// The text of those lines.
+type RestLines = ArrayVec<u8, REST_ROOM>;
+
 /// `who`: writes for each waiting node what it waits for, of whom, and what that node does; which nodes are deadlocked, the
-/// wait cycles among them; and how many nodes are idle, which aren't listed. Allocates nothing.
+/// wait cycles among them, which of them have ended; and how many nodes are idle, which aren't listed. Allocates nothing.
 ///
 /// # Errors
 /// A write failed.
@@ -56,11 +66,12 @@ pub fn write_who<W: Write>(lab: &Lab, writer: &mut Writer<'_, W>) -> WriteResult
 {
     let chip = lab.chip();
     let stuck = find_deadlocked(chip);
+    let ended = ended_among(&stuck, &find_live(chip));
     let idle = find_idle(lab);
     say_waiting(chip, &idle, writer)?;
-    writer.write_blocks(stuck_line(&stuck, &idle).as_slice())?;
+    writer.write_blocks(stuck_line(&stuck, &ended, &idle).as_slice())?;
     write_wait_cycles(chip, &stuck, writer)?;
-    writer.write_blocks(idle_line(&idle).as_slice())
+    writer.write_blocks(rest_lines(&ended, &idle).as_slice())
 }
 
 /// Says the lines of the nodes that wait and are not idle.
@@ -179,11 +190,11 @@ fn push_beside(out: &mut TextBuffer, chip: &Chip, beside: Option<NodeId>, letter
     }
 }
 
-/// The line of the nodes that can never go on, where there are any that are not idle.
-fn stuck_line(marks: &[bool; 144], idle: &[bool; 144]) -> StuckLine
-    ensures { result.items ≡ stuck_text (is_marked marks.now) (is_marked idle.now) }
+/// The line of the deadlocked nodes, where there are any that have not ended.
+fn stuck_line(marks: &[bool; 144], ended: &[bool; 144], idle: &[bool; 144]) -> StuckLine
+    ensures { result.items ≡ stuck_text (is_marked marks.now) (is_marked ended.now) (is_marked idle.now) }
 {
-    line_of_names(busy_names(marks, idle).as_slice(), idle_among(marks, idle))
+    line_of_names(busy_names(marks, ended).as_slice(), idle_among(marks, idle))
 }
 
 /// The line of these names and the number of idle nodes.
@@ -214,7 +225,7 @@ fn push_idle(out: &mut StuckLine, idle: u8)
     }
 }
 
-/// The names of the marked nodes that are not idle, each after a space.
+/// The names of the marked nodes that are not among the others, each after a space.
 fn busy_names(marks: &[bool; 144], idle: &[bool; 144]) -> Names
     ensures { result.items ≡ busy_names (is_marked marks.now) (is_marked idle.now) }
 {
@@ -289,22 +300,36 @@ fn one_if(holds: bool) -> u8
     if holds { 1 } else { 0 }
 }
 
-/// The last line: how many nodes are idle, where some are.
-fn idle_line(idle: &[bool; 144]) -> TextBuffer
-    ensures { result.items ≡ idle_text (is_marked idle.now) }
+/// The last lines: which nodes have ended, and how many are idle.
+fn rest_lines(ended: &[bool; 144], idle: &[bool; 144]) -> RestLines
+    ensures { result.items ≡ rest_text (is_marked ended.now) (is_marked idle.now) }
 {
-    line_of_count(idle_count(idle))
+    rest_of_names(busy_names(ended, idle).as_slice(), idle_count(idle))
 }
 
-/// The line with the number of idle nodes.
-fn line_of_count(idle: u8) -> TextBuffer
-    ensures { result.items ≡ idle_line idle }
+/// The line of these names, and that of the number of idle nodes.
+fn rest_of_names(names: &[u8], idle: u8) -> RestLines
+    requires { length names.now ≤ NAMES_ROOM }
+    ensures { result.items ≡ ended_line names.now ++ idle_line idle }
 {
     let mut out = ArrayVec::new();
-    if idle > 0 {
-        push_text(&mut out, b"idle ");
-        push_number(&mut out, u64::from(idle));
+    if !names.is_empty() {
+        push_text(&mut out, b"ended");
+        push_text(&mut out, names);
         push_text(&mut out, b"\n");
     }
+    push_count(&mut out, idle);
     out
+}
+
+/// Adds the line with the number of idle nodes, where there are some.
+fn push_count(out: &mut RestLines, idle: u8)
+    requires { array_vec_len out.old + IDLE_LINE_ROOM ≤ REST_ROOM }
+    ensures { out.new.items ≡ out.old.items ++ idle_line idle }
+{
+    if idle > 0 {
+        push_text(out, b"idle ");
+        push_number(out, u64::from(idle));
+        push_text(out, b"\n");
+    }
 }

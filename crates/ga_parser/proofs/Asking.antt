@@ -38,13 +38,13 @@ open_refused now last items open_one is ready some first =
 
 -- ---- one word more
 
-next_is : (tokens : List Token) (k : ℕ) → next_text (token_contents (drop k tokens)) ≡ slice_index_or (texts_of tokens) k []
+pub next_is : (tokens : List Token) (k : ℕ) → next_text (token_contents (drop k tokens)) ≡ slice_index_or (texts_of tokens) k []
 next_is [] zero = refl
 next_is [] (suc k) = refl
 next_is (token ∷ tokens) zero = refl
 next_is (token ∷ tokens) (suc k) = next_is tokens k
 
-first_left : (tokens : List Token) (k : ℕ) (d : Token) → k < length tokens → token_contents (drop k tokens) ≡ token_content (get_or tokens k d) ∷ token_contents (drop (k + 1) tokens)
+pub first_left : (tokens : List Token) (k : ℕ) (d : Token) → k < length tokens → token_contents (drop k tokens) ≡ token_content (get_or tokens k d) ∷ token_contents (drop (k + 1) tokens)
 first_left [] k d within = absurd (omega arith)
 first_left (token ∷ tokens) zero d within = refl
 first_left (token ∷ tokens) (suc k) d within =

@@ -4,3 +4,5 @@ pub mod Numbers
 pub mod PlainAsked
 pub mod Asking
 pub mod Hinting
+pub mod Causes
+pub mod Recovering

@@ -5,4 +5,5 @@ pub mod Nearness
 pub mod Hints
 pub mod Asking
 pub mod Requests
+pub mod Recovery
 pub mod inner

@@ -1,3 +1,5 @@
 pub mod Drafting
 pub mod Names
 pub mod Hinting
+pub mod Refusing
+pub mod Recovering

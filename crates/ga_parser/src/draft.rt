@@ -24,7 +24,7 @@ use std::mem;
 
 /// What the next word is.
 #[derive(Clone, Copy, PartialEq, Eq)]
-enum Expect {
+pub(crate) enum Expect {
     Word,
     Address,
     Name,
@@ -42,7 +42,7 @@ pub(crate) struct RequestBuilder<'s> {
     pub open: Vec<Open>,
     /// Bit 9 of the addresses from here on.
     carries: bool,
-    expect: Expect,
+    pub expect: Expect,
 }
 
 impl<'s> RequestBuilder<'s> {
@@ -52,7 +52,7 @@ impl<'s> RequestBuilder<'s> {
     ghost use Rattle.ga_parser.specs.inner.Drafting.{Answers, asking_of};
     ghost use Rattle.ga_parser.specs.Saying.{token_content};
 
-    fn new(alloc: Global) -> Self
+    pub(crate) fn new(alloc: Global) -> Self
         ensures { asking_of result ≡ nothing_asked }
     {
         RequestBuilder {
@@ -244,7 +244,7 @@ impl<'s> RequestBuilder<'s> {
         self.call(line, text, next)
     }
 
-    fn take(&mut self, token: Token<'s>, next: &[u8]) -> Result<(), Fault<'s>>
+    pub(crate) fn take(&mut self, token: Token<'s>, next: &[u8]) -> Result<(), Fault<'s>>
         ensures { Answers result (hear (asking_of self.old) (token_content token.entry) next.now) (λ _. asking_of self.new) }
     {
         let text = token.word()?;
@@ -282,7 +282,7 @@ fn out_of_range(line: u32, text: &[u8], range: NumberRange) -> Fault<'_>
 }
 
 /// Whether a word is missing.
-fn is_waiting(expect: Expect) -> bool
+pub(crate) fn is_waiting(expect: Expect) -> bool
     ensures { result ≡ is_waiting_for expect }
 {
     match expect {
@@ -303,7 +303,7 @@ fn calling_op(next: &[u8]) -> Op
 }
 
 /// The text of a token, empty where there is none.
-fn text_at<'s>(tokens: &[Token<'s>], i: usize) -> &'s [u8]
+pub(crate) fn text_at<'s>(tokens: &[Token<'s>], i: usize) -> &'s [u8]
     ensures { result.now ≡ slice_index_or (texts_of tokens.now) i [] }
 {
     match tokens.get(i) {

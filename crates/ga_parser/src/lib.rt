@@ -12,6 +12,8 @@ mod item;
 mod labels;
 mod nearness;
 mod number;
+mod recovery;
+mod refusing;
 mod scan;
 mod vocabulary;
 
@@ -21,5 +23,7 @@ pub use hint::{Hint, hint_for};
 pub use item::{Item, LocatedRequest, NodeRequests, Operand, RegisterValue, Registers, Request};
 pub use labels::Label;
 pub use nearness::is_near;
+pub use number::parse_port;
+pub use recovery::{Recovered, recover_requests};
 pub use scan::{Token, TokenKind, source_words, strip_bom, words_up_to_fault};
 pub use vocabulary::{Directive, Register, parse_directive};

@@ -112,14 +112,14 @@ fn numeral(text: &[u8]) -> Number
 pub(crate) fn number_of(text: &[u8]) -> Number
     ensures { result ≡ number_by_word text.now }
 {
-    match port(text) {
+    match parse_port(text) {
         Some(address) => Number::Of(address),
         None => numeral(text),
     }
 }
 
-/// The address of a port or of a set of ports.
-fn port(text: &[u8]) -> Option<u32>
+/// The address of a port (`right`, `down`, `left`, `up`, `io`) or of a set of ports (`r---`, `rdlu` and so on).
+pub fn parse_port(text: &[u8]) -> Option<u32>
     ensures { result ≡ port_in text.now }
 {
     if text == b"right".as_slice() {

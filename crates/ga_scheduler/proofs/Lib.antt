@@ -1,4 +1,5 @@
 pub mod Sets
+pub mod Drawn
 pub mod Stepping
 pub mod Events
 pub mod Taking

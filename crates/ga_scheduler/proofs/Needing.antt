@@ -14,7 +14,7 @@ use Rattle.ga_node.specs.Table.{refusal}
 use Rattle.ga_node.specs.declared.kind.Kind.{Kind}
 use Rattle.ga_grid.specs.declared.node_id.NodeId.{NodeId}
 use Rattle.ga_grid.specs.Chip.{record_at}
-use Rattle.ga_scheduler.specs.declared.condition.Condition.TheVariants.{Never, Passes, PassesNumber, Steps, Stops, StopsAt, WaitsAt, Holds, ComesTo, Reaches, Writes}
+use Rattle.ga_scheduler.specs.declared.condition.Condition.TheVariants.{Never, Passes, PassesNumber, Steps, Stops, StopsAt, WaitsAt, Holds, Reaches, Writes}
 use Rattle.ga_scheduler.specs.declared.watching.Needs.{Needs}
 use Rattle.ga_scheduler.specs.inner.{AreCounted, is_one_of, may_fetch, lacks, Covers, IsNeeded}
 
@@ -85,14 +85,13 @@ guarded false x h = refl
 -- Where more is needed, what was needed is.
 pub covers_more : (a b : Needs) (one : Condition) → Covers a one → a.opcodes ≤ b.opcodes → (a.slot ≡ 4 → b.slot ≡ 4) → Covers b one
 covers_more a b Never h more fetches = tt
-covers_more a b (Passes writer reader word) h more fetches = tt
+covers_more a b (Passes writer reader comparison word) h more fetches = tt
 covers_more a b (PassesNumber writer reader number) h more fetches = tt
 covers_more a b (Steps node step) h more fetches = omega (arith, h, more)
 covers_more a b Stops h more fetches = tt
 covers_more a b (StopsAt node) h more fetches = tt
 covers_more a b (WaitsAt node) h more fetches = tt
-covers_more a b (Holds node address word) h more fetches = omega (arith, h, more)
-covers_more a b (ComesTo node address) h more fetches = omega (arith, h, more)
+covers_more a b (Holds node test) h more fetches = omega (arith, h, more)
 covers_more a b (Reaches node address) h more fetches = fetches h
 covers_more a b (Writes node address word) h more fetches = omega (arith, h, more)
 
@@ -174,14 +173,13 @@ writes_not false s w off = refl
 held_own : (needs : Needs) (one : Condition) (s : State) (node : NodeId) (step : ℕ) (what : Kind) → Covers needs one → lacks needs (record_at (chip_of s) node.number) what ≡ true
     → holds one (made.Own node step what) s ≡ false
 held_own needs Never s node step what h off = refl
-held_own needs (Passes writer reader word) s node step what h off = refl
+held_own needs (Passes writer reader comparison word) s node step what h off = refl
 held_own needs (PassesNumber writer reader number) s node step what h off = refl
 held_own needs (Steps at k) s node step what h off = absurd (none_lacks needs (record_at (chip_of s) node.number) what h off)
 held_own needs Stops s node step what h off = stops_not needs (record_at (chip_of s) node.number) what off
 held_own needs (StopsAt at) s node step what h off = and_right (node.number == at.number) (is_stop what) (stops_not needs (record_at (chip_of s) node.number) what off)
 held_own needs (WaitsAt at) s node step what h off = and_right (node.number == at.number) (is_wait what) (waits_not needs (record_at (chip_of s) node.number) what off)
-held_own needs (Holds at address word) s node step what h off = absurd (none_lacks needs (record_at (chip_of s) node.number) what h off)
-held_own needs (ComesTo at address) s node step what h off = absurd (none_lacks needs (record_at (chip_of s) node.number) what h off)
+held_own needs (Holds at test) s node step what h off = absurd (none_lacks needs (record_at (chip_of s) node.number) what h off)
 held_own needs (Reaches at address) s node step what h off = guarded (node.number == at.number) (fetches_at address (record_at (chip_of s) at.number)) (λ same.
     let is : node.number ≡ at.number = eqb-true node.number at.number same in
     subst (λ (z : ℕ). fetches_at address (record_at (chip_of s) z) ≡ false) is

@@ -24,10 +24,12 @@ use Rattle.ga_node.specs.Record.{NodeRecord, NodeState, record_of}
 use Rattle.ga_causal.proofs.Runs.{FirstOf, first_of_run}
 use Rattle.ga_lab.proofs.Called.{Runs, runs_of, told_is}
 use Rattle.ga_scheduler.specs.Words.{one_over, words_after, word_count}
+use Rattle.ga_scheduler.specs.Values.{passes}
+use Rattle.ga_scheduler.specs.declared.value_test.ValueTest.{ValueTest}
 use Rattle.ga_scheduler.specs.declared.condition.Condition.{Condition}
 use Rattle.std.proofs.lemmas.Bool.{lt-ltb, le-ltb, cond-true, cond-false}
 use Rattle.ga_grid.specs.Chip.{record_at}
-use Rattle.ga_scheduler.specs.declared.condition.Condition.TheVariants.{Holds, ComesTo, Reaches, Writes}
+use Rattle.ga_scheduler.specs.declared.condition.Condition.TheVariants.{Holds, Reaches, Writes}
 
 -- ---- the reports of the events in the history, and whose steps these are
 
@@ -246,17 +248,11 @@ fewer_before s n place m some is = omega (arith, steps_told s n place m some is)
 
 -- ---- each condition that asks for a node
 
-pub holds_here : (c : Condition) (node : NodeId) (address word value : ℕ) (m : Made) (s : State) (r : NodeRecord) → c ≡ Holds node address word
-    → r ≡ record_at (chip_of s) (asked_node c).number → value ≡ word_at r address → (value == word) ≡ holds c m s
-holds_here c node address word value m s r is at v =
-    subst (λ (z : Condition). r ≡ record_at (chip_of s) (asked_node z).number → (value == word) ≡ holds z m s) (sym is)
-    (λ h. ap (λ (z : ℕ). z == word) v ∙ ap (λ (z : NodeRecord). word_at z address == word) h) at
-
-pub comes_here : (c : Condition) (node : NodeId) (address value : ℕ) (m : Made) (s : State) (r : NodeRecord) → c ≡ ComesTo node address
-    → r ≡ record_at (chip_of s) (asked_node c).number → value ≡ r.p → (value == address) ≡ holds c m s
-comes_here c node address value m s r is at v =
-    subst (λ (z : Condition). r ≡ record_at (chip_of s) (asked_node z).number → (value == address) ≡ holds z m s) (sym is)
-    (λ h. ap (λ (z : ℕ). z == address) v ∙ ap (λ (z : NodeRecord). z.p == address) h) at
+pub holds_here : (c : Condition) (node : NodeId) (test : ValueTest) (result : Bool) (steps : ℕ) (m : Made) (s : State) (r : NodeRecord) → c ≡ Holds node test
+    → r ≡ record_at (chip_of s) (asked_node c).number → steps ≡ steps_of (asked_node c).number s.kept → result ≡ passes test r steps → result ≡ holds c m s
+holds_here c node test result steps m s r is at many v =
+    subst (λ (z : Condition). r ≡ record_at (chip_of s) (asked_node z).number → steps ≡ steps_of (asked_node z).number s.kept → result ≡ holds z m s) (sym is)
+    (λ h count. v ∙ ap (λ (z : NodeRecord). passes test z steps) h ∙ ap (λ (z : ℕ). passes test (record_at (chip_of s) node.number) z) count) at many
 
 pub reaches_here : (c : Condition) (node : NodeId) (address : ℕ) (result : Bool) (m : Made) (s : State) (r : NodeRecord) → c ≡ Reaches node address
     → r ≡ record_at (chip_of s) (asked_node c).number → result ≡ (is_step_of node.number m && fetches_at address r) → result ≡ holds c m s

@@ -1,5 +1,5 @@
 -- One step of the machine, and the set of nodes that have an event.
-use Rattle.std.proofs.Common.{◌≡◌, ◌≢◌, ℕ, ◌<◌, ◌≤◌, ◌==◌, true, false, ◌&&◌, List, ◌⊎◌, inl, inr, ⊎_elim, Some, None, refl, sym, ◌∙◌, ap, subst, arith, true≢false, ◌+◌, ◌%◌, Bool, cond, [], length, Ok, Err}
+use Rattle.std.proofs.Common.{◌≡◌, ◌≢◌, ℕ, ◌<◌, ◌≤◌, ◌==◌, true, false, ◌&&◌, List, ◌⊎◌, inl, inr, ⊎_elim, Some, None, refl, sym, ◌∙◌, ap, subst, arith, true≢false, Bool, cond, [], length, Ok, Err}
 use Rattle.std.specs.Prelude.{nat_lt, is_ok, Option, Result, option_map, unwrap_or, IfSome, IsSome, IsOk, nat_le, ◌^◌, ◌-◌}
 use Rattle.std.proofs.lemmas.Bool.{cases_eq, cases_lt, or_cases, le-ltb, eqb-true}
 use Rattle.std.proofs.Math.Nat.{mod-eq_of_lt}
@@ -19,7 +19,10 @@ use Rattle.ga_event.specs.declared.made.Made.{Made}
 use Rattle.ga_event.specs.declared.made.Made.TheVariants as made
 use Rattle.ga_scheduler.specs.declared.numbers.NumberSet.{NumberSet}
 use Rattle.ga_scheduler.specs.inner.{has, IsRight, HoldsReady, StaysRight, IsRightAround, IsRefreshed}
-use Rattle.ga_races.specs.Orders.{has_event, first_in}
+use Rattle.ga_races.specs.Orders.{has_event}
+use Rattle.ga_scheduler.specs.declared.schedule.Schedule.{Schedule}
+use Rattle.ga_scheduler.specs.Schedules.{next_node}
+use Rattle.ga_scheduler.proofs.Drawn.{chosen_same, none_passes}
 use Rattle.ga_races.proofs.Nexts.{near_or_same, runs_on}
 use Rattle.ga_journal.proofs.Parts.{two_touched as pass_touched}
 use Rattle.ga_node.specs.declared.kind.NotReady.{NotReady}
@@ -32,7 +35,6 @@ use Rattle.ga_lab.specs.declared.fault.LabFault.TheVariants.{Full, Memory, Spent
 use Rattle.ga_lab.specs.Machine.{State, chip_of, made_next, answer_to, step_answer, with_event, unless_refused, stepped}
 use Rattle.ga_lab.proofs.Called.{Runs, runs_of, chip_is}
 use Rattle.ga_scheduler.specs.Running.{IsQuiescent, IsRefusedFor}
-use Rattle.ga_races.proofs.Ready.{first_same, none_of}
 
 -- ---- the set of nodes that have an event, from one event to the next
 
@@ -164,18 +166,15 @@ stepped_ready s n m old new some h was stays right =
     (λ k e. subst (λ z. refusal_of (chip_of s) z ≡ None) e can) was stays right
 
 -- what the set holds is who can go
-pub choice_is : (chip : List NodeRecord) (ready : NumberSet) (turn : ℕ) → HoldsReady chip ready → first_in (has ready) turn 144 ≡ first_in (has_event chip) turn 144
-choice_is chip ready turn h = first_same (has ready) (has_event chip) turn 144 (λ m l. h m (omega arith))
+pub choice_is : (chip : List NodeRecord) (ready : NumberSet) (schedule : Schedule) → HoldsReady chip ready → next_node schedule (has ready) ≡ next_node schedule (has_event chip)
+choice_is chip ready schedule h = chosen_same schedule.order schedule (has ready) (has_event chip) (λ m l. h m (omega arith))
 
 pub nothing_past : (chip : List NodeRecord) (ready : NumberSet) → HoldsReady chip ready → (n : ℕ) → 144 ≤ n → n < 192 → has ready n ≡ false
 nothing_past chip ready h n l r = h n r ∙ none_past chip n l
 
 -- nobody is chosen: no node of the chip has an event
-pub quiet_is : (chip : List NodeRecord) (turn : ℕ) → turn < 144 → first_in (has_event chip) turn 144 ≡ None → IsQuiescent chip
-quiet_is chip turn t none n l = elim (cases_lt n turn) [
-  | inl less ↦ (let e : (turn + (n + 144 - turn)) % 144 ≡ n = omega arith in ap (has_event chip) (sym e) ∙ none_of (has_event chip) turn 144 (n + 144 - turn) none (omega arith))
-  | inr more ↦ (let e : (turn + (n - turn)) % 144 ≡ n = omega arith in ap (has_event chip) (sym e) ∙ none_of (has_event chip) turn 144 (n - turn) none (omega arith))
-]
+pub quiet_is : (chip : List NodeRecord) (schedule : Schedule) → next_node schedule (has_event chip) ≡ None → IsQuiescent chip
+quiet_is chip schedule none n l = none_passes schedule.order schedule (has_event chip) none n l
 
 -- what a lab answers to a step, against the machine
 abbrev pub Answered : Result Made LabFault → Result Made LabFault → Type 0

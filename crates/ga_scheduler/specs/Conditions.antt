@@ -9,17 +9,20 @@ use Rattle.ga_node.specs.Record.{NodeRecord}
 use Rattle.ga_node.specs.Table.{refusal}
 use Rattle.ga_node.specs.declared.kind.Kind.{Kind}
 use Rattle.ga_node.specs.declared.kind.Kind.TheVariants as kind
+use Rattle.ga_event.specs.Told.{steps_of}
 use Rattle.ga_event.specs.declared.made.Made.{Made}
 use Rattle.ga_event.specs.declared.made.Made.TheVariants as made
 use Rattle.ga_lab.specs.Machine.{State, chip_of, undone, word_at}
 use Rattle.ga_scheduler.specs.Words.{is_over, word_count}
+use Rattle.ga_scheduler.specs.Values.{compares, passes}
+use Rattle.ga_scheduler.specs.declared.value_test.Comparison.{Comparison}
 use Rattle.ga_scheduler.specs.declared.condition.Condition.{Condition}
-use Rattle.ga_scheduler.specs.declared.condition.Condition.TheVariants.{Never, Passes, PassesNumber, Steps, Stops, StopsAt, WaitsAt, Holds, ComesTo, Reaches, Writes}
+use Rattle.ga_scheduler.specs.declared.condition.Condition.TheVariants.{Never, Passes, PassesNumber, Steps, Stops, StopsAt, WaitsAt, Holds, Reaches, Writes}
 
--- the event passed this word from the writer to the reader
-abbrev pub is_pass : ℕ → ℕ → ℕ → Made → Bool
-is_pass writer reader word (made.Own n k what) = false
-is_pass writer reader word (made.Pass w k r j carried) = (w.number == writer) && (r.number == reader) && (carried == word)
+-- the event passed a word from the writer to the reader that compares so with this one
+abbrev pub is_pass : ℕ → ℕ → Comparison → ℕ → Made → Bool
+is_pass writer reader comparison word (made.Own n k what) = false
+is_pass writer reader comparison word (made.Pass w k r j carried) = (w.number == writer) && (r.number == reader) && compares comparison carried word
 
 -- the event was this step of the node
 abbrev pub is_step : ℕ → ℕ → Made → Bool
@@ -96,14 +99,13 @@ is_word_asked (Some asked) word = word == asked
 -- event stores.
 abbrev pub holds : Condition → Made → State → Bool
 holds Never told s = false
-holds (Passes writer reader word) told s = is_pass writer.number reader.number word told
+holds (Passes writer reader comparison word) told s = is_pass writer.number reader.number comparison word told
 holds (PassesNumber writer reader number) told s = is_over writer.number reader.number told && (word_count s writer.number reader.number == number)
 holds (Steps node step) told s = is_step node.number step told
 holds Stops told s = is_own is_stop told
 holds (StopsAt node) told s = is_own_at node.number is_stop told
 holds (WaitsAt node) told s = is_own_at node.number is_wait told
-holds (Holds node address word) told s = word_at (record_at (chip_of s) node.number) address == word
-holds (ComesTo node address) told s = (record_at (chip_of s) node.number).p == address
+holds (Holds node test) told s = passes test (record_at (chip_of s) node.number) (steps_of node.number s.kept)
 holds (Reaches node address) told s = is_step_of node.number told && fetches_at address (record_at (chip_of s) node.number)
 holds (Writes node address word) told s =
     nat_lt address 128 && is_own_at node.number (stores_in (address % 64) (node_before s node.number)) told
@@ -117,14 +119,13 @@ first_held (until ∷ others) told s = if holds until told s then Some 0 else op
 -- the condition holds never
 abbrev pub is_never : Condition → Bool
 is_never Never = true
-is_never (Passes writer reader word) = false
+is_never (Passes writer reader comparison word) = false
 is_never (PassesNumber writer reader number) = false
 is_never (Steps node step) = false
 is_never Stops = false
 is_never (StopsAt node) = false
 is_never (WaitsAt node) = false
-is_never (Holds node address word) = false
-is_never (ComesTo node address) = false
+is_never (Holds node test) = false
 is_never (Reaches node address) = false
 is_never (Writes node address word) = false
 

@@ -1,4 +1,5 @@
 pub mod Schedules
+pub mod Values
 pub mod Conditions
 pub mod Running
 pub mod Watched

@@ -1,6 +1,5 @@
--- Events made in the order of a schedule: a list of steps of the machine and nothing else. Each is a step of the first node,
--- from the one whose turn it is on and round the chip, that has an event. A run ends just after the first event at which one of
--- some conditions holds.
+-- Events made in the order of a schedule: a list of steps of the machine and nothing else. Each is a step of the node that the
+-- schedule chooses of those that have an event. A run ends just after the first event at which one of some conditions holds.
 use Rattle.std.specs.Prelude.{◌≡◌, ℕ, zero, suc, ◌+◌, ◌<◌, false, List, Option, Some, None, Result, Err, IsSome, IsOk, ◌⊎◌}
 use Rattle.std.specs.Result.{result_ok}
 use Rattle.ga_node.specs.Record.{NodeRecord}
@@ -13,9 +12,9 @@ use Rattle.ga_scheduler.specs.declared.schedule.Schedule.{Schedule}
 use Rattle.ga_scheduler.specs.declared.condition.Condition.{Condition}
 use Rattle.ga_scheduler.specs.declared.running.RunEnd.{RunEnd}
 use Rattle.ga_scheduler.specs.declared.running.RunEnd.TheVariants as the_end
-use Rattle.ga_scheduler.specs.Schedules.{turn_after}
+use Rattle.ga_scheduler.specs.Schedules.{next_node, turn_after}
 use Rattle.ga_scheduler.specs.Conditions.{first_held}
-use Rattle.ga_races.specs.Orders.{has_event, first_in}
+use Rattle.ga_races.specs.Orders.{has_event}
 
 -- a machine with the schedule by which its events are made
 pub record Running : Type 0 where
@@ -27,7 +26,7 @@ running s schedule = record { state = s; schedule = schedule }
 
 -- the node that makes the next event, where there is one
 abbrev pub node_to_run : Running → Option NodeId
-node_to_run r = first_in (has_event (chip_of r.state)) r.schedule.turn.number 144
+node_to_run r = next_node r.schedule (has_event (chip_of r.state))
 
 -- the report of the next event of a machine, which this node makes, if there is one
 abbrev pub told_by_step : State → Option NodeId → Option Made

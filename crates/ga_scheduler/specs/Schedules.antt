@@ -1,22 +1,38 @@
 -- In what order the nodes make their events: rounds, each node until it has no event, or nodes that are drawn. Which of several
 -- nodes comes first is this project's own choice: the chip has no clock.
-use Rattle.std.specs.Prelude.{ℕ, ◌+◌}
+use Rattle.std.specs.Prelude.{ℕ, zero, suc, ◌+◌, ◌%◌, Bool, if◌then◌else◌, List, [], ◌∷◌, ◌++◌, length, Option, option_map}
+use Rattle.std.specs.List.{slice_get}
 use Rattle.rand_xoshiro.specs.SplitMix64.{mix_u64}
 use Rattle.ga_grid.specs.declared.node_id.NodeId.{NodeId}
 use Rattle.ga_grid.specs.Grid.{node_id}
+use Rattle.ga_races.specs.Orders.{first_in}
 use Rattle.ga_scheduler.specs.declared.schedule.Order.{Order}
 use Rattle.ga_scheduler.specs.declared.schedule.Order.TheVariants.{Rounds, Greedy, Random}
 use Rattle.ga_scheduler.specs.declared.schedule.Schedule.{Schedule}
 
--- the turn of a node that is drawn: the next word of SplitMix64, modulo 144
-abbrev pub random_turn : Schedule → Schedule
-random_turn schedule = record schedule { turn = node_id (mix_u64 schedule.generator).0; generator = (mix_u64 schedule.generator).1 }
+-- the numbers below one that pass a test, in their order
+unfoldable pub numbers_below : (ℕ → Bool) → ℕ → List ℕ
+numbers_below test zero = []
+numbers_below test (suc n) = if test n then numbers_below test n ++ n ∷ [] else numbers_below test n
+
+-- the node that is drawn, of those that pass a test: its place among them is a word modulo their number
+abbrev pub node_drawn : (ℕ → Bool) → ℕ → Option NodeId
+node_drawn test word = option_map node_id (slice_get (numbers_below test 144) (word % length (numbers_below test 144)))
+
+-- the node, of those that pass a test, that makes the next event
+abbrev pub node_in_order : Order → Schedule → (ℕ → Bool) → Option NodeId
+node_in_order Rounds schedule test = first_in test schedule.turn.number 144
+node_in_order Greedy schedule test = first_in test schedule.turn.number 144
+node_in_order Random schedule test = node_drawn test (mix_u64 schedule.generator).0
+
+abbrev pub next_node : Schedule → (ℕ → Bool) → Option NodeId
+next_node schedule test = node_in_order schedule.order schedule test
 
 -- the schedule after an event that this node made
 abbrev pub passed_by : Order → Schedule → NodeId → Schedule
 passed_by Rounds schedule node = record schedule { turn = node_id (node.number + 1) }
 passed_by Greedy schedule node = record schedule { turn = node }
-passed_by Random schedule node = random_turn schedule
+passed_by Random schedule node = record schedule { generator = (mix_u64 schedule.generator).1 }
 
 abbrev pub turn_after : Schedule → NodeId → Schedule
 turn_after schedule node = passed_by schedule.order schedule node
@@ -29,4 +45,4 @@ abbrev pub greedy : Schedule
 greedy = record { order = Greedy; turn = node_id 0; generator = 0 }
 
 abbrev pub random : ℕ → Schedule
-random seed = random_turn (record { order = Random; turn = node_id 0; generator = seed })
+random seed = record { order = Random; turn = node_id 0; generator = seed }

@@ -1,18 +1,22 @@
 -- What private contracts, invariants and bridges cite.
-use Rattle.std.specs.Prelude.{ℕ, zero, suc, ◌+◌, ◌&&◌, if◌then◌else◌, max, List, [], ◌∷◌, Bool, false, Option, Some, None, ◌≡◌, ◌-◌, length, slice_index, ◌/◌, ◌%◌, ◌==◌, ◌≢◌, ◌<◌, true, ◌⊎◌, ◌≤◌, nat_lt, not}
+use Rattle.std.specs.Prelude.{ℕ, zero, suc, ◌+◌, ◌&&◌, if◌then◌else◌, max, List, [], ◌∷◌, Bool, false, Option, Some, None, ◌≡◌, ◌-◌, length, slice_index, ◌/◌, ◌%◌, ◌==◌, ◌≢◌, ◌<◌, true, ◌⊎◌, ◌≤◌, nat_lt, not, IfSome}
 use Rattle.ga_grid.specs.declared.node_id.NodeId.{NodeId}
 use Rattle.ga_grid.specs.Grid.{node_id, neighbour_of}
 use Rattle.ga_event.specs.Told.{made_in}
 use Rattle.ga_event.specs.declared.made.Made.{Made}
 use Rattle.ga_lab.specs.Machine.{State, outcomes_of_kept, earlier}
 use Rattle.ga_scheduler.specs.declared.condition.Condition.{Condition}
-use Rattle.ga_scheduler.specs.declared.condition.Condition.TheVariants.{Holds, ComesTo, Reaches, Writes, PassesNumber, Passes, Steps, Stops, StopsAt, WaitsAt, Never}
+use Rattle.ga_scheduler.specs.declared.condition.Condition.TheVariants.{Holds, Reaches, Writes, PassesNumber, Passes, Steps, Stops, StopsAt, WaitsAt, Never}
 use Rattle.ga_scheduler.specs.Conditions.{holds, is_pass, is_step, is_own, is_own_at, is_stop, is_wait}
 use Rattle.ga_scheduler.specs.Backward.{is_among}
 use Rattle.std.specs.List.{slice_get}
 use Rattle.ga_scheduler.specs.Words.{is_over, one_over, word_count}
 use Rattle.std.specs.Int.{bit_at}
 use Rattle.ga_scheduler.specs.declared.numbers.NumberSet.{NumberSet}
+use Rattle.ga_scheduler.specs.declared.drawing.Known.{Known}
+use Rattle.ga_scheduler.specs.Schedules.{numbers_below}
+use Rattle.ga_scheduler.specs.declared.schedule.Order.{Order}
+use Rattle.ga_scheduler.specs.declared.schedule.Order.TheVariants.{Rounds, Greedy, Random}
 use Rattle.ga_ports.specs.declared.side.Side.{Side}
 use Rattle.ga_node.specs.Record.{NodeRecord}
 use Rattle.ga_node.specs.Table.{refusal}
@@ -30,8 +34,7 @@ use Rattle.ga_scheduler.specs.Running.{Running, next_made, run_moved, held_next,
 
 -- the node whose registers or memory a condition asks for, and node 000 where it asks for none
 abbrev pub asked_node : Condition → NodeId
-asked_node (Holds node address word) = node
-asked_node (ComesTo node address) = node
+asked_node (Holds node test) = node
 asked_node (Reaches node address) = node
 asked_node (Writes node address word) = node
 asked_node other = node_id 0
@@ -93,7 +96,7 @@ WereCounted until s told words = (k : ℕ) (one : Condition) → slice_get until
 -- whether a condition holds by the event itself, given how many words of its link are in the history; what it requires of a
 -- node is not considered
 abbrev pub is_decided_by : Condition → Made → ℕ → Bool
-is_decided_by (Passes writer reader word) told words = is_pass writer.number reader.number word told
+is_decided_by (Passes writer reader comparison word) told words = is_pass writer.number reader.number comparison word told
 is_decided_by (PassesNumber writer reader number) told words = is_over writer.number reader.number told && (words == number)
 is_decided_by (Steps node step) told words = is_step node.number step told
 is_decided_by Stops told words = is_own is_stop told
@@ -104,6 +107,13 @@ is_decided_by other told words = false
 -- the report of the newest event in the history
 abbrev pub newest_told : State → Option Made
 newest_told s = made_in (outcomes_of_kept s) (length s.kept - 1)
+
+-- ---- whether nodes are drawn
+
+abbrev pub is_random : Order → Bool
+is_random Rounds = false
+is_random Greedy = false
+is_random Random = true
 
 -- ---- A set of numbers below 192, a bit for each
 
@@ -125,6 +135,11 @@ HoldsReady chip ready = (n : ℕ) → IsRight chip ready n
 pub record IsAlone (ready : NumberSet) (node : NodeId) : Type 0 where
   pub here : has ready node.number ≡ true
   pub others : (n : ℕ) → n < 144 → n ≢ node.number → has ready n ≡ false
+
+-- what is known of a set of nodes is so
+pub record IsKnown (ready : NumberSet) (known : Known) : Type 0 where
+  pub alone : IfSome known.alone (IsAlone ready)
+  pub listed : known.is_listed ≡ true → known.numbers.items ≡ numbers_below (has ready) 144
 
 -- a set stays right about each number about which it was right
 abbrev pub StaysRight : List NodeRecord → NumberSet → NumberSet → Type 0
@@ -161,14 +176,13 @@ lacks needs n (kind.Stop code) = false
 -- what a condition needs is among the needs
 abbrev pub Covers : Needs → Condition → Type 0
 Covers needs Never = Unit
-Covers needs (Passes writer reader word) = Unit
+Covers needs (Passes writer reader comparison word) = Unit
 Covers needs (PassesNumber writer reader number) = Unit
 Covers needs (Steps node step) = 256 ≤ needs.opcodes
 Covers needs Stops = Unit
 Covers needs (StopsAt node) = Unit
 Covers needs (WaitsAt node) = Unit
-Covers needs (Holds node address word) = 256 ≤ needs.opcodes
-Covers needs (ComesTo node address) = 256 ≤ needs.opcodes
+Covers needs (Holds node test) = 256 ≤ needs.opcodes
 Covers needs (Reaches node address) = needs.slot ≡ 4
 Covers needs (Writes node address word) = 4 ≤ needs.opcodes
 

@@ -2,6 +2,7 @@
 #![tactic(auto)]
 
 mod condition;
+mod drawing;
 mod edges;
 mod effects;
 mod idle;
@@ -11,6 +12,7 @@ mod ready;
 mod reverse_search;
 mod running;
 mod schedule;
+mod value_test;
 mod watch;
 mod watched;
 mod watching;
@@ -22,6 +24,7 @@ pub use idle::find_idle;
 pub use reverse_search::{back_until, find_newest_holding};
 pub use running::{RunEnd, RunResult, run_schedule};
 pub use schedule::{Order, Schedule};
+pub use value_test::{Comparison, NodeValue, ValueTest};
 pub use watch::StopCondition;
 pub use watched::{WatchedEnd, WatchedRun, has_written, run_watched};
 pub use watching::{MAX_CONDITIONS, active_conditions};

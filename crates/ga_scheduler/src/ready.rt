@@ -3,10 +3,13 @@
 ghost use Rattle.std.specs.Prelude.{◌≡◌, ◌<◌, ◌≤◌, ℕ, true, false, Some, IfSome, IfNone};
 ghost use Rattle.ga_grid.specs.Chip.{records_of};
 ghost use Rattle.ga_grid.specs.Grid.{neighbour_of};
-ghost use Rattle.ga_scheduler.specs.inner.{has, IsRight, HoldsReady, StaysRight, IsRightAround, IsRefreshed, IsAlone};
+ghost use Rattle.ga_scheduler.specs.inner.{has, IsRight, HoldsReady, StaysRight, IsRightAround, IsRefreshed, IsAlone, IsKnown, is_random};
+ghost use Rattle.ga_scheduler.specs.Schedules.{next_node};
 ghost use Rattle.ga_races.specs.Orders.{first_in};
 
+use crate::drawing::{Known, draw_node};
 use crate::numbers::NumberSet;
+use crate::schedule::Schedule;
 use ga_event::next_event;
 use ga_grid::{Chip, NODES, NodeId, neighbour};
 use ga_lab::Made;
@@ -56,24 +59,24 @@ pub(crate) fn ready_nodes(chip: &Chip) -> NumberSet
     ready
 }
 
-// Looks at what an event that was made may have changed. Then it isn't known any more that one node is alone.
+// Looks at what an event that was made may have changed. Then nothing is known of the nodes any more.
 #[inline(always)]
 #[tactic(auto, using(crate::proofs::Stepping::around_stays))]
-pub(crate) fn refresh(ready: &mut NumberSet, alone: &mut Option<NodeId>, chip: &Chip, made: &Made)
+pub(crate) fn refresh(ready: &mut NumberSet, known: &mut Known, chip: &Chip, made: &Made)
     ensures around { IsRefreshed (records_of chip.now) made.now ready.new }
     ensures kept { StaysRight (records_of chip.now) ready.old ready.new }
-    ensures alone { IfSome alone.old (IsAlone ready.old) → IfSome alone.new (IsAlone ready.new) }
+    ensures known { IsKnown ready.old known.old → IsKnown ready.new known.new }
 {
     match made {
         Made::Own { node, .. } => {
             if chip.node(*node).not_ready().is_none() {
                 return;
             }
-            *alone = None;
+            known.forget();
             look_around(ready, chip, *node);
         }
         Made::Pass { writer, reader, .. } => {
-            *alone = None;
+            known.forget();
             look_around(ready, chip, *writer);
             look_around(ready, chip, *reader);
         }
@@ -82,7 +85,7 @@ pub(crate) fn refresh(ready: &mut NumberSet, alone: &mut Option<NodeId>, chip: &
 
 // The lowest node in the set from this one on.
 #[tactic(auto, using(ga_races::proofs::Ready::within))]
-fn lowest_from(ready: &NumberSet, first: NodeId) -> Option<NodeId>
+pub(crate) fn lowest_from(ready: &NumberSet, first: NodeId) -> Option<NodeId>
     requires { (n : ℕ) → 144 ≤ n → n < 192 → has ready.now n ≡ false }
     ensures least { IfSome result (λ node. first.number ≤ node.number) }
     ensures is_in { IfSome result (λ node. has ready.now node.number ≡ true) }
@@ -92,17 +95,6 @@ fn lowest_from(ready: &NumberSet, first: NodeId) -> Option<NodeId>
     match ready.lowest_from(first.number) {
         Some(number) => Some(NodeId::new(number)),
         None => None,
-    }
-}
-
-// The first node in the set from this one on, round the chip.
-pub(crate) fn first_from(ready: &NumberSet, turn: NodeId) -> Option<NodeId>
-    requires { (n : ℕ) → 144 ≤ n → n < 192 → has ready.now n ≡ false }
-    ensures { result ≡ first_in (has ready.now) turn.number 144 }
-{
-    match lowest_from(ready, turn) {
-        Some(node) => Some(node),
-        None => lowest_from(ready, NodeId::new(0)),
     }
 }
 
@@ -140,12 +132,30 @@ fn first_behind(ready: &NumberSet, alone: &mut Option<NodeId>, turn: NodeId) -> 
     }
 }
 
-// The first node in the set from the turn on, round the chip, where it may be known that one node is alone in the set.
+// The node, of those in the set, that makes the next event of a schedule; `draws` is whether it draws.
+#[inline(always)]
 pub(crate) fn next_from(
     ready: &NumberSet,
-    alone: &mut Option<NodeId>,
-    turn: NodeId,
+    known: &mut Known,
+    schedule: &Schedule,
+    draws: bool,
 ) -> Option<NodeId>
+    requires past { (n : ℕ) → 144 ≤ n → n < 192 → has ready.now n ≡ false }
+    requires known { IsKnown ready.now known.old }
+    requires draws { draws ≡ is_random schedule.now.order }
+    ensures chosen { result ≡ next_node schedule.now (has ready.now) }
+    ensures known { IsKnown ready.now known.new }
+{
+    if draws {
+        draw_node(ready, known, schedule.word())
+    } else {
+        in_turn(ready, &mut known.alone, schedule.turn)
+    }
+}
+
+// The first node in the set from the turn on, round the chip, where it may be known that one node is alone in the set.
+#[inline(always)]
+fn in_turn(ready: &NumberSet, alone: &mut Option<NodeId>, turn: NodeId) -> Option<NodeId>
     requires past { (n : ℕ) → 144 ≤ n → n < 192 → has ready.now n ≡ false }
     requires alone { IfSome alone.old (IsAlone ready.now) }
     ensures first { result ≡ first_in (has ready.now) turn.number 144 }

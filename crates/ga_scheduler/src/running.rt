@@ -4,11 +4,12 @@ ghost use Rattle.std.specs.Prelude.{◌≡◌, ◌≤◌, ◌+◌, ℕ, length, 
 ghost use Rattle.ga_event.specs.Apply.{replay};
 ghost use Rattle.ga_lab.specs.Machine.{chip_of, step_answer, stepped};
 ghost use Rattle.ga_scheduler.specs.Words.{one_over, word_count};
-ghost use Rattle.ga_scheduler.specs.inner.{HoldsReady, IsAlone, AreCounted, newest_told, IsNeeded, IsOver, events_at};
+ghost use Rattle.ga_scheduler.specs.inner.{HoldsReady, IsKnown, is_random, AreCounted, newest_told, IsNeeded, IsOver, events_at};
 ghost use Rattle.ga_scheduler.specs.Schedules.{turn_after};
 ghost use Rattle.ga_scheduler.specs.Running.{running, next_made, run_moved, held_next, after_events, AreMade, IsRefusedFor, HasEnded};
 
 use crate::condition::Condition;
+use crate::drawing::Known;
 use crate::numbers::NumberSet;
 use crate::ready::{next_from, ready_nodes, refresh};
 use crate::schedule::Schedule;
@@ -60,31 +61,34 @@ fn step_once(lab: &mut Lab, node: NodeId, is_here: bool) -> Result<Made, LabFaul
 pub(crate) fn make(
     lab: &mut Lab,
     ready: &mut NumberSet,
-    alone: &mut Option<NodeId>,
+    known: &mut Known,
     schedule: &mut Schedule,
     node: NodeId,
     is_here: bool,
+    draws: bool,
 ) -> Result<Made, LabFault>
     requires ready { HoldsReady (chip_of lab.old) ready.old }
-    requires alone { IfSome alone.old (IsAlone ready.old) }
+    requires known { IsKnown ready.old known.old }
     requires replays { IsSome (replay lab.old.load lab.old.kept) }
+    requires draws { draws ≡ is_random schedule.old.order }
     ensures ok { IfOk result (λ made. step_answer lab.old node ≡ Ok made) }
     ensures state { OnOk result (lab.new ≡ stepped lab.old node) }
     ensures schedule { OnOk result (schedule.new ≡ turn_after schedule.old node) }
     ensures ready { OnOk result (HoldsReady (chip_of lab.new) ready.new) }
-    ensures alone { OnOk result (IfSome alone.new (IsAlone ready.new)) }
+    ensures known { OnOk result (IsKnown ready.new known.new) }
     ensures words { IfOk result (λ made. (writer reader : ℕ) →
         word_count lab.new writer reader ≡ word_count lab.old writer reader + one_over writer reader made) }
     ensures newest { IfOk result (λ made. newest_told lab.new ≡ Some made) }
     ensures replays { OnOk result (IsSome (replay lab.new.load lab.new.kept)) }
+    ensures draws { draws ≡ is_random schedule.new.order }
     ensures refused { IfErr result (λ why. IsRefusedFor why (step_answer lab.old node)) }
     ensures same { OnErr result (lab.new ≡ lab.old) }
     ensures stays { OnErr result (schedule.new ≡ schedule.old) }
 {
     match step_once(lab, node, is_here) {
         Ok(made) => {
-            *schedule = schedule.turn_after(node);
-            refresh(ready, alone, lab.chip(), &made);
+            *schedule = schedule.turn_after(node, draws);
+            refresh(ready, known, lab.chip(), &made);
             Ok(made)
         }
         Err(why) => Err(why),
@@ -101,16 +105,18 @@ struct Over;
 fn advance(
     lab: &mut Lab,
     ready: &mut NumberSet,
-    alone: &mut Option<NodeId>,
+    known: &mut Known,
     schedule: &mut Schedule,
     until: &[Condition],
     needs: &Needs,
     words: &mut LinkCounts,
     end: &mut RunEnd,
+    draws: bool,
 ) -> Result<(), Over>
     requires ready { HoldsReady (chip_of lab.old) ready.old }
-    requires alone { IfSome alone.old (IsAlone ready.old) }
+    requires known { IsKnown ready.old known.old }
     requires replays { IsSome (replay lab.old.load lab.old.kept) }
+    requires draws { draws ≡ is_random schedule.old.order }
     requires needed { IsNeeded needs.now until.now }
     requires most { length until.now ≤ 8 }
     requires size { length words.old ≡ 8 }
@@ -119,16 +125,17 @@ fn advance(
     ensures unmet { OnOk result (held_next until.now (running lab.old schedule.old) ≡ None) }
     ensures moved { OnOk result (running lab.new schedule.new ≡ run_moved (running lab.old schedule.old)) }
     ensures ready { OnOk result (HoldsReady (chip_of lab.new) ready.new) }
-    ensures alone { OnOk result (IfSome alone.new (IsAlone ready.new)) }
+    ensures known { OnOk result (IsKnown ready.new known.new) }
     ensures replays { OnOk result (IsSome (replay lab.new.load lab.new.kept)) }
+    ensures draws { draws ≡ is_random schedule.new.order }
     ensures size { OnOk result (length words.new ≡ 8) }
     ensures counted { OnOk result (AreCounted until.now lab.new words.new) }
     ensures over { OnErr result (IsOver until.now (running lab.old schedule.old) (running lab.new schedule.new) end.new) }
 {
-    match next_from(ready, alone, schedule.turn) {
+    match next_from(ready, known, schedule, draws) {
         Some(node) => {
             if lab.node(node).not_ready().is_none() {
-                match make(lab, ready, alone, schedule, node, true) {
+                match make(lab, ready, known, schedule, node, true, draws) {
                     Ok(made) => {
                         if let Some(which) = first_held(until, needs, words, &made, lab) {
                             *end = RunEnd::Reached { made, which };
@@ -142,7 +149,7 @@ fn advance(
                     }
                 }
             } else {
-                match make(lab, ready, alone, schedule, node, false) {
+                match make(lab, ready, known, schedule, node, false, draws) {
                     Ok(made) => {
                         if let Some(which) = first_held(until, needs, words, &made, lab) {
                             *end = RunEnd::Reached { made, which };
@@ -193,7 +200,8 @@ pub fn run_schedule(
     ensures end { HasEnded (running lab.old schedule) most until.now result.events result.end }
 {
     let mut ready = ready_nodes(lab.chip());
-    let mut alone = None;
+    let mut known = Known::nothing();
+    let draws = schedule.draws();
     let needs = needs_of(until);
     let mut words = count_all(until, lab);
     let mut events = 0;
@@ -202,12 +210,13 @@ pub fn run_schedule(
         match advance(
             lab,
             &mut ready,
-            &mut alone,
+            &mut known,
             &mut schedule,
             until,
             &needs,
             &mut words,
             &mut end,
+            draws,
         ) {
             Ok(()) => events += 1,
             Err(Over) => {

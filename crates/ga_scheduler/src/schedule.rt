@@ -4,7 +4,7 @@ ghost use Rattle.std.specs.Prelude.{◌≡◌, ◌+◌};
 ghost use Rattle.rand_xoshiro.specs.SplitMix64.{mix_u64};
 ghost use Rattle.ga_grid.specs.Grid.{node_id};
 
-use ga_grid::{NODES, NodeId};
+use ga_grid::NodeId;
 use rand_core::SeedableRng;
 use rand_core::utils::NextWord;
 use rand_xoshiro::SplitMix64;
@@ -17,20 +17,21 @@ pub enum Order {
     Rounds,
     /// Only when the node has no event left: each makes as many events as it can.
     Greedy,
-    /// To a node that is drawn.
+    /// To a node that is drawn: each that has an event is as likely as another.
     Random,
 }
 
-/// An order with its state: whose turn it is, and the state of the random generator. The event of a turn is made by the first
-/// node, from the one whose turn it is on and round the chip, that has one.
+/// An order with its state: whose turn it is, and the state of the random generator. In rounds and in the greedy order the next
+/// event is made by the first node, from the one whose turn it is on and round the chip, that has one. In the random order the
+/// next word of the generator, modulo the number of nodes that have an event, is the place of the node that makes it among these,
+/// in the order of their numbers and from 0 on.
 #[derive(Clone, Copy, PartialEq, Eq, Debug)]
 pub struct Schedule {
     /// How the next turn is chosen.
     pub order: Order,
-    /// The node whose turn it is.
+    /// The node whose turn it is; in the random order none has one.
     pub turn: NodeId,
     /// The state of the generator, SplitMix64 (Steele, Lea and Flood, "Fast splittable pseudorandom number generators", 2014).
-    /// Node n is drawn where its next word is n modulo 144.
     pub generator: u64,
 }
 
@@ -43,11 +44,11 @@ fn drawn_word(state: u64) -> (u64, u64)
     (word, u64::from_le_bytes(generator.state()))
 }
 
-// The node of this number; from 144 on they begin again.
-pub(crate) fn node_at(number: u64) -> NodeId
-    ensures { result ≡ node_id number }
+// Node 000.
+pub(crate) fn first_node() -> NodeId
+    ensures { result ≡ node_id 0 }
 {
-    NodeId::new((number % NODES as u64) as u8)
+    NodeId::new(0)
 }
 
 // The node after this one, and 000 after the last.
@@ -63,7 +64,9 @@ fn following(node: NodeId) -> NodeId
 
 impl Schedule {
     ghost use Rattle.std.specs.Prelude.{◌≡◌};
-    ghost use Rattle.ga_scheduler.specs.Schedules.{random_turn, round_robin, greedy, random, turn_after};
+    ghost use Rattle.rand_xoshiro.specs.SplitMix64.{mix_u64};
+    ghost use Rattle.ga_scheduler.specs.Schedules.{round_robin, greedy, random, turn_after};
+    ghost use Rattle.ga_scheduler.specs.inner.{is_random};
 
     /// Rounds, the first of which begins at node 000.
     pub fn round_robin() -> Self
@@ -71,7 +74,7 @@ impl Schedule {
     {
         Schedule {
             order: Order::Rounds,
-            turn: node_at(0),
+            turn: first_node(),
             generator: 0,
         }
     }
@@ -82,46 +85,57 @@ impl Schedule {
     {
         Schedule {
             order: Order::Greedy,
-            turn: node_at(0),
+            turn: first_node(),
             generator: 0,
         }
     }
 
-    /// Each turn that of a node drawn by a generator with this seed, which determines the schedule.
+    /// Nodes that are drawn by a generator with this seed, which determines the schedule.
     pub fn random(seed: u64) -> Self
         ensures { result ≡ random seed }
     {
-        let schedule = Schedule {
+        Schedule {
             order: Order::Random,
-            turn: node_at(0),
+            turn: first_node(),
             generator: seed,
-        };
-        schedule.draw()
+        }
     }
 
-    // The schedule with a node drawn.
-    fn draw(self) -> Self
-        ensures { result ≡ random_turn self }
+    // The generator's next word.
+    pub(crate) fn word(&self) -> u64
+        ensures { result ≡ (mix_u64 self.now.generator).0 }
     {
-        let (word, generator) = drawn_word(self.generator);
-        Schedule {
-            order: self.order,
-            turn: node_at(word),
-            generator,
+        drawn_word(self.generator).0
+    }
+
+    // Whether nodes are drawn.
+    pub(crate) fn draws(&self) -> bool
+        ensures { result ≡ is_random self.now.order }
+    {
+        match self.order {
+            Order::Rounds => false,
+            Order::Greedy => false,
+            Order::Random => true,
         }
     }
 
     // The schedule after an event that this node made.
-    pub(crate) fn turn_after(self, node: NodeId) -> Self
+    #[inline(always)]
+    pub(crate) fn turn_after(self, node: NodeId, draws: bool) -> Self
+        requires { draws ≡ is_random self.order }
         ensures { result ≡ turn_after self node }
     {
-        match self.order {
-            Order::Rounds => Schedule {
-                turn: following(node),
+        if draws {
+            return Schedule {
+                generator: drawn_word(self.generator).1,
                 ..self
-            },
-            Order::Greedy => Schedule { turn: node, ..self },
-            Order::Random => self.draw(),
+            };
         }
+        let turn = match self.order {
+            Order::Rounds => following(node),
+            Order::Greedy => node,
+            Order::Random => node,
+        };
+        Schedule { turn, ..self }
     }
 }

@@ -5,10 +5,11 @@ ghost use Rattle.ga_event.specs.Apply.{replay};
 ghost use Rattle.ga_lab.specs.Machine.{chip_of};
 ghost use Rattle.ga_scheduler.specs.declared.condition.Condition.TheVariants.{Writes};
 ghost use Rattle.ga_scheduler.specs.Conditions.{holds};
-ghost use Rattle.ga_scheduler.specs.inner.{HoldsReady, IsAlone};
+ghost use Rattle.ga_scheduler.specs.inner.{HoldsReady, IsKnown, is_random};
 ghost use Rattle.ga_scheduler.specs.Running.{running};
 ghost use Rattle.ga_scheduler.specs.Watched.{IsNewestMade, chosen_first, told_first, first_moved, after_first, AreMadeFirst, watching, watch_after, IsHaltedFirst, IsNewestSeen, HasEndedWatched};
 
+use crate::drawing::Known;
 use crate::edges::writes;
 use crate::numbers::NumberSet;
 use crate::ready::{next_from, ready_nodes};
@@ -46,25 +47,27 @@ pub struct WatchedRun {
 #[inline(always)]
 fn next_first(
     ready: &NumberSet,
-    alone: &mut Option<NodeId>,
+    known: &mut Known,
     first: Option<NodeId>,
     schedule: &Schedule,
     lab: &Lab,
+    draws: bool,
 ) -> Option<NodeId>
     requires ready { HoldsReady (chip_of lab.now) ready.now }
-    requires alone { IfSome alone.old (IsAlone ready.now) }
+    requires known { IsKnown ready.now known.old }
+    requires draws { draws ≡ is_random schedule.now.order }
     ensures chosen { result ≡ chosen_first first (running lab.now schedule.now) }
-    ensures alone { IfSome alone.new (IsAlone ready.now) }
+    ensures known { IsKnown ready.now known.new }
 {
     match first {
         Some(node) => {
             if ready.has(node.number) {
                 Some(node)
             } else {
-                next_from(ready, alone, schedule.turn)
+                next_from(ready, known, schedule, draws)
             }
         }
-        None => next_from(ready, alone, schedule.turn),
+        None => next_from(ready, known, schedule, draws),
     }
 }
 
@@ -73,25 +76,28 @@ fn next_first(
 fn go(
     lab: &mut Lab,
     ready: &mut NumberSet,
-    alone: &mut Option<NodeId>,
+    known: &mut Known,
     first: Option<NodeId>,
     schedule: &mut Schedule,
+    draws: bool,
 ) -> Result<Made, WatchedEnd>
     requires ready { HoldsReady (chip_of lab.old) ready.old }
-    requires alone { IfSome alone.old (IsAlone ready.old) }
+    requires known { IsKnown ready.old known.old }
     requires replays { IsSome (replay lab.old.load lab.old.kept) }
+    requires draws { draws ≡ is_random schedule.old.order }
     ensures told { IfOk result (λ made. told_first first (running lab.old schedule.old) ≡ Some made) }
     ensures moved { OnOk result (running lab.new schedule.new ≡ first_moved first (running lab.old schedule.old)) }
     ensures ready { OnOk result (HoldsReady (chip_of lab.new) ready.new) }
-    ensures alone { OnOk result (IfSome alone.new (IsAlone ready.new)) }
+    ensures known { OnOk result (IsKnown ready.new known.new) }
+    ensures draws { draws ≡ is_random schedule.new.order }
     ensures newest { IfOk result (λ made. IsNewestMade lab.new made) }
     ensures replays { OnOk result (IsSome (replay lab.new.load lab.new.kept)) }
     ensures halted { IfErr result (IsHaltedFirst first (running lab.old schedule.old)) }
     ensures same { OnErr result (lab.new ≡ lab.old) }
     ensures stays { OnErr result (schedule.new ≡ schedule.old) }
 {
-    match next_first(ready, alone, first, schedule, lab) {
-        Some(node) => match make(lab, ready, alone, schedule, node, true) {
+    match next_first(ready, known, first, schedule, lab, draws) {
+        Some(node) => match make(lab, ready, known, schedule, node, true, draws) {
             Ok(made) => Ok(made),
             Err(why) => Err(WatchedEnd::Refused(why)),
         },
@@ -117,10 +123,11 @@ pub fn run_watched<W: StopCondition>(
     ensures end { HasEndedWatched (watching first W.ends W.seen) watch.old (running lab.old schedule) most result.events result.end }
 {
     let mut ready = ready_nodes(lab.chip());
-    let mut alone = None;
+    let mut known = Known::nothing();
+    let draws = schedule.draws();
     let mut events = 0;
     while events < most {
-        match go(lab, &mut ready, &mut alone, first, &mut schedule) {
+        match go(lab, &mut ready, &mut known, first, &mut schedule, draws) {
             Ok(made) => {
                 events += 1;
                 if watch.sees(&made, lab) {

@@ -52,7 +52,6 @@ impl Needs {
             Condition::Writes { .. } => self.with_opcodes(STORES),
             Condition::Steps { .. } => self.with_opcodes(ALL),
             Condition::Holds { .. } => self.with_opcodes(ALL),
-            Condition::ComesTo { .. } => self.with_opcodes(ALL),
             _ => self,
         }
     }

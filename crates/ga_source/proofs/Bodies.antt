@@ -7,14 +7,13 @@ use Rattle.ga_parser.specs.inner.Drafting.{texts_of}
 use Rattle.std.specs.Prelude.{codes, map}
 use Rattle.std.proofs.lemmas.Bool.{cases_Bool}
 use Rattle.ga_grid.specs.Grid.{node_number}
-use Rattle.ga_parser.specs.Plain.{Plain, is_node, body_in, bodies_in, yxx_in, plain_of, asked_by, texts_in, words_in}
+use Rattle.ga_parser.specs.Plain.{Plain, is_node, body_in, bodies_in, yxx_in, plain_of, asked_by, texts_in}
 use Rattle.ga_source.specs.Programs.{IsOf, AreOf, said_body, said_bodies, AsksFor, IsAsked, AreAskedBy}
-use Rattle.ga_parser.specs.Saying.{said_in, token_contents, TokenContent, next_line}
+use Rattle.ga_parser.specs.Saying.{token_contents, TokenContent, next_line}
 use Rattle.ga_parser.proofs.Hearing.{same_text}
 use Rattle.ga_parser.proofs.PlainAsked.{map_map}
 use Rattle.ga_source.specs.inner.{AreOfFirst, AreAskedFirst}
-use Rattle.ga_parser.specs.declared.fault.Fault.{Fault}
-use Rattle.ga_source.specs.Recovery.{place_of_token, first_gone, back, without_at, with_line, with_numbers, mended, without_token}
+use Rattle.ga_source.specs.Recovery.{with_line, with_numbers}
 
 -- ---- up to the next `node`
 
@@ -150,10 +149,6 @@ one_more_read words behind body d first name count program programs after all tw
 
 -- ---- a source
 
--- the words of the tokens are those of the source
-pub words_told : (source : List ℕ) (tokens : List Token) → token_contents tokens ≡ said_in source → texts_of tokens ≡ words_in source
-words_told source tokens e = sym (map_map tokens) ∙ ap (map (λ said. said.text)) e
-
 -- none is read
 pub none_read : (words : List Token) (programs : List Program) → programs ≡ [] → AreOfFirst (bodies_in (texts_in (token_contents words))) programs (bodies_in (texts_of words))
 unfolding AreOfFirst
@@ -263,29 +258,3 @@ one_numbered words k number d one before new all within is pushed e =
 pub all_numbered : (number : ℕ) (left before all : List Token) → left ≡ [] → before ++ with_numbers number left ≡ all → before ≡ all
 unfolding with_numbers
 all_numbered number left before all none e = sym (append-nil before) ∙ (ap (λ (l : List Token). before ++ with_numbers number l) (sym none) ∙ e)
-
--- ---- faults
-
--- what is left of words: those before the first that is removed, and those after the last
-pub left_words : (words : List Token) (number at first : ℕ) (start front rest one two : List Token) → start ≡ [] → at ≡ place_of_token number words → first ≡ first_gone words at → front ≡ take first words → rest ≡ back words first at
-    → one ≡ start ++ front → two ≡ one ++ rest → two ≡ without_token words number
-unfolding without_token
-left_words words number at first start front rest one two none is_at is_first is_front is_rest begun ended =
-    ended
-    ∙ (ap (λ (l : List Token). l ++ rest) (begun ∙ (ap (λ (l : List Token). l ++ front) none ∙ is_front))
-    ∙ (ap (λ (l : List Token). take first words ++ l) is_rest
-    ∙ (ap (λ (f : ℕ). take f words ++ back words f at) is_first ∙ ap (without_at words) is_at)))
-
--- one fault more
-pub one_mended : (words : List Token) (faults : List Fault) (fault : Fault) → mended words (faults ++ fault ∷ []) ≡ without_token (mended words faults) fault.line
-unfolding mended
-one_mended words [] fault = refl
-one_mended words (first ∷ faults) fault = one_mended (without_token words first.line) faults fault
-
-pub next_mended : (words kept left : List Token) (faults new : List Fault) (fault : Fault) → kept ≡ mended words faults → left ≡ without_token kept fault.line → new ≡ faults ++ fault ∷ [] → left ≡ mended words new
-next_mended words kept left faults new fault before gone pushed =
-    gone ∙ (ap (λ (l : List Token). without_token l fault.line) before ∙ (sym (one_mended words faults fault) ∙ ap (mended words) (sym pushed)))
-
-pub none_mended : (words kept : List Token) (faults : List Fault) → kept ≡ words → faults ≡ [] → kept ≡ mended words faults
-unfolding mended
-none_mended words kept faults same none = same ∙ ap (mended words) (sym none)

@@ -10,3 +10,4 @@ pub mod Making
 pub mod PlainNodes
 pub mod Bodies
 pub mod Storing
+pub mod Recovering

@@ -7,7 +7,7 @@ use Rattle.ga_grid.proofs.Chips.{record_at-records_of, node_at-default_chip}
 use Rattle.ga_source.specs.declared.program.Program.{Program}
 use Rattle.ga_source.specs.Programs.{KeepsState, IsAssembled, given_of, value_or, is_item, has_cells, or_start, at_load, HasProgram, IsLoaded, IsUnnamed, IsOf, AreOf, AreRead, said_bodies, AreAskedBy, AreAsked}
 use Rattle.std.specs.Prelude.{is_none, ◌||◌, codes, bytes_eq, if◌then◌else◌, Result, Ok, Err, IfOk, IfErr}
-use Rattle.std.specs.List.{All, list_any}
+use Rattle.std.specs.List.{All, list_any, list_all}
 use Rattle.std.proofs.lemmas.Bool.{cases_Bool, and_parts, ltb-true}
 use Rattle.std.proofs.lemmas.List.{length-replicate, ext_get_or}
 use Rattle.std.proofs.lemmas.List.Elements.{All-nil, All-cons, All-head, All-tail}
@@ -28,7 +28,7 @@ use Rattle.ga_parser.specs.Vocabulary.{number_by_word}
 use Rattle.ga_source.specs.Cells.{is_asked, IsEmptyElsewhere}
 use Rattle.ga_source.specs.Reading.{begin_at, resolved}
 use Rattle.ga_parser.specs.Plain.{Plain, no_request, by_number, only_if, is_cell, may_be, with_two_words, plain_from, plain_of, value_in, asked_by, words_in, bodies_in, yxx_in, texts_in}
-use Rattle.ga_source.specs.Made.{with_cell, with_asked, address_behind, with_requests, number_or, plain_node, IsNode, HasPlain, IsChipOfSource, IsSoundSource}
+use Rattle.ga_source.specs.Made.{with_cell, with_asked, address_behind, with_requests, number_or, plain_node, IsNode, HasPlain, IsChipOfSource, IsSoundSource, HasWords}
 use Rattle.ga_source.specs.inner.{requests_of, ArePlain, IsNumber, AreNumbers, KeepsRest}
 use Rattle.ga_source.proofs.Loaded.{of_each_at_load, assembled_empty}
 use Rattle.ga_parser.proofs.Hearing.{some_same, no_some, allowed, number_asks}
@@ -37,7 +37,7 @@ use Rattle.ga_parser.specs.declared.fault.Fault.{Fault}
 use Rattle.ga_parser.specs.declared.fault.SourceCause.TheVariants.{Memory}
 use Rattle.ga_source.specs.declared.program.Assembled.{Assembled}
 use Rattle.ga_parser.specs.declared.scan.Token.{Token}
-use Rattle.ga_parser.specs.Saying.{TokenContent, said_in, token_contents}
+use Rattle.ga_parser.specs.Saying.{TokenContent, said_in, token_contents, is_word}
 
 -- ---- A chip with programs is steady: none of its nodes waits
 
@@ -327,9 +327,9 @@ pub read_of_words : (source : List ℕ) (words : List Token) (result : Result As
 read_of_words source words result e read = subst (λ (said : List TokenContent). IfOk result (λ all. AreOf (bodies_in (texts_in said)) all.programs.items)) (sym e) read
 
 pub refused_of_words : (source : List ℕ) (words : List Token) (result : Result Assembled Fault) → said_in source ≡ token_contents words
-    → IfErr result (λ fault. (other : List ℕ) → said_in other ≡ token_contents words → IsSoundSource other → fault.cause ≡ Memory) → IfErr result (λ fault. IsSoundSource source → fault.cause ≡ Memory)
+    → IfErr result (λ fault. (other : List ℕ) → HasWords other (token_contents words) → IsSoundSource other → fault.cause ≡ Memory) → IfErr result (λ fault. IsSoundSource source → fault.cause ≡ Memory)
 refused_of_words source words (Ok all) e refused = refused
-refused_of_words source words (Err fault) e refused = refused source e
+refused_of_words source words (Err fault) e refused = refused source (ap texts_in (sym e), ap (list_all is_word) (sym e))
 
 pub made_of_source : (source : List ℕ) (result : Result Assembled Fault) → IfOk result (λ all. AreRead source all.programs.items)
     → IfOk result (λ all. IsAssembled all.chip all.programs.items) → IfOk result (λ all. IsChipOfSource source all.chip)

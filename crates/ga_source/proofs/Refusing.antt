@@ -7,13 +7,16 @@ use Rattle.std.proofs.lemmas.List.Elements.{All-nil, All-cons, All-head, All-tai
 use Rattle.ga_parser.specs.declared.scan.TokenKind.{TokenKind}
 use Rattle.ga_parser.specs.declared.scan.TokenKind.TheVariants.{Word, LongLine, OpenComment}
 use Rattle.ga_parser.specs.declared.scan.Token.{Token}
-use Rattle.ga_parser.specs.Saying.{is_word, is_word_kind, said_in, token_contents}
+use Rattle.ga_parser.specs.Saying.{TokenContent, is_word, is_word_kind, said_in, all_in, token_contents, up_to_fault, next_line}
 use Rattle.ga_grid.specs.Grid.{node_number}
-use Rattle.ga_parser.specs.Plain.{Plain, is_node, body_in, bodies_in, yxx_in, words_in, plain_of}
-use Rattle.ga_source.specs.Made.{cells_from, AreDistinctCells, IsSoundBody, IsSoundSource}
+use Rattle.ga_parser.specs.Plain.{Plain, is_node, body_in, bodies_in, yxx_in, words_in, texts_in, plain_of}
+use Rattle.std.specs.Prelude.{◌&&◌, if◌then◌else◌}
+use Rattle.ga_parser.proofs.PlainAsked.{map_map}
+use Rattle.ga_source.specs.Made.{cells_from, AreDistinctCells, IsSoundBody, IsSoundSource, HasWords}
+use Rattle.ga_source.specs.Recovery.{with_numbers}
 use Rattle.ga_parser.specs.inner.Drafting.{texts_of}
 use Rattle.ga_source.specs.inner.{AreSound, IsSoundFrom}
-use Rattle.ga_source.proofs.Bodies.{no_number, drop_twice, words_told}
+use Rattle.ga_source.proofs.Bodies.{no_number, drop_twice}
 
 -- ---- the node that comes first
 
@@ -118,14 +121,41 @@ begun_none k = elim (cases_lt k 144) [
 pub none_there : (begun : List Bool) → begun ≡ replicate 144 false → (n : ℕ) → slice_index_or begun n false ≡ false
 none_there begun is n = ap (λ (list : List Bool). slice_index_or list n false) is ∙ begun_none n
 
-pub source_sound : (words : List Token) (begun : List Bool) → ((n : ℕ) → slice_index_or begun n false ≡ false) → (source : List ℕ) → said_in source ≡ token_contents words → IsSoundSource source → IsSoundFrom begun words
-source_sound words begun none source told sound =
-    let texts : texts_of words ≡ words_in source = words_told source words (sym told) in
+pub source_sound : (words : List Token) (begun : List Bool) → ((n : ℕ) → slice_index_or begun n false ≡ false) → (source : List ℕ) → HasWords source (token_contents words) → IsSoundSource source → IsSoundFrom begun words
+source_sound words begun none source has sound =
+    let texts : texts_of words ≡ words_in source = sym (map_map words) ∙ has.0 in
     record {
-      kinds = kinds_are words (ap (list_all is_word) (sym told) ∙ sound.whole);
+      kinds = kinds_are words (has.1 ∙ sound.whole);
       begins = ap body_in texts ∙ sound.begins;
       bodies = subst (λ (list : List (List ℕ)). AreSound begun (bodies_in list)) (sym texts) (record { each = sound.bodies; apart = sound.apart; fresh = λ k n within is. none n });
     }
+
+-- ---- words with numbers in place of their lines
+
+texts_numbered : (number : ℕ) (words : List Token) → texts_in (token_contents (with_numbers number words)) ≡ texts_in (token_contents words)
+unfolding with_numbers
+texts_numbered number [] = refl
+texts_numbered number (word ∷ words) = ap (λ (texts : List (List ℕ)). word.text.now ∷ texts) (texts_numbered (next_line number) words)
+
+kinds_numbered : (number : ℕ) (words : List Token) → list_all is_word (token_contents (with_numbers number words)) ≡ list_all is_word (token_contents words)
+unfolding with_numbers
+kinds_numbered number [] = refl
+kinds_numbered number (word ∷ words) = ap (λ (b : Bool). is_word_kind word.kind && b) (kinds_numbered (next_line number) words)
+
+-- without a fault all words are read
+no_fault : (all : List TokenContent) → list_all is_word (up_to_fault all) ≡ true → up_to_fault all ≡ all
+unfolding up_to_fault
+no_fault [] whole = refl
+no_fault (said ∷ rest) whole =
+    let parts = and_parts (is_word said) (list_all is_word (if is_word said then up_to_fault rest else [])) whole in
+    let taken : (if is_word said then up_to_fault rest else []) ≡ up_to_fault rest = rw parts.0 refl in
+    ap (λ (l : List TokenContent). said ∷ l) (taken ∙ no_fault rest (ap (list_all is_word) (sym taken) ∙ parts.1))
+
+pub numbered_words : (words : List Token) (source : List ℕ) → token_contents words ≡ all_in source → IsSoundSource source → HasWords source (token_contents (with_numbers 1 words))
+unfolding said_in
+numbered_words words source said sound =
+    let whole : said_in source ≡ token_contents words = no_fault (all_in source) sound.whole ∙ sym said in
+    (texts_numbered 1 words ∙ ap texts_in (sym whole), kinds_numbered 1 words ∙ ap (list_all is_word) (sym whole))
 
 -- ---- why the node that comes first is never refused
 

@@ -14,8 +14,8 @@ use Rattle.ga_parser.specs.declared.item.Item.TheVariants.{Cell}
 use Rattle.ga_parser.specs.declared.item.Request.{Request}
 use Rattle.ga_parser.specs.declared.item.Request.TheVariants.{Put, Go}
 use Rattle.ga_source.specs.Programs.{is_item}
-use Rattle.ga_parser.specs.Plain.{Plain, words_in, bodies_in, yxx_in, plain_of, body_in}
-use Rattle.ga_parser.specs.Saying.{is_word, said_in}
+use Rattle.ga_parser.specs.Plain.{Plain, words_in, texts_in, bodies_in, yxx_in, plain_of, body_in}
+use Rattle.ga_parser.specs.Saying.{TokenContent, is_word, said_in}
 
 -- ---- cells
 
@@ -115,3 +115,7 @@ pub record IsSoundSource (source : List ℕ) : Type 0 where
   pub begins : body_in (words_in source) ≡ []
   pub bodies : All IsSoundBody (bodies_in (words_in source))
   pub apart : (j k : ℕ) → j < k → k < length (bodies_in (words_in source)) → node_number_of_words (bodies_in (words_in source)) j ≢ node_number_of_words (bodies_in (words_in source)) k
+
+-- These are the words of the source, on any lines.
+abbrev pub HasWords : List ℕ → List TokenContent → Type 0
+HasWords source said = (texts_in said ≡ words_in source) × (list_all is_word said ≡ list_all is_word (said_in source))

@@ -1,5 +1,5 @@
 -- Requests laid out in cells: what is read of a group, and where the walk through the requests is. Plain requests as groups.
-use Rattle.std.specs.Prelude.{Bool, true, false, List, [], ◌∷◌, ℕ, ◌≡◌, ◌≢◌, ◌<◌, ◌⊎◌, ◌||◌, Option, Some, None, length, take, slice_index_or, suc, ◌++◌, ◌+◌, ◌%◌, ◌-◌, ◌≤◌, ◌^◌, map}
+use Rattle.std.specs.Prelude.{if◌then◌else◌, drop, Bool, true, false, List, [], ◌∷◌, ℕ, ◌≡◌, ◌≢◌, ◌<◌, ◌⊎◌, ◌||◌, Option, Some, None, length, take, slice_index_or, suc, ◌++◌, ◌+◌, ◌%◌, ◌-◌, ◌≤◌, ◌^◌, map}
 use Rattle.ga_slots.specs.declared.op.Op.{Op}
 use Rattle.ga_slots.specs.declared.op.Op.TheVariants.{FetchP, Nop, Return}
 use Rattle.ga_parser.specs.declared.item.Item.{Item}
@@ -24,6 +24,10 @@ use Rattle.ga_source.specs.Made.{address_behind, cells_from, cell_of, node_numbe
 use Rattle.ga_source.specs.declared.program.Program.{Program}
 use Rattle.ga_source.specs.Programs.{IsAssembled, IsOf, IsAsked}
 use Rattle.ga_parser.specs.Saying.{TokenContent}
+use Rattle.ga_parser.specs.declared.fault.Fault.{Fault}
+use Rattle.ga_parser.specs.Asking.{Refusal}
+use Rattle.ga_parser.specs.Requests.{word_refusal}
+use Rattle.ga_source.specs.Recovery.{is_begin, node_by, from_next, AreFaultsOfNodes}
 use Rattle.ga_parser.specs.declared.scan.TokenKind.TheVariants.{Word}
 use Rattle.ga_parser.specs.declared.scan.Token.{Token}
 use Rattle.ga_parser.specs.Plain.{body_in, bodies_in}
@@ -391,3 +395,38 @@ pub record IsSoundFrom (begun : List Bool) (words : List Token) : Type 0 where
   pub kinds : All (λ token. token.kind ≡ Word) words
   pub begins : body_in (texts_of words) ≡ []
   pub bodies : AreSound begun (bodies_in (texts_of words))
+
+-- ---- the faults of nodes, as they are added
+
+-- new faults come after the old ones, and are these
+pub record Adds (AreNew : List Fault → Type 0) (old new : List Fault) : Type 0 where
+  pub own : List Fault
+  pub all : new ≡ old ++ own
+  pub are : AreNew own
+
+-- or some
+abbrev pub AreAny : List Fault → Type 0
+AreAny faults = Unit {0}
+
+-- or they are refused so
+abbrev pub AreRefused : List Refusal → List Fault → Type 0
+AreRefused refusals faults = map word_refusal faults ≡ refusals
+
+-- the number of words with which a node begins, or a word in the place of `node`
+abbrev pub head_of : List TokenContent → ℕ
+head_of (first ∷ name ∷ words) = if is_begin first then 2 else 1
+head_of (first ∷ []) = 1
+head_of [] = 1
+
+-- no node begins: the fault is added to those of the words from the next `node` on
+abbrev pub Skips : List Bool → List TokenContent → Fault → Type 0
+Skips begun words fault = (rest : List Fault) → AreFaultsOfNodes begun (from_next (drop (head_of words) words)) rest → AreFaultsOfNodes begun words (fault ∷ rest)
+
+-- a node begins that hadn't begun
+abbrev pub IsBegun : List Bool → List TokenContent → ℕ → Type 0
+IsBegun begun (first ∷ name ∷ words) n = (is_begin first ≡ true) × (node_by name ≡ Some n) × (slice_index_or begun n false ≡ false)
+IsBegun begun _ n = ⊥
+
+-- faults were added that come before those of the words that are left
+abbrev pub Recovers : List Bool → List TokenContent → List Bool → List TokenContent → List Fault → List Fault → Type 0
+Recovers begun words after left old new = Adds (λ own. (rest : List Fault) → AreFaultsOfNodes after left rest → AreFaultsOfNodes begun words (own ++ rest)) old new

@@ -19,5 +19,8 @@ pub use ga_parser::{
 };
 pub use group::Group;
 pub use program::{Assembled, Program, assemble, assemble_words};
-pub use recovery::{MAX_FAULTS, PartialAssembly, assemble_by_word_number, assemble_with_recovery};
+pub use recovery::{
+    RecoveredSource, all_faults, assemble_by_word_number, fault_on_line, faults_on_lines,
+    line_of_number, or_first, recover_words,
+};
 pub use stores::{Store, stores_over_code};

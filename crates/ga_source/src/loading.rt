@@ -1,11 +1,12 @@
 //! Groups loaded into a node.
 
 ghost use Rattle.std.specs.Prelude.{◌≡◌, ◌≢◌, ◌-◌, ◌%◌, ◌<◌, ◌≤◌, ◌^◌, ℕ, Some, true, false, List, [], ◌∷◌, length, replicate, slice_index_or, slice_set, OnOk, OnErr, IsOk, IfSome, IsSome};
+ghost use Rattle.std.specs.List.{All};
 ghost use Rattle.ga_node.specs.State.{with_value, HasMemory};
 ghost use Rattle.ga_slots.specs.Codes.{code_of};
 ghost use Rattle.ga_slots.specs.Slots.{opcode as opcode_of, target as target_of};
 ghost use Rattle.ga_source.specs.Reading.{begin_at as begin_of, ends_cell, follows as follows_of, reaches as reaches_to, resolved, word_in};
-ghost use Rattle.ga_source.specs.inner.{IsFitGroup, IsLaidOut, takes_group, HasItem, HasRest, Holds, HoldsRest, IsLoadedGroup, IsMemory, IsWordOf, Keeps, Leads, MayEnd, IsCell, KeepsRest, op_in, nothing, IsCellGroup, AreCellGroups, AreWords};
+ghost use Rattle.ga_source.specs.inner.{IsFitGroup, IsLaidOut, takes_group, HasItem, HasRest, Holds, HoldsRest, IsLoadedGroup, IsMemory, IsWordOf, Keeps, Leads, MayEnd, IsCell, KeepsRest, op_in, nothing, IsCellGroup, AreCellGroups, AreWords, Adds, AreAny};
 ghost use Rattle.ga_parser.specs.declared.item.Operand.{Operand as ValueOf};
 ghost use Rattle.ga_source.specs.Made.{IsMemoryAddress, AreDistinctCells};
 ghost use Rattle.ga_source.specs.Cells.{KeepsElsewhere, is_asked, is_at, takes};
@@ -15,8 +16,10 @@ use super::packing::PackedNode;
 use super::reading::{begin_at, reaches, resolve, spot_after};
 use ga_node::{Node, Place};
 use ga_parser::{Fault, Item, LocatedRequest, Operand, SourceCause, fault_at};
+use ga_ports::advance_p;
 use ga_slots::{Op, encode};
 use ga_word::Word18;
+use std::alloc::{AllocError, Global};
 
 /// The addresses of cells are below this.
 const CELLS: usize = 192;
@@ -302,4 +305,82 @@ pub(crate) fn load(
         write_group(node, &mut given, labels, group)?;
     }
     Ok(())
+}
+
+/// Whether a cell is past the end of memory.
+fn is_past(fault: Option<Fault<'_>>) -> bool {
+    match fault {
+        Some(
+            Fault {
+                line: _,
+                cause: SourceCause::Past(_),
+            },
+        ) => true,
+        _ => false,
+    }
+}
+
+/// The address of the next cell after a group, without bit 9.
+fn next_cell_of(group: &Group) -> u32 {
+    let mut p = advance_p(group.address);
+    for item in &group.items {
+        if let Item::Literal(_) = item {
+            p = advance_p(p);
+        }
+    }
+    p % 512
+}
+
+/// Loads a group into a node, or adds its first fault and returns it.
+#[tactic(auto, using(crate::proofs::Recovering::any_none, crate::proofs::Recovering::any_more))]
+fn load_group<'s>(
+    node: &mut Node,
+    given: &mut [Option<u32>],
+    labels: &[Option<u32>],
+    group: &Group,
+    faults: &mut Vec<Fault<'s>>,
+) -> Result<Option<Fault<'s>>, AllocError>
+    requires { IsFitGroup labels.now group.now }
+    ensures { OnOk result (Adds AreAny faults.old.items faults.new.items) }
+{
+    match write_group(node, given, labels, group) {
+        Ok(()) => Ok(None),
+        Err(fault) => {
+            faults.push(fault)?;
+            Ok(Some(fault))
+        }
+    }
+}
+
+/// Loads the packed groups that aren't at fault into a node, and adds the first fault of each other one. Groups that continue after one past
+/// the end of memory are left out without a fault. Returns which groups were loaded.
+#[tactic(auto, using(crate::proofs::Recovering::any_none, crate::proofs::Recovering::any_both))]
+pub(crate) fn load_left<'s>(
+    alloc: Global,
+    node: &mut Node,
+    packed: &PackedNode,
+    faults: &mut Vec<Fault<'s>>,
+) -> Result<Vec<bool>, AllocError>
+    requires { All (IsFitGroup packed.now.labels.items) packed.now.groups.items }
+    ensures { OnOk result (Adds AreAny faults.old.items faults.new.items) }
+{
+    let labels = packed.labels.as_slice();
+    let mut given = none_given();
+    let mut loaded = Vec::new(alloc);
+    let mut past = None;
+    for group in &packed.groups {
+        if past == Some(group.address % 512) {
+            past = Some(next_cell_of(group));
+            loaded.push(false)?;
+            continue;
+        }
+        let fault = load_group(node, &mut given, labels, group, faults)?;
+        past = if is_past(fault) {
+            Some(next_cell_of(group))
+        } else {
+            None
+        };
+        loaded.push(fault.is_none())?;
+    }
+    Ok(loaded)
 }

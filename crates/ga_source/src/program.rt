@@ -1,15 +1,17 @@
 //! A text as a chip.
 
-ghost use Rattle.std.specs.Prelude.{ℕ, ◌≡◌, ◌≤◌, ◌<◌, true, false, List, [], length, replicate, take, drop, codes, position, Some, IfOk, IfErr, OnOk, OnErr, IfSome};
+ghost use Rattle.std.specs.Prelude.{ℕ, ◌≡◌, ◌≤◌, ◌<◌, true, false, List, [], ◌∷◌, length, replicate, take, drop, codes, position, Some, IfOk, IfErr, OnOk, OnErr, IfSome};
 ghost use Rattle.std.specs.List.{All};
 ghost use Rattle.ga_grid.specs.Chip.{records_of, AreSteady};
 ghost use Rattle.ga_source.specs.Programs.{given_of, with_registers, has_cells as has_cells_of, is_item as is_item_of, start_of as start, is_named, at_load, HasProgram, IsAssembled, AreOf, AreRead, said_body, said_bodies, AsksFor, AreAskedBy, AreAsked};
 ghost use Rattle.ga_source.specs.Cells.{IsEmptyElsewhere, HasGroups};
 ghost use Rattle.ga_grid.specs.Grid.{number_where_any};
 ghost use Rattle.ga_parser.specs.Plain.{Plain, is_node as is_node_word, body_in, bodies_in, yxx_in, texts_in, plain_of, value_in, asked_by};
-ghost use Rattle.ga_parser.specs.Saying.{token_contents, said_in, TokenContent};
+ghost use Rattle.ga_parser.specs.Requests.{word_refusal};
+ghost use Rattle.ga_parser.specs.Saying.{token_contents, TokenContent};
+ghost use Rattle.ga_source.specs.Recovery.{operand_name, given_refusals};
 ghost use Rattle.ga_parser.specs.Vocabulary.{bound_of};
-ghost use Rattle.ga_source.specs.Made.{IsChipOfSource, AreDistinctCells, cells_from, IsSoundSource};
+ghost use Rattle.ga_source.specs.Made.{IsChipOfSource, AreDistinctCells, cells_from, IsSoundSource, HasWords};
 ghost use Rattle.ga_parser.specs.declared.fault.SourceCause.TheVariants.{Memory};
 ghost use Rattle.ga_parser.specs.declared.scan.TokenKind.TheVariants.{Word};
 ghost use Rattle.ga_source.specs.inner.{IsSoundFrom, IsNumber, AreNumbers, AreLoaded, AreOfFirst, AreAskedFirst};
@@ -28,7 +30,7 @@ use ga_parser::{
 use std::alloc::Global;
 
 /// The node of a name of three digits.
-fn node_named(text: &[u8]) -> Option<NodeId>
+pub(crate) fn node_named(text: &[u8]) -> Option<NodeId>
     ensures { number_where_any result ≡ yxx_in text.now }
 {
     NodeId::from_yxx(node_number(text)?)
@@ -42,7 +44,7 @@ pub(crate) fn is_node(text: &[u8]) -> bool
 }
 
 /// How many words stand before the next word `node`.
-fn body_length(tokens: &[Token]) -> usize
+pub(crate) fn body_length(tokens: &[Token]) -> usize
     ensures in_range { result ≤ length tokens.now }
     ensures front { texts_of (take result tokens.now) ≡ body_in (texts_of tokens.now) }
     ensures behind { bodies_in (texts_of (drop result tokens.now)) ≡ bodies_in (texts_of tokens.now) }
@@ -114,7 +116,9 @@ fn registers_of(given: Registers, labels: &[Label<'_>], has_cells: bool) -> Regi
 }
 
 /// The label's name, where the value is a label's address.
-fn name_of<'s>(names: &[Label<'s>], value: Operand) -> &'s [u8] {
+fn name_of<'s>(names: &[Label<'s>], value: Operand) -> &'s [u8]
+    ensures { result.now ≡ operand_name names.now value }
+{
     match value {
         Operand::Label(label) => match names.get(label) {
             Some(found) => found.name,
@@ -125,7 +129,7 @@ fn name_of<'s>(names: &[Label<'s>], value: Operand) -> &'s [u8] {
 }
 
 /// What a register gets, where it is given: below its bound.
-fn value_given<'s>(
+pub(crate) fn value_given<'s>(
     labels: &[Option<u32>],
     names: &[Label<'s>],
     given: Option<RegisterValue>,
@@ -133,6 +137,8 @@ fn value_given<'s>(
 ) -> Result<Option<u32>, Fault<'s>>
     ensures in_range { IfOk result (λ found. IfSome found (λ value. value < bound_of register)) }
     ensures value { IfOk result (λ found. found ≡ given_of labels.now given) }
+    ensures right { IfOk result (λ _. given_refusals labels.now names.now register given ≡ []) }
+    ensures wrong { IfErr result (λ fault. given_refusals labels.now names.now register given ≡ word_refusal fault ∷ []) }
     ensures refused { OnErr result (IsNumber (bound_of register) (value_in given) → ⊥) }
 {
     let Some(given) = given else {
@@ -229,7 +235,7 @@ fn assemble_node<'s>(
 }
 
 /// No node has begun.
-fn none_begun() -> [bool; NODES]
+pub(crate) fn none_begun() -> [bool; NODES]
     ensures size { length result ≡ 144 }
     ensures empty { result ≡ replicate 144 false }
 {
@@ -298,7 +304,7 @@ pub fn assemble_words<'s>(alloc: Global, words: &[Token<'s>]) -> Result<Assemble
     ensures read { IfOk result (λ all. AreOf (bodies_in (texts_in (token_contents words.now))) all.programs.items) }
 
     // The words of a source of plain words that give each cell once are refused for want of memory alone.
-    ensures refused { IfErr result (λ fault. (source : List ℕ) → said_in source ≡ token_contents words.now → IsSoundSource source → fault.cause ≡ Memory) }
+    ensures refused { IfErr result (λ fault. (source : List ℕ) → HasWords source (token_contents words.now) → IsSoundSource source → fault.cause ≡ Memory) }
 {
     let mut chip = match Chip::new(alloc) {
         Ok(chip) => chip,

@@ -1,22 +1,34 @@
-//! Words with faults: what can be assembled of them all the same.
+//! Words of which some are at fault: all faults, and what the other words give.
 
-ghost use Rattle.std.specs.Prelude.{◌≡◌, ◌≤◌, ◌<◌, length, take, drop, position, slice_index_or, IfOk, IfErr, IfSome, None, true};
+ghost use Rattle.std.specs.Prelude.{◌≡◌, ◌≤◌, ◌<◌, ◌++◌, ◌∷◌, [], ℕ, List, true, false, length, map, drop, take, slice_index_or, slice_set, IfOk, IfErr, OnOk, Some, Err};
+ghost use Rattle.ga_grid.specs.Grid.{number_where_any};
 ghost use Rattle.ga_parser.specs.declared.fault.SourceCause.TheVariants.{Memory};
-ghost use Rattle.ga_source.specs.Recovery.{is_numbered as has_number, place_in as place_of_found, place_of_token as place_by, begins_node, token_text as text_by, is_leading as leads_to, first_gone as first_of, behind_gone as behind_of, is_head as is_head_of, tokens_past, from_node as node_on, back as back_of, without_token as without_word, with_line, with_numbers, mended, IsAssembledOf};
+ghost use Rattle.ga_parser.specs.Requests.{word_refusal};
+ghost use Rattle.ga_parser.specs.Saying.{token_content, token_contents, all_in};
+ghost use Rattle.ga_source.specs.Made.{IsSoundSource};
+ghost use Rattle.ga_source.specs.Recovery.{with_line, with_numbers, IsAssembledOf, line_of_number, fault_at_line, faults_by_line, given_refusals, register_refusals, AreFaultsOfRequests, AreFaultsOfNode, is_begin, node_by, misplaced as misplaced_at, from_next, AreFaultsOfWords, AreFaultsOfSource, or_first as or_this};
+ghost use Rattle.ga_source.specs.inner.{Adds, AreRefused, head_of, Skips, IsBegun, Recovers};
 
-use super::program::{Assembled, assemble_words, is_node};
-use ga_parser::{Directive, Fault, SourceCause, Token, parse_directive};
+use super::group::Group;
+use super::loading::load_left;
+use super::packing::{PackedNode, pack};
+use super::program::{
+    Assembled, Program, assemble_words, body_length, is_node, node_named, none_begun, value_given,
+};
+use ga_grid::{Chip, NodeId};
+use ga_node::Node;
+use ga_parser::{
+    Fault, Label, NodeRequests, Recovered, Register, RegisterValue, Registers, SourceCause, Token,
+    TokenKind, fault_at, recover_requests, source_words,
+};
 use std::alloc::{AllocError, Global};
 
-/// The most faults of a source that are passed over.
-pub const MAX_FAULTS: usize = 200;
-
-/// What could be assembled of words of which some are at fault.
+/// The programs of words without those at fault, and all faults.
 #[derive(Drop)]
-pub struct PartialAssembly<'s> {
-    /// The chip of the words that are left; none where the faults are as many as are passed over.
-    pub assembled: Option<Assembled<'s>>,
-    /// The faults, in the order in which they were found. The line of each is the number of a word.
+pub struct RecoveredSource<'s> {
+    /// The programs, with the cells that aren't at fault.
+    pub assembled: Assembled<'s>,
+    /// The faults in the order of their words, each with the number of its word in place of the line.
     pub faults: Vec<Fault<'s>>,
 }
 
@@ -45,153 +57,25 @@ fn with_number<'s>(word: &Token<'s>, number: u32) -> Token<'s>
     }
 }
 
-/// Whether the word has this number.
-fn is_numbered(word: &Token<'_>, number: u32) -> bool
-    ensures { result ≡ has_number number word.now }
-{
-    word.line == number
-}
-
-/// A place, or the end where there is none.
-fn place_in(found: Option<usize>, end: usize) -> usize
-    ensures place { result ≡ place_of_found found end }
-    ensures in_range { result ≤ end }
-{
-    match found {
-        Some(at) => at.min(end),
-        None => end,
-    }
-}
-
-/// The first word with this number.
-fn first_numbered(words: &[Token<'_>], number: u32) -> Option<usize>
-    ensures { result ≡ position (has_number number) words.now }
-{
-    words.iter().position(|word| is_numbered(word, number))
-}
-
-/// The place of the word with this number, after all words if none has it.
-fn place_of(words: &[Token<'_>], number: u32) -> usize
-    ensures place { result ≡ place_by number words.now }
-    ensures in_range { result ≤ length words.now }
-{
-    place_in(first_numbered(words, number), words.len())
-}
-
-/// Whether a node begins with the word.
-fn begins(word: &Token<'_>) -> bool
-    ensures { result ≡ begins_node word.now }
-{
-    is_node(word.text)
-}
-
-/// The text of a word, empty where there is none.
-fn text_at<'s>(words: &[Token<'s>], at: usize) -> &'s [u8]
-    ensures { result.now ≡ text_by words.now at }
-{
-    match words.get(at) {
-        Some(word) => word.text,
-        None => &[],
-    }
-}
-
-/// Whether the word takes the next one with it: `node`, or a directive with a name or a value.
-fn leads(text: &[u8]) -> bool
-    ensures { result ≡ leads_to text.now }
-{
-    if is_node(text) {
-        return true;
-    }
-    match parse_directive(text) {
-        Some(Directive::Label) | Some(Directive::Address) | Some(Directive::Register(_)) => true,
-        _ => false,
-    }
-}
-
-/// The place of the first word that is removed with the one at a place.
-fn first_gone(words: &[Token<'_>], at: usize) -> usize
-    ensures first { result ≡ first_of words.now at }
-    ensures in_range { result ≤ at }
-{
-    if at > 0 && leads(text_at(words, at - 1)) {
-        at - 1
-    } else {
-        at
-    }
-}
-
-/// The place after the last word that is removed with the one at a place, within a node.
-fn behind_gone(words: &[Token<'_>], at: usize) -> usize
-    requires { at ≤ length words.now }
-    ensures { result ≡ behind_of words.now at }
-{
-    if text_at(words, at + 1) == b",".as_slice() {
-        at + 2
-    } else {
-        at + 1
-    }
-}
-
-/// Whether the words of a node begin here, or those that stand before each node.
-fn is_head(words: &[Token<'_>], first: usize) -> bool
-    ensures { result ≡ is_head_of words.now first }
-{
-    first == 0 || is_node(text_at(words, first))
-}
-
-/// The words after the first `count`, if there are that many.
-fn words_after<'a, 's>(words: &'a [Token<'s>], count: usize) -> &'a [Token<'s>]
-    ensures { result.now ≡ tokens_past words.now count }
-{
-    words.split_at(count.min(words.len())).1
-}
-
-/// The first word with which a node begins.
-fn first_begin(words: &[Token<'_>]) -> Option<usize>
-    ensures { result ≡ position begins_node words.now }
-{
-    words.iter().position(|word| begins(word))
-}
-
-/// The words from the next `node` on.
-fn from_node<'a, 's>(words: &'a [Token<'s>]) -> &'a [Token<'s>]
-    ensures { result.now ≡ node_on words.now }
-{
-    words.split_at(place_in(first_begin(words), words.len())).1
-}
-
-/// The words after those that are removed with the one at a place.
-fn back<'a, 's>(words: &'a [Token<'s>], first: usize, at: usize) -> &'a [Token<'s>]
-    requires { at ≤ length words.now }
-    ensures { result.now ≡ back_of words.now first at }
-{
-    if !is_head(words, first) {
-        words_after(words, behind_gone(words, at))
-    } else if first == at {
-        from_node(words_after(words, at + 1))
-    } else {
-        from_node(words_after(words, at))
-    }
-}
-
-/// The words without the one of a number and those that go with it.
-#[tactic(auto, using(crate::proofs::Bodies::left_words))]
-fn without<'s>(
+/// The chip of words, with the numbers of words in place of lines.
+#[tactic(auto, using(crate::proofs::Refusing::numbered_words))]
+///
+/// # Errors
+/// A fault of the first node that has one: the first of its words, or else of its names, or else of its cells.
+pub fn assemble_by_word_number<'s>(
     alloc: Global,
     words: &[Token<'s>],
-    number: u32,
-) -> Result<Vec<Token<'s>>, AllocError>
-    ensures { IfOk result (λ left. left.items ≡ without_word words.now number) }
+) -> Result<Assembled<'s>, Fault<'s>>
+    ensures assembled { IfOk result (IsAssembledOf (with_numbers 1 words.now)) }
+
+    // All words of a source of plain words that give each cell once are refused only if memory runs out.
+    ensures refused { IfErr result (λ fault. (source : List ℕ) → token_contents words.now ≡ all_in source → IsSoundSource source → fault.cause ≡ Memory) }
 {
-    let at = place_of(words, number);
-    let first = first_gone(words, at);
-    let mut left = Vec::new(alloc);
-    left.extend_from_slice(words.split_at(first).0)?;
-    left.extend_from_slice(back(words, first, at))?;
-    Ok(left)
+    let numbered = number(alloc, words)?;
+    assemble_words(alloc, numbered.as_slice())
 }
 
-/// Whether memory was refused.
+/// Whether memory ran out.
 fn is_memory(fault: Fault<'_>) -> bool
     ensures { result ≡ true → fault.entry.cause ≡ Memory }
 {
@@ -201,56 +85,404 @@ fn is_memory(fault: Fault<'_>) -> bool
     }
 }
 
-/// The chip of words. A fault's line is the number of a word, from 1 on.
-///
-/// # Errors
-/// A fault of the first node that has one: the first of its words, otherwise of its names, otherwise of its cells.
-pub fn assemble_by_word_number<'s>(
-    alloc: Global,
-    words: &[Token<'s>],
-) -> Result<Assembled<'s>, Fault<'s>>
-    ensures { IfOk result (IsAssembledOf (with_numbers 1 words.now)) }
+/// Adds a fault, unless memory ran out.
+fn add_fault<'s>(faults: &mut Vec<Fault<'s>>, fault: Fault<'s>) -> Result<(), Fault<'s>>
+    ensures added { OnOk result (faults.new.items ≡ faults.old.items ++ fault.entry ∷ []) }
+    ensures refused { IfErr result (λ refused. refused.cause ≡ Memory) }
 {
-    let numbered = number(alloc, words)?;
-    assemble_words(alloc, numbered.as_slice())
+    if is_memory(fault) {
+        return Err(fault);
+    }
+    faults.push(fault)?;
+    Ok(())
 }
 
-/// What can be assembled of words: a word at fault is passed over with those that go with it, and again, until none is at fault.
+/// Whether a program begins with the word.
+fn begins(word: &Token<'_>) -> bool
+    ensures { result ≡ is_begin (token_content word.now) }
+{
+    word.kind == TokenKind::Word && is_node(word.text)
+}
+
+/// The node that a word names.
+fn node_of(name: Token<'_>) -> Option<NodeId>
+    ensures { number_where_any result ≡ node_by (token_content name.entry) }
+{
+    match name.kind {
+        TokenKind::Word => node_named(name.text),
+        TokenKind::LongLine | TokenKind::OpenComment => None,
+    }
+}
+
+/// The fault of a word that can't be in its place, or else of its line.
+fn misplaced<'s>(word: Token<'s>, cause: SourceCause<'s>) -> Fault<'s>
+    ensures { result ≡ misplaced_at (token_content word.entry) cause.entry }
+{
+    let cause = match word.kind {
+        TokenKind::Word => cause,
+        TokenKind::LongLine => SourceCause::LongLine,
+        TokenKind::OpenComment => SourceCause::OpenComment,
+    };
+    Fault {
+        line: word.line,
+        cause,
+    }
+}
+
+/// The node that begins with the first of these words.
 ///
 /// # Errors
-/// Memory was refused.
-pub fn assemble_with_recovery<'s>(
-    alloc: Global,
-    words: &[Token<'s>],
-) -> Result<PartialAssembly<'s>, Fault<'s>>
-    // The chip is that of the words that the faults leave.
-    ensures assembled { IfOk result (λ all. IfSome all.assembled (IsAssembledOf (mended (with_numbers 1 words.now) all.faults.items))) }
-    ensures none { IfOk result (λ all. all.assembled ≡ None → length all.faults.items ≡ 200) }
-    ensures refused { IfErr result (λ fault. fault.cause ≡ Memory) }
+/// The fault, if none begins.
+#[tactic(auto, using(crate::proofs::Recovering::no_begin, crate::proofs::Recovering::no_name, crate::proofs::Recovering::bad_name, crate::proofs::Recovering::begun_again, crate::proofs::Recovering::is_begun))]
+fn node_begun<'s>(begun: &[bool], words: &[Token<'s>]) -> Result<NodeId, Fault<'s>>
+    requires some { 0 < length words.now }
+    requires size { length begun.now ≡ 144 }
+    ensures begun { IfOk result (λ id. IsBegun begun.now (token_contents words.now) id.number) }
+    ensures refused { IfErr result (Skips begun.now (token_contents words.now)) }
 {
-    let mut kept = number(alloc, words)?;
-    let mut faults = Vec::new(alloc);
-    'faults: while faults.len() < MAX_FAULTS {
-        let left = kept.as_slice();
-        match assemble_words(alloc, left) {
-            Ok(assembled) => {
-                return Ok(PartialAssembly {
-                    assembled: Some(assembled),
-                    faults,
-                });
-            }
-            Err(fault) => {
-                if is_memory(fault) {
-                    return Err(fault);
-                }
-                let rest = without(alloc, left, fault.line)?;
-                faults.push(fault)?;
-                kept = rest;
-            }
+    let first = words[0];
+    if !begins(&first) {
+        return Err(misplaced(first, SourceCause::NoNode));
+    }
+    if words.len() < 2 {
+        return Err(misplaced(first, SourceCause::Missing));
+    }
+    let name = words[1];
+    let Some(node) = node_of(name) else {
+        return Err(misplaced(name, SourceCause::NoSuchNode));
+    };
+    if begun[node.index()] {
+        return Err(misplaced(name, SourceCause::NodeTwice));
+    }
+    Ok(node)
+}
+
+/// The number of words with which a node begins: `node` and its name, or a word in the place of `node`.
+#[tactic(auto, using(crate::proofs::Recovering::head_two, crate::proofs::Recovering::head_one, crate::proofs::Recovering::head_last))]
+fn head_length(words: &[Token<'_>]) -> usize
+    requires { 0 < length words.now }
+    ensures count { result ≡ head_of (token_contents words.now) }
+    ensures some { 0 < result }
+    ensures in_range { result ≤ length words.now }
+{
+    if words.len() < 2 {
+        return 1;
+    }
+    if begins(&words[0]) { 2 } else { 1 }
+}
+
+/// The number of words up to the next `node`, if no node begins with the first: the name after a `node` is one of them.
+fn skipped_length(words: &[Token<'_>]) -> usize
+    requires { 0 < length words.now }
+    ensures some { 0 < result }
+    ensures in_range { result ≤ length words.now }
+    ensures left { token_contents (drop result words.now) ≡ from_next (drop (head_of (token_contents words.now)) (token_contents words.now)) }
+{
+    let head = head_length(words);
+    let (_, rest) = words.split_at(head);
+    body_length(rest) + head
+}
+
+/// Adds the fault of a register that is given a number out of its range.
+#[tactic(auto, using(crate::proofs::Recovering::refused_none, crate::proofs::Recovering::refused_one))]
+fn add_given<'s>(
+    faults: &mut Vec<Fault<'s>>,
+    labels: &[Option<u32>],
+    names: &[Label<'s>],
+    given: Option<RegisterValue>,
+    register: Register,
+) -> Result<(), AllocError>
+    ensures { OnOk result (Adds (AreRefused (given_refusals labels.now names.now register given)) faults.old.items faults.new.items) }
+{
+    match value_given(labels, names, given, register) {
+        Ok(_) => Ok(()),
+        Err(fault) => {
+            faults.push(fault)?;
+            Ok(())
         }
     }
-    Ok(PartialAssembly {
-        assembled: None,
+}
+
+/// The groups that were loaded.
+fn groups_loaded(
+    alloc: Global,
+    groups: Vec<Group>,
+    loaded: &[bool],
+) -> Result<Vec<Group>, AllocError> {
+    let mut left = Vec::new(alloc);
+    for (group, is_loaded) in groups.into_iter().zip(loaded) {
+        if *is_loaded {
+            left.push(group)?;
+        }
+    }
+    Ok(left)
+}
+
+/// Adds the faults of the values of registers at load.
+#[tactic(auto, using(crate::proofs::Recovering::refused_three))]
+fn add_registers<'s>(
+    faults: &mut Vec<Fault<'s>>,
+    labels: &[Option<u32>],
+    names: &[Label<'s>],
+    registers: Registers,
+) -> Result<(), AllocError>
+    ensures { OnOk result (Adds (AreRefused (register_refusals labels.now names.now registers)) faults.old.items faults.new.items) }
+{
+    add_given(faults, labels, names, registers.p, Register::P)?;
+    add_given(faults, labels, names, registers.a, Register::A)?;
+    add_given(faults, labels, names, registers.b, Register::B)?;
+    Ok(())
+}
+
+/// Adds the program of requests of a node without its cells at fault, and the faults of its registers and cells.
+#[tactic(auto, using(crate::proofs::Recovering::one_unpacked, crate::proofs::Recovering::all_packed))]
+fn load_requests<'s>(
+    alloc: Global,
+    id: NodeId,
+    node: &mut Node,
+    line: u32,
+    requests: NodeRequests<'s>,
+    programs: &mut Vec<Program<'s>>,
+    faults: &mut Vec<Fault<'s>>,
+) -> Result<(), Fault<'s>>
+    ensures added { OnOk result (Adds (AreFaultsOfRequests requests.entry) faults.old.items faults.new.items) }
+    ensures refused { IfErr result (λ fault. fault.cause ≡ Memory) }
+{
+    let NodeRequests {
+        asked,
+        names,
+        registers,
+    } = requests;
+    let packed = match pack(alloc, asked.as_slice(), names.len()) {
+        Ok(packed) => packed,
+        Err(fault) => {
+            add_fault(faults, fault)?;
+            return Ok(());
+        }
+    };
+    add_registers(
+        faults,
+        packed.labels.as_slice(),
+        names.as_slice(),
+        registers,
+    )?;
+    let loaded = load_left(alloc, node, &packed, faults)?;
+    let PackedNode { groups, labels } = packed;
+    programs.push(Program {
+        node: id,
+        line,
+        asked,
+        labels,
+        names,
+        registers,
+        groups: groups_loaded(alloc, groups, loaded.as_slice())?,
+    })?;
+    Ok(())
+}
+
+/// Adds the program of a node without its words at fault, and their faults.
+#[tactic(auto, using(crate::proofs::Recovering::all_of_node))]
+fn recover_node<'s>(
+    alloc: Global,
+    id: NodeId,
+    node: &mut Node,
+    line: u32,
+    tokens: &[Token<'s>],
+    programs: &mut Vec<Program<'s>>,
+    faults: &mut Vec<Fault<'s>>,
+) -> Result<(), Fault<'s>>
+    ensures added { OnOk result (Adds (AreFaultsOfNode line (token_contents tokens.now)) faults.old.items faults.new.items) }
+    ensures refused { IfErr result (λ fault. fault.cause ≡ Memory) }
+{
+    let Recovered {
+        requests,
+        faults: of_words,
+    } = recover_requests(alloc, line, tokens)?;
+    faults.extend_from_slice(of_words.as_slice())?;
+    load_requests(alloc, id, node, line, requests, programs, faults)?;
+    Ok(())
+}
+
+/// Adds the program of the node with which the words begin, and returns the number of its words.
+fn recover_begun<'s>(
+    alloc: Global,
+    id: NodeId,
+    chip: &mut Chip,
+    begun: &mut [bool],
+    programs: &mut Vec<Program<'s>>,
+    faults: &mut Vec<Fault<'s>>,
+    words: &[Token<'s>],
+) -> Result<usize, Fault<'s>>
+    requires size { length begun.old ≡ 144 }
+    requires node { IsBegun begun.old (token_contents words.now) id.number }
+    ensures count { IfOk result (λ count. (0 < count) × (count ≤ length words.now)) }
+    ensures faults { IfOk result (λ count. Recovers begun.old (token_contents words.now) begun.new (token_contents (drop count words.now)) faults.old.items faults.new.items) }
+    ensures refused { IfErr result (λ fault. fault.cause ≡ Memory) }
+{
+    begun[id.index()] = true;
+    let name = words[1];
+    let (_, behind) = words.split_at(2);
+    let count = body_length(behind);
+    let (body, _) = behind.split_at(count);
+    recover_node(
+        alloc,
+        id,
+        chip.node_mut(id),
+        name.line,
+        body,
+        programs,
+        faults,
+    )?;
+    Ok(count + 2)
+}
+
+/// Adds the program of the node whose words are first, and returns the number of its words. If no node begins, the words up to the next
+/// `node` are skipped, with the name after a `node`.
+fn recover_first<'s>(
+    alloc: Global,
+    chip: &mut Chip,
+    begun: &mut [bool],
+    programs: &mut Vec<Program<'s>>,
+    faults: &mut Vec<Fault<'s>>,
+    words: &[Token<'s>],
+) -> Result<usize, Fault<'s>>
+    requires some { 0 < length words.now }
+    requires size { length begun.old ≡ 144 }
+    ensures count { IfOk result (λ count. (0 < count) × (count ≤ length words.now)) }
+    ensures faults { IfOk result (λ count. Recovers begun.old (token_contents words.now) begun.new (token_contents (drop count words.now)) faults.old.items faults.new.items) }
+    ensures refused { IfErr result (λ fault. fault.cause ≡ Memory) }
+{
+    match node_begun(begun, words) {
+        Ok(id) => recover_begun(alloc, id, chip, begun, programs, faults, words),
+        Err(fault) => {
+            faults.push(fault)?;
+            Ok(skipped_length(words))
+        }
+    }
+}
+
+/// The programs of words without those at fault, and all faults. In place of lines there are the numbers of words, from 1 on.
+///
+/// - A faulty word is skipped, with a directive before it that takes it and each `,` after it. What follows is read as if they weren't
+///   there. So is a word that names a label without a place.
+/// - If no node begins, the words up to the next `node` are skipped, with the name after a `node`.
+/// - A faulty cell is left out, and the others keep their addresses. Cells that continue after one past the end of memory are left out
+///   without a fault of their own.
+///
+/// # Errors
+/// Out of memory.
+pub fn recover_words<'s>(
+    alloc: Global,
+    words: &[Token<'s>],
+) -> Result<RecoveredSource<'s>, Fault<'s>>
+    ensures faults { IfOk result (λ all. AreFaultsOfWords (token_contents (with_numbers 1 words.now)) all.faults.items) }
+    ensures refused { IfErr result (λ fault. fault.cause ≡ Memory) }
+{
+    let numbered = number(alloc, words)?;
+    let all = numbered.as_slice();
+    let mut chip = match Chip::new(alloc) {
+        Ok(chip) => chip,
+        Err(_) => return Err(fault_at(0, SourceCause::Memory)),
+    };
+    let mut begun = none_begun();
+    let mut programs = Vec::new(alloc);
+    let mut faults = Vec::new(alloc);
+    let mut start = 0;
+    while start < all.len() {
+        start += recover_first(
+            alloc,
+            &mut chip,
+            &mut begun,
+            &mut programs,
+            &mut faults,
+            &all[start..],
+        )?;
+    }
+    faults.sort_by_key(|fault| fault.line)?;
+    Ok(RecoveredSource {
+        assembled: Assembled { chip, programs },
         faults,
     })
+}
+
+/// The line of the word with a number, 0 if there is none.
+pub fn line_of_number(words: &[Token<'_>], number: u32) -> u32
+    ensures { result ≡ line_of_number words.now number }
+{
+    match words.get((number as usize).saturating_sub(1)) {
+        Some(word) => word.line,
+        None => 0,
+    }
+}
+
+/// A fault at the number of a word, at that word's line.
+pub fn fault_on_line<'s>(words: &[Token<'_>], fault: Fault<'s>) -> Fault<'s>
+    ensures { result ≡ fault_at_line words.now fault.entry }
+{
+    let line = line_of_number(words, fault.line);
+    let cause = match fault.cause {
+        SourceCause::CellTwice { cell, line } => SourceCause::CellTwice {
+            cell,
+            line: line_of_number(words, line),
+        },
+        cause => cause,
+    };
+    Fault { line, cause }
+}
+
+/// The faults at the lines of their words, without those that are equal to the one before.
+///
+/// # Errors
+/// Out of memory.
+pub fn faults_on_lines<'s>(
+    alloc: Global,
+    words: &[Token<'_>],
+    faults: &[Fault<'s>],
+) -> Result<Vec<Fault<'s>>, AllocError>
+    ensures { IfOk result (λ all. all.items ≡ faults_by_line words.now faults.now) }
+{
+    let mut all = Vec::new(alloc);
+    for fault in faults {
+        all.push(fault_on_line(words, *fault))?;
+    }
+    all.dedup();
+    Ok(all)
+}
+
+/// These faults, or the first one if there are none. (That a source which isn't assembled has a fault is tested, not proved.)
+///
+/// # Errors
+/// Out of memory.
+pub fn or_first<'s>(
+    mut faults: Vec<Fault<'s>>,
+    first: Fault<'s>,
+) -> Result<Vec<Fault<'s>>, AllocError>
+    ensures { IfOk result (λ all. all.items ≡ or_this faults.entry.items first.entry) }
+{
+    if faults.is_empty() {
+        faults.push(first)?;
+    }
+    Ok(faults)
+}
+
+/// All faults of a source that isn't assembled for this first one, in the order of lines, without those that have the text of the one
+/// before.
+///
+/// # Errors
+/// Out of memory.
+pub fn all_faults<'s>(
+    alloc: Global,
+    source: &'s [u8],
+    first: Fault<'s>,
+) -> Result<Vec<Fault<'s>>, Fault<'s>>
+    ensures faults { IfOk result (λ faults. AreFaultsOfSource source.now first.entry faults.items) }
+    ensures refused { IfErr result (λ fault. fault.cause ≡ Memory) }
+{
+    if is_memory(first) {
+        return Err(first);
+    }
+    let words = source_words(alloc, source)?;
+    let recovered = recover_words(alloc, words.as_slice())?;
+    let faults = faults_on_lines(alloc, words.as_slice(), recovered.faults.as_slice())?;
+    Ok(or_first(faults, first)?)
 }

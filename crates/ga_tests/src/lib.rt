@@ -17,6 +17,8 @@ mod moves;
 #[cfg(test)]
 mod orders;
 #[cfg(test)]
+mod schedules;
+#[cfg(test)]
 mod shared;
 #[cfg(test)]
 mod streams;

@@ -2,15 +2,15 @@
 
 use crate::common::{CALLS, begun, each_same, same};
 use ga_dap_breakpoints::{
-    Breakpoint, Comparison, Granularity, Halt, Halts, HitCount, MoveResult, StepMove, ValueTest,
-    Watched, breakpoint_of_address, breakpoint_of_line, continue_run, continue_step, kept_hits,
-    reverse_to, step_back, step_back_line,
+    Breakpoint, Granularity, Halt, Halts, HitCount, MoveResult, StepMove, Watched,
+    breakpoint_of_address, breakpoint_of_line, continue_run, continue_step, kept_hits, reverse_to,
+    step_back, step_back_line,
 };
-use ga_dap_views::{SlotAddress, Variable};
+use ga_dap_views::SlotAddress;
 use ga_debug_info::{DebugInfo, SlotWord};
 use ga_grid::NodeId;
 use ga_lab::Lab;
-use ga_scheduler::Schedule;
+use ga_scheduler::{Comparison, NodeValue, Schedule, ValueTest};
 use std::process::Abort;
 use std::test::Fail;
 
@@ -127,7 +127,7 @@ fn each_third_hit_is_stopped_at(rt: HostRuntime) -> Result<(), Fail> {
     let node = NodeId::new(0);
     let (mut lab, _) = begun(&rt, rt.alloc(), CALLS, 0)?;
     let ten = ValueTest {
-        variable: Variable::DataWord(0),
+        value: NodeValue::DataWord(0),
         comparison: Comparison::Equal,
         number: 10,
     };

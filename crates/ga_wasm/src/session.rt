@@ -1,6 +1,6 @@
 //! A whole session of exploring as one call: the bytes of an image and its commands in, the answers out.
 
-ghost use Rattle.std.specs.Prelude.{◌≡◌, ◌++◌, ◌∷◌, [], None, length, take};
+ghost use Rattle.std.specs.Prelude.{◌≡◌, ◌++◌, ◌∷◌, [], None, false, length, take};
 ghost use Rattle.ga_text.specs.Lines.{Bytes};
 ghost use Rattle.ga_console.specs.declared.run.Status.{Status as Ended};
 ghost use Rattle.ga_explorer.specs.Session.{RunsExplorer};
@@ -23,12 +23,20 @@ pub extern "C" fn ga_session(
     limit: u32,
 ) -> usize
     ensures { (read rest text : Bytes) × (status : Ended) × (input.now ≡ read ++ rest)
-        × RunsExplorer None limit read rest text status
+        × RunsExplorer false None limit read rest text status
         × (result ≡ length text) × (take result output.new ≡ take (length output.old) text)
         × (take 1 ended.new ≡ take (length ended.old) (number_of status ∷ [])) }
 {
     let (mut reader, mut answers, mut errors) = streams(alloc, input);
-    let status = explore(alloc, &mut reader, &mut answers, &mut errors, None, limit);
+    let status = explore(
+        alloc,
+        &mut reader,
+        &mut answers,
+        &mut errors,
+        None,
+        limit,
+        false,
+    );
     put_front(ended, &[number(status)]);
     put_front(output, answers.as_slice())
 }

@@ -27,30 +27,33 @@ Exit status: 0 done, 1 image refused, 2 a stream failed, 3 command line refused.
 
 /// What `ga144 explore --help` writes after the options. `{commands}` is replaced by the lines of the queries.
 const EXPLORING: &str = "\
-Reads an image or source (up to its line `end`) from FILE, or from standard input where none is given, and then commands from
-standard input, and knows each command of debug. So a person at a terminal types: ga144 explore fault.f18
+Reads an image or source (up to its line `end`) from FILE, or from standard input without FILE, and then commands from standard
+input; it has each command of debug. At a terminal: ga144 explore fault.f18
 
-A FILE of source needs no line `end`. What stands in FILE behind its line `end` is read as the first commands.
+A FILE of source needs no line `end`. Lines of FILE after its line `end` are read as the first commands.
 
-Further commands (N is a number of events; NNN and MMM are nodes, K a step, HH two and W and X six hexadecimal digits):
-  run [N] [until COND]   make events in rounds: each node that has an event makes one, in the order of their names
-  run greedy ..          each node as far as it goes
+Further commands (NNN and MMM are nodes, K is a step, HH two and X six hexadecimal digits):
+  run [N] [until COND]   make events in rounds, at most N: each node that has an event makes one, in the order of their names
+  run greedy ..          each node as long as it has an event
   run random SEED ..     nodes drawn by a generator with this seed
-  back until COND        take the newest event back behind which COND held, and all since
-  back NNN until COND    take the newest such step of NNN back, with all that depends on it
+  back until COND        undo the newest event after which COND held, and all later ones
+  back NNN until COND    roll back the newest such step of NNN, with its dependents
 {commands}
 
 COND is one of:
-  pass NNN MMM = W       the word W went from NNN to MMM
-  pass NNN MMM J         the word with the number J went from NNN to MMM
+  NNN VALUE OP N         a value of NNN compares so with the number N
+  pass NNN MMM OP N      such a word was transferred from NNN to MMM
+  pass NNN MMM J         word number J was transferred from NNN to MMM
   step NNN K             step K of NNN was made
   stop, stop NNN         a node, or NNN, stopped
-  wait NNN               NNN came to wait
-  mem NNN HH = W         the word of its memory is W
-  p NNN X                its P is X
-  reach NNN X            NNN came to fetch at X
-  change NNN HH [= W]    NNN wrote to its cell HH, or W
+  wait NNN               NNN began to wait
+  mem NNN HH = N         the word at that address of NNN is N
+  p NNN X                P of NNN is X
+  reach NNN X            NNN fetches next, at X
+  change NNN HH [= N]    NNN wrote at that address, or wrote N
 COND or COND ..          ends at the first that holds
+VALUE: t s r p a b i, d2 to d9, r1 to r8, io, slot, carry, step, [HH]   OP: = != < <= > >=
+N in COND: 12, -3, 0x1f, six hexadecimal digits, a port, a label        X: also a label, or line L
 
 Exit status: 0 done, 1 image refused, 2 a stream failed, 3 command line refused.";
 
@@ -62,16 +65,16 @@ Exit status: 0 done, 1 image refused, 2 a stream failed, 3 command line refused,
 
 /// What `ga144 check --help` writes after the options.
 const ORDERS: &str = "\
-Reads an image or source as explore does, and nothing behind its line `end`. Runs it in every order of its nodes: two orders are one
-where they differ by swaps of steps that are free of one another.
+Reads an image or source as explore does, and nothing after its line `end`. Runs it once in each order of its nodes: orders that differ
+only by swaps of independent steps are one.
 
-Tells how many orders there are and, of each kind of end, how many end so, which nodes stop, wait for words or poll, and which order is the first.
-`at least N orders`: there may be others, as a run was cut by a bound.
+Prints how many orders there are and, for each kind of end, how many orders end so, which nodes stop, wait for words or poll, and which
+order is the first. `at least N orders`: a bound was met, so there may be others.
 With --session K it writes instead the lines `step NNN` that lead to the end of the Kth order.
 The answer is the same for every number of workers.
-With --settled the idle nodes have come to rest before: a look sees that they wait. A session has these steps first.
+With --settled the idle nodes wait before the first step, so that a look sees them wait. A session has these steps first.
 
-Exit status: 0 all end on one chip where none stops, or a session is told, 1 image or source refused, 2 a stream failed,
+Exit status: 0 all end on one chip where none stops, or a session is written, 1 image or source refused, 2 a stream failed,
 3 command line refused, 5 they end on several chips or a node stops, 6 there may be other orders.";
 
 /// What `ga144 dap --help` says.
@@ -82,9 +85,9 @@ Exit status: 0 done, 1 out of memory, 2 a stream failed or a frame was broken, 3
 
 /// What `ga144 draw --help` writes after the options.
 const PICTURES: &str = "\
-Reads what explore reads: an image or source, from FILE where one is given, then commands, one a line. Carries them out without an answer,
-and at their end writes one SVG: a line down for each node that isn't idle and doesn't work by itself, its own events as marks, passes
-as arrows with their word, waits dotted, looks dashed. An event's title says what debug says of it, and the name of its opcode.
+Reads what explore reads: an image or source, from FILE if there is one, then commands, one a line. Carries them out without an answer,
+and then writes one SVG: a vertical line for each node that isn't idle or independent, its own events as marks, transfers as arrows with
+their word, waits dotted, io reads (looks) dashed. The title of an event is its text, with the name of its opcode.
 
 Exit status: 0 done, 1 image or step refused, 2 a stream failed, 3 command line refused.";
 
@@ -118,34 +121,34 @@ const CALLS: &str = "How many calls each worker makes, 1 to 100000";
 
 const RUNS: &str = "How many runs are made at most, 1 to 4294967295 [default: 1000000]";
 
-const SETTLED: &str = "Let each node whose first event is to wait for code make it before all else";
+const SETTLED: &str = "Let each node whose first event is to wait for code make it first";
 
-const SESSION: &str = "Tell the session of the Kth order, counted from 1";
+const SESSION: &str = "Write the session of the Kth order, counted from 1";
 
 const SHARED_BY: &str = "How many workers share the runs, 1 to 16 [default: 1]";
 
-const PROGRESS: &str = "Tell on standard error, each second, how many runs were made";
+const PROGRESS: &str = "Print on standard error, each second, how many runs were made";
 
-const CAUSE: &str = "Grey all but the events on which step K of the node NNN depends";
+const CAUSE: &str = "Grey out all but the events on which step K of the node NNN depends";
 
-const REWIND: &str = "Red what a rollback of step K of the node NNN would take";
+const REWIND: &str = "Colour orange what a rollback of step K of the node NNN would remove";
 
-const FROM: &str = "Draw from the Pth kept event on, counted from 1";
+const FROM: &str = "Draw from the Pth event on, counted from 1";
 
-const TO: &str = "Draw up to the Pth kept event, counted from 1";
+const TO: &str = "Draw up to the Pth event, counted from 1";
 
-const ALL: &str = "Draw what is idle or works by itself too";
+const ALL: &str = "Draw idle and independent nodes too";
 
-const ONLY: &str = "Leave out what is neither such a cause nor would be taken";
+const ONLY: &str = "Leave out what is neither such a cause nor would be removed";
 
-const MARKED: &str = "Mark the steps that could have come out otherwise";
+const MARKED: &str = "Mark races: steps that yield another word in another order";
 
 const FOLD: &str =
-    "Draw N and more fetches and opcodes of a node in a row as one mark, 0 for none [default: 3]";
+    "Draw runs of N or more fetches and opcodes of a node as one mark, 0 for none [default: 3]";
 
 const LIMIT: &str = "How many events are kept at most, 1 to 4000000 [default: 1000000]";
 
-const EXPLORED: &str = "How many events are kept at most, 1 to 100000000 [default: 20000000]";
+const EXPLORED: &str = "How many events the history has at most, 1 to 100000000 [default: 20000000]";
 
 const CHIP: &str =
     "Begin on the chip of this file, an image as dump writes it, with the lines of the source";
@@ -195,7 +198,7 @@ fn race_line<'a>(alloc: Global) -> Result<Command<'a>, AllocError> {
 
 fn check_line<'a>(alloc: Global) -> Result<Command<'a>, AllocError> {
     Command::new(alloc, "check")
-        .about("Run every order of the nodes of a program, and tell how they end")
+        .about("Run every order of the nodes of a program, and show how they end")
         .after_help(ORDERS)
         .arg(number_option(alloc, "most", RUNS, u32::MAX).value_name("N"))?
         .arg(flag(alloc, "settled", SETTLED))?
@@ -234,7 +237,7 @@ fn image_line<'a>(alloc: Global) -> Result<Command<'a>, AllocError> {
 
 fn draw_line<'a>(alloc: Global) -> Result<Command<'a>, AllocError> {
     Command::new(alloc, "draw")
-        .about("Carry out a session's commands, and draw the events that are kept then")
+        .about("Carry out a session's commands, and draw the history")
         .after_help(PICTURES)
         .arg(step_option(alloc, "cause", CAUSE))?
         .arg(step_option(alloc, "rewind", REWIND))?

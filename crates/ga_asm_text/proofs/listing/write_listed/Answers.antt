@@ -6,5 +6,5 @@ returns g c = λ before source held is.
     let done = c.write_text-written.ensures before held in (
       done.0,
       done.1,
-      listing_written source c.args.listed.text.items done.0 c.args.listed.fault c.write_text-written.result c.status_behind.result c.status_behind.ensures is done.2,
+      listing_written source c.args.listed.text.items done.0 c.args.listed.is_faulty c.write_text-written.result c.status_behind.result c.status_behind.ensures is done.2,
     )

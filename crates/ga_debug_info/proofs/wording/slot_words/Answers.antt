@@ -9,6 +9,6 @@ returns c = record {
   all = c.in-Ok.all;
   said = c.in_ok-words.ensures.says;
   columns = c.in_ok-words.ensures.columns;
-  assembled = subst (λ (words : List Token). IsAssembledOf (with_numbers 1 words) c.in-Ok.all) c.as_slice.ensures.value c.in-Ok.ensures;
+  assembled = subst (λ (words : List Token). IsAssembledOf (with_numbers 1 words) c.in-Ok.all) c.as_slice.ensures.value c.in-Ok.ensures.assembled;
   told_words = rw (c.new-lines.ensures, c.as_slice-3.ensures.value, c.as_slice-2.ensures.value) at c.in_ok-told.ensures.words;
 }

@@ -17,9 +17,9 @@ returns-in-At-clause-said g c = record {
 
 pub returns-in-Whence-clause-said : goal.returns-in-Whence-clause-said
 returns-in-Whence-clause-said g c = record {
-  meant = question.Whence c.in-Whence.node c.in-Whence.which;
+  meant = question.Whence c.in-Whence.node c.in-Whence.which c.in-Whence.value;
   is = c.in-Whence.is;
-  said = rw (← c.resolve-step-in-Whence.ensures) c.write_whence.ensures;
+  said = rw (← c.resolve-step-in-Whence.ensures, ← c.part_of.ensures.value) c.write_whence.ensures;
 }
 
 pub returns-in-Because-clause-said : goal.returns-in-Because-clause-said

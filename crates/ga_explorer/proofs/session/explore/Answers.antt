@@ -3,8 +3,8 @@ use Rattle.std.proofs.lemmas.List.{append-nil}
 use Rattle.ga_text.specs.Output.{ready}
 use Rattle.ga_console.specs.Session.{Serves}
 use Rattle.ga_console.proofs.RunLemmas.{written_fresh}
-use Rattle.ga_explorer.specs.Answers.{Explores}
 use Rattle.ga_explorer.specs.Opening.{IsFront}
+use Rattle.ga_explorer.specs.Session.{Prompts}
 use Rattle.ga_explorer.specs.Session.RunsExplorer.{served, unbegun}
 use Rattle.ga_explorer.proofs.session.explore.Goals as goal
 
@@ -13,26 +13,26 @@ returns-in-Ok g c = λ left before known held.
     let begun = c.in-Ok.ensures.begun left before known held in
     let text : List ℕ = begun.4.1 in
     let silent = begun.3 ∙ ap Some (ap (λ (t : List ℕ). before ++ t) begun.4.0 ∙ append-nil before) in
-    let done = c.serve.ensures.serves begun.0 before ready begun.2 (written_fresh _ before ready _ (ap g.W.Write.contents c.ready-said.ensures.stream ∙ silent) c.ready-said.ensures.said) in
-    let there = done.6 in
-    let P : ℕ → Type 0 = λ n. Serves Explores (16777216 - n) c.in-Ok.begun done.0 done.1 done.2 c.serve.new.session c.serve.result in (
+    let done = c.serve_explorer-ending.ensures.serves begun.0 before ready begun.2 (written_fresh _ before ready _ (ap g.W.Write.contents c.ready-said.ensures.stream ∙ silent) c.ready-said.ensures.said) in
+    let there = done.7 in
+    let P : ℕ → Type 0 = λ n. Serves (Prompts c.args.is_prompted) (16777216 - n) c.in-Ok.begun done.0 done.1 done.2 done.4 c.serve_explorer-ending.result in (
       text ++ done.0,
       done.1,
       done.3,
-      begun.4.2 ∙ ap (λ (l : List ℕ). text ++ l) done.4 ∙ sym (append_assoc text done.0 done.1),
-      done.5,
+      begun.4.2 ∙ ap (λ (l : List ℕ). text ++ l) done.5 ∙ sym (append_assoc text done.0 done.1),
+      done.6,
       search rules,
-      served c.serve.result c.status_of.ensures (record {
+      served c.serve_explorer-ending.result c.status_of.ensures (record {
         text = text;
         commands = done.0;
         begun = c.in-Ok.begun;
         said = done.2;
         splits = refl;
-        front = subst (IsFront text) done.4 begun.4.4;
+        front = subst (IsFront text) done.5 begun.4.4;
         opens = begun.4.5;
-        last = c.serve.new.session;
-        serves = subst P begun.4.3 done.7;
-        out = done.8;
+        last = done.4;
+        serves = subst P begun.4.3 done.8;
+        out = done.9;
       }),
     )
 

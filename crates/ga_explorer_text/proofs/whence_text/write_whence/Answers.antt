@@ -1,8 +1,7 @@
-use Rattle.std.proofs.Common.{rules, ◌≡◌, Some, sym, ap, ◌∙◌, inl, inr, subst}
+use Rattle.std.proofs.Common.{rules, ℕ, ◌≡◌, Some, sym, ap, ◌∙◌, inl, inr, subst}
 use Rattle.ga_lab.specs.Machine.{NodeAtStep}
-use Rattle.ga_provenance.specs.Asked.{queried_value}
 use Rattle.ga_provenance.proofs.Made.{has_step_so}
-use Rattle.ga_explorer_text.specs.Trees.{TellsAsked, head_text}
+use Rattle.ga_explorer_text.specs.Trees.{TellsAsked, asked_value, head_text}
 use Rattle.ga_explorer_text.proofs.whence_text.write_whence.Goals as goal
 
 pub returns-then-not-has_step : goal.returns-then-not-has_step
@@ -15,8 +14,8 @@ returns-then-not-has_step g c = (
   ),
 )
 
-pub queried_value_at-requires : goal.queried_value_at-requires
-queried_value_at-requires g c = has_step_so c.args.lab.now c.args.node c.args.step c.new-here.result.near c.new-here.ensures.near
+pub asked_value-requires-clause-near : goal.asked_value-requires-clause-near
+asked_value-requires-clause-near g c = has_step_so c.args.lab.now c.args.node c.args.step c.new-here.result.near c.new-here.ensures.near
 
 pub returns-in-Some : goal.returns-in-Some
 returns-in-Some g c = (
@@ -29,7 +28,7 @@ returns-in-Some g c = (
         done.0,
         inr (
           sym c.has_step.ensures.value ∙ c.if-not-has_step.false,
-          subst (λ v. TellsAsked c.args.notes.now s c.args.node c.args.step v done.0) (c.in-Some.ensures.value ∙ ap (queried_value s c.args.node) at) told,
+          subst (λ v. TellsAsked c.args.notes.now s c.args.node c.args.step v done.0) (c.in-Some.ensures.value ∙ ap (λ (k : ℕ). asked_value s c.args.node k c.args.part) at) told,
         ),
         done.2,
       ),
@@ -46,7 +45,7 @@ returns-in-None g c = (
         done.0,
         inr (
           sym c.has_step.ensures.value ∙ c.if-not-has_step.false,
-          subst (λ v. TellsAsked c.args.notes.now s c.args.node c.args.step v done.0) (c.in-None.ensures.value ∙ ap (queried_value s c.args.node) at) told,
+          subst (λ v. TellsAsked c.args.notes.now s c.args.node c.args.step v done.0) (c.in-None.ensures.value ∙ ap (λ (k : ℕ). asked_value s c.args.node k c.args.part) at) told,
         ),
         done.2,
       ),

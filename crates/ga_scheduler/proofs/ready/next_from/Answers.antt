@@ -1,14 +1,13 @@
-use Rattle.std.proofs.Common.{◌∙◌, sym, subst, Option}
-use Rattle.std.specs.Prelude.{IfSome}
-use Rattle.ga_grid.specs.declared.node_id.NodeId.{NodeId}
-use Rattle.ga_scheduler.specs.inner.{has, IsAlone}
-use Rattle.ga_races.proofs.Ready.{alone_is, turn_is}
+use Rattle.std.proofs.Common.{sym, ◌∙◌, ap}
+use Rattle.ga_scheduler.specs.inner.{has}
+use Rattle.ga_scheduler.specs.Schedules.{node_drawn}
+use Rattle.ga_scheduler.proofs.Drawn.{drawn_chosen, first_chosen}
 use Rattle.ga_scheduler.proofs.ready.next_from.Goals as goal
 
-pub returns-in-Some-clause-first : goal.returns-in-Some-clause-first
-returns-in-Some-clause-first c =
-    let h : IsAlone c.args.ready.now c.in-Some.node = subst (λ (o : Option NodeId). IfSome o (IsAlone c.args.ready.now)) c.in-Some.is c.requires.alone in
-    alone_is (has c.args.ready.now) c.args.turn.number c.in-Some.node c.args.turn.in_range h.here h.others
+pub returns-then-draws-clause-chosen : goal.returns-then-draws-clause-chosen
+returns-then-draws-clause-chosen c =
+    c.draw_node.ensures.drawn ∙ ap (node_drawn (has c.args.ready.now)) c.word.ensures ∙ drawn_chosen c.args.schedule.now.order c.args.schedule.now (has c.args.ready.now) (sym c.if-draws.true ∙ c.requires.draws)
 
-pub returns-then-has-clause-first : goal.returns-then-has-clause-first
-returns-then-has-clause-first c = turn_is (has c.args.ready.now) c.args.turn (sym c.has.ensures ∙ c.if-has.true)
+pub returns-else-draws-clause-chosen : goal.returns-else-draws-clause-chosen
+returns-else-draws-clause-chosen c =
+    c.in_turn.ensures.first ∙ first_chosen c.args.schedule.now.order c.args.schedule.now (has c.args.ready.now) (sym c.if-draws.false ∙ c.requires.draws)

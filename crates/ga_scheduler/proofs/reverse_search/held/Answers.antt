@@ -1,10 +1,10 @@
 use Rattle.std.proofs.Common.{◌≡◌, ◌∙◌, ◌+◌, ◌==◌, ℕ, ap, take, refl, subst}
 use Rattle.ga_node.specs.Record.{record_of}
 use Rattle.ga_event.specs.Told.{steps_of}
-use Rattle.ga_lab.specs.Machine.{State, node_at_step, earlier}
+use Rattle.ga_lab.specs.Machine.{State, NodeAtStep, node_at_step, earlier}
 use Rattle.ga_scheduler.specs.declared.condition.Condition.{Condition}
 use Rattle.ga_scheduler.specs.inner.{asked_node}
-use Rattle.ga_scheduler.proofs.Newest.{stands_at, holds_here, comes_here, reaches_here, writes_here}
+use Rattle.ga_scheduler.proofs.Newest.{stands_at, holds_here, reaches_here, writes_here}
 use Rattle.ga_scheduler.proofs.reverse_search.held.Goals as goal
 
 pub returns-in-Holds : goal.returns-in-Holds
@@ -12,19 +12,10 @@ returns-in-Holds c =
     let s : State = c.args.events.now.machine in
     let n = asked_node c.args.until.now in
     let place = c.args.events.now.place + 1 in
-    ap (λ (z : ℕ). c.get.result == z) c.get-in-Holds.ensures.value
-    ∙ holds_here c.args.until.now c.in-Holds.node c.in-Holds.address c.in-Holds.word c.get.result c.args.made.now (earlier s place) (record_of c.node.result.now) c.in-Holds.is
+    holds_here c.args.until.now c.in-Holds.node c.in-Holds.test c.passes.result c.step.result c.args.made.now (earlier s place) (record_of c.node.result.now) c.in-Holds.is
     (stands_at c.args.walk.now s n (steps_of n.number (take place s.kept)) place (record_of c.node.result.now) c.requires.stands refl c.node.ensures)
-    (c.get.ensures.value ∙ c.word_at.ensures)
-
-pub returns-in-ComesTo : goal.returns-in-ComesTo
-returns-in-ComesTo c =
-    let s : State = c.args.events.now.machine in
-    let n = asked_node c.args.until.now in
-    let place = c.args.events.now.place + 1 in
-    comes_here c.args.until.now c.in-ComesTo.node c.in-ComesTo.address c.p_of.result c.args.made.now (earlier s place) (record_of c.node-in-ComesTo.result.now) c.in-ComesTo.is
-    (stands_at c.args.walk.now s n (steps_of n.number (take place s.kept)) place (record_of c.node-in-ComesTo.result.now) c.requires.stands refl c.node-in-ComesTo.ensures)
-    c.p_of.ensures
+    (c.step.ensures.value ∙ ap (λ (z : NodeAtStep). z.step) c.requires.stands)
+    c.passes.ensures
 
 pub returns-in-Reaches : goal.returns-in-Reaches
 returns-in-Reaches c =

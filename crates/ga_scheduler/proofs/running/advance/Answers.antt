@@ -16,7 +16,7 @@ first_held-requires-clause-counted c = all_counted_on c.args.until.now c.args.la
 pub returns-in-Some-first_held-clause-over : goal.returns-in-Some-first_held-clause-over
 returns-in-Some-first_held-clause-over c =
     let who : node_to_run (running c.args.lab.now c.args.schedule.now) ≡ Some c.in-Some.node =
-    sym (choice_is (chip_of c.args.lab.now) c.args.ready.now c.args.schedule.now.turn.number c.requires.ready) ∙ sym c.in-Some.ensures.first in
+    sym (choice_is (chip_of c.args.lab.now) c.args.ready.now c.args.schedule.now c.requires.ready) ∙ sym c.in-Some.ensures.chosen in
     let here : Running = running c.args.lab.now c.args.schedule.now in
     let next : Running = running c.make.new.lab c.make.new.schedule in
     let is : next_made here ≡ Some c.in-Ok.made = told_is c.args.lab.now c.args.schedule.now c.in-Some.node c.in-Ok.made who c.in-Ok.ensures.ok in
@@ -26,13 +26,13 @@ returns-in-Some-first_held-clause-over c =
 pub returns-in_default-clause-made : goal.returns-in_default-clause-made
 returns-in_default-clause-made c =
     let who : node_to_run (running c.args.lab.now c.args.schedule.now) ≡ Some c.in-Some.node =
-    sym (choice_is (chip_of c.args.lab.now) c.args.ready.now c.args.schedule.now.turn.number c.requires.ready) ∙ sym c.in-Some.ensures.first in
+    sym (choice_is (chip_of c.args.lab.now) c.args.ready.now c.args.schedule.now c.requires.ready) ∙ sym c.in-Some.ensures.chosen in
     ap is_some (told_is c.args.lab.now c.args.schedule.now c.in-Some.node c.in-Ok.made who c.in-Ok.ensures.ok)
 
 pub returns-in_default-clause-unmet : goal.returns-in_default-clause-unmet
 returns-in_default-clause-unmet c =
     let who : node_to_run (running c.args.lab.now c.args.schedule.now) ≡ Some c.in-Some.node =
-    sym (choice_is (chip_of c.args.lab.now) c.args.ready.now c.args.schedule.now.turn.number c.requires.ready) ∙ sym c.in-Some.ensures.first in
+    sym (choice_is (chip_of c.args.lab.now) c.args.ready.now c.args.schedule.now c.requires.ready) ∙ sym c.in-Some.ensures.chosen in
     let here : Running = running c.args.lab.now c.args.schedule.now in
     let next : Running = running c.make.new.lab c.make.new.schedule in
     let is : next_made here ≡ Some c.in-Ok.made = told_is c.args.lab.now c.args.schedule.now c.in-Some.node c.in-Ok.made who c.in-Ok.ensures.ok in
@@ -42,13 +42,13 @@ returns-in_default-clause-unmet c =
 pub returns-in_default-clause-moved : goal.returns-in_default-clause-moved
 returns-in_default-clause-moved c =
     let who : node_to_run (running c.args.lab.now c.args.schedule.now) ≡ Some c.in-Some.node =
-    sym (choice_is (chip_of c.args.lab.now) c.args.ready.now c.args.schedule.now.turn.number c.requires.ready) ∙ sym c.in-Some.ensures.first in
+    sym (choice_is (chip_of c.args.lab.now) c.args.ready.now c.args.schedule.now c.requires.ready) ∙ sym c.in-Some.ensures.chosen in
     moved_is c.args.lab.now c.make.new.lab c.args.schedule.now c.make.new.schedule c.in-Some.node who c.in-Ok.ensures.state c.in-Ok.ensures.schedule
 
 pub returns-in-Err-clause-over : goal.returns-in-Err-clause-over
 returns-in-Err-clause-over c =
     let who : node_to_run (running c.args.lab.now c.args.schedule.now) ≡ Some c.in-Some.node =
-    sym (choice_is (chip_of c.args.lab.now) c.args.ready.now c.args.schedule.now.turn.number c.requires.ready) ∙ sym c.in-Some.ensures.first in
+    sym (choice_is (chip_of c.args.lab.now) c.args.ready.now c.args.schedule.now c.requires.ready) ∙ sym c.in-Some.ensures.chosen in
     ((c.in-Some.node, who, c.in-Err.ensures.refused), stayed c.args.lab.now c.make.new.lab c.args.schedule.now c.make.new.schedule c.in-Err.ensures.same c.in-Err.ensures.stays)
 
 pub first_held-requires-in-Ok-make-clause-counted : goal.first_held-requires-in-Ok-make-clause-counted
@@ -57,7 +57,7 @@ first_held-requires-in-Ok-make-clause-counted c = all_counted_on c.args.until.no
 pub returns-in-Some-first_held-2-clause-over : goal.returns-in-Some-first_held-2-clause-over
 returns-in-Some-first_held-2-clause-over c =
     let who : node_to_run (running c.args.lab.now c.args.schedule.now) ≡ Some c.in-Some.node =
-    sym (choice_is (chip_of c.args.lab.now) c.args.ready.now c.args.schedule.now.turn.number c.requires.ready) ∙ sym c.in-Some.ensures.first in
+    sym (choice_is (chip_of c.args.lab.now) c.args.ready.now c.args.schedule.now c.requires.ready) ∙ sym c.in-Some.ensures.chosen in
     let here : Running = running c.args.lab.now c.args.schedule.now in
     let next : Running = running c.make-else-is_none.new.lab c.make-else-is_none.new.schedule in
     let is : next_made here ≡ Some c.in-Ok-make.made = told_is c.args.lab.now c.args.schedule.now c.in-Some.node c.in-Ok-make.made who c.in-Ok-make.ensures.ok in
@@ -67,13 +67,13 @@ returns-in-Some-first_held-2-clause-over c =
 pub returns-in_default-first_held-clause-made : goal.returns-in_default-first_held-clause-made
 returns-in_default-first_held-clause-made c =
     let who : node_to_run (running c.args.lab.now c.args.schedule.now) ≡ Some c.in-Some.node =
-    sym (choice_is (chip_of c.args.lab.now) c.args.ready.now c.args.schedule.now.turn.number c.requires.ready) ∙ sym c.in-Some.ensures.first in
+    sym (choice_is (chip_of c.args.lab.now) c.args.ready.now c.args.schedule.now c.requires.ready) ∙ sym c.in-Some.ensures.chosen in
     ap is_some (told_is c.args.lab.now c.args.schedule.now c.in-Some.node c.in-Ok-make.made who c.in-Ok-make.ensures.ok)
 
 pub returns-in_default-first_held-clause-unmet : goal.returns-in_default-first_held-clause-unmet
 returns-in_default-first_held-clause-unmet c =
     let who : node_to_run (running c.args.lab.now c.args.schedule.now) ≡ Some c.in-Some.node =
-    sym (choice_is (chip_of c.args.lab.now) c.args.ready.now c.args.schedule.now.turn.number c.requires.ready) ∙ sym c.in-Some.ensures.first in
+    sym (choice_is (chip_of c.args.lab.now) c.args.ready.now c.args.schedule.now c.requires.ready) ∙ sym c.in-Some.ensures.chosen in
     let here : Running = running c.args.lab.now c.args.schedule.now in
     let next : Running = running c.make-else-is_none.new.lab c.make-else-is_none.new.schedule in
     let is : next_made here ≡ Some c.in-Ok-make.made = told_is c.args.lab.now c.args.schedule.now c.in-Some.node c.in-Ok-make.made who c.in-Ok-make.ensures.ok in
@@ -83,18 +83,18 @@ returns-in_default-first_held-clause-unmet c =
 pub returns-in_default-first_held-clause-moved : goal.returns-in_default-first_held-clause-moved
 returns-in_default-first_held-clause-moved c =
     let who : node_to_run (running c.args.lab.now c.args.schedule.now) ≡ Some c.in-Some.node =
-    sym (choice_is (chip_of c.args.lab.now) c.args.ready.now c.args.schedule.now.turn.number c.requires.ready) ∙ sym c.in-Some.ensures.first in
+    sym (choice_is (chip_of c.args.lab.now) c.args.ready.now c.args.schedule.now c.requires.ready) ∙ sym c.in-Some.ensures.chosen in
     moved_is c.args.lab.now c.make-else-is_none.new.lab c.args.schedule.now c.make-else-is_none.new.schedule c.in-Some.node who c.in-Ok-make.ensures.state c.in-Ok-make.ensures.schedule
 
 pub returns-in-Err-make-clause-over : goal.returns-in-Err-make-clause-over
 returns-in-Err-make-clause-over c =
     let who : node_to_run (running c.args.lab.now c.args.schedule.now) ≡ Some c.in-Some.node =
-    sym (choice_is (chip_of c.args.lab.now) c.args.ready.now c.args.schedule.now.turn.number c.requires.ready) ∙ sym c.in-Some.ensures.first in
+    sym (choice_is (chip_of c.args.lab.now) c.args.ready.now c.args.schedule.now c.requires.ready) ∙ sym c.in-Some.ensures.chosen in
     ((c.in-Some.node, who, c.in-Err-make.ensures.refused), stayed c.args.lab.now c.make-else-is_none.new.lab c.args.schedule.now c.make-else-is_none.new.schedule c.in-Err-make.ensures.same c.in-Err-make.ensures.stays)
 
 pub returns-in-None-clause-over : goal.returns-in-None-clause-over
 returns-in-None-clause-over c = (
-  quiet_is (chip_of c.args.lab.now) c.args.schedule.now.turn.number c.args.schedule.now.turn.in_range
-      (sym (choice_is (chip_of c.args.lab.now) c.args.ready.now c.args.schedule.now.turn.number c.requires.ready) ∙ sym c.in-None.ensures.first),
+  quiet_is (chip_of c.args.lab.now) c.args.schedule.now
+      (sym (choice_is (chip_of c.args.lab.now) c.args.ready.now c.args.schedule.now c.requires.ready) ∙ sym c.in-None.ensures.chosen),
   refl,
 )

@@ -2,6 +2,7 @@ use Rattle.std.proofs.Common.{◌∙◌, refl, sym, ap, arith, subst}
 use Rattle.std.specs.Prelude.{is_some}
 use Rattle.ga_scheduler.specs.inner.{HoldsReady}
 use Rattle.ga_scheduler.specs.Running.{Running, running, after_events, AreMade, HasEnded}
+use Rattle.ga_scheduler.proofs.Drawn.{nothing_known}
 use Rattle.ga_scheduler.proofs.Events.{gone_on, never_more, made_one, over_state, over_made, over_end, over_most}
 use Rattle.ga_scheduler.proofs.running.run_schedule.Goals as goal
 
@@ -17,7 +18,8 @@ loop-events-preserved c =
       made = made_one start here c.loop-events.events i.at now.made i.made;
       never = never_more c.args.until.now start here c.loop-events.events i.at now.unmet i.never;
       ready = now.ready;
-      alone = now.alone;
+      known = now.known;
+      draws = c.advance.ensures.draws;
       size = now.size;
       words = now.counted;
       replays = now.replays;
@@ -30,7 +32,8 @@ loop-events-init c = record {
   made = λ k l. absurd (omega arith);
   never = λ k l. absurd (omega arith);
   ready = subst (λ z. HoldsReady z c.ready_nodes-ready.result) c.chip.ensures.value c.ready_nodes-ready.ensures;
-  alone = tt;
+  draws = c.draws-draws.ensures;
+  known = nothing_known c.ready_nodes-ready.result c.nothing-known.result c.nothing-known.ensures.alone c.nothing-known.ensures.listed;
   size = c.count_all-words.ensures.size;
   words = c.count_all-words.ensures.counted;
   replays = ap is_some c.chip.ensures.replays;

@@ -1,8 +1,8 @@
 use Rattle.std.proofs.Common.{◌≡◌, ◌-◌, ◌≤◌, length}
-use Rattle.std.specs.Prelude.{IsSome, IfSome}
+use Rattle.std.specs.Prelude.{IsSome}
 use Rattle.ga_event.specs.Apply.{replay}
 use Rattle.ga_lab.specs.Machine.{chip_of}
-use Rattle.ga_scheduler.specs.inner.{HoldsReady, IsAlone, AreCounted}
+use Rattle.ga_scheduler.specs.inner.{HoldsReady, IsKnown, is_random, AreCounted}
 use Rattle.ga_scheduler.specs.Running.{running, after_events, AreMade, NeverHolds}
 use Rattle.ga_scheduler.proofs.running.run_schedule.Given as goal
 
@@ -12,7 +12,8 @@ invariant-loop-events l = record {
   made : AreMade (running l.initial.lab l.initial.schedule) l.events;
   never : NeverHolds l.until (running l.initial.lab l.initial.schedule) l.events;
   ready : HoldsReady (chip_of l.lab) l.ready;
-  alone : IfSome l.alone (IsAlone l.ready);
+  known : IsKnown l.ready l.known;
+  draws : l.draws ≡ is_random l.schedule.order;
   size : length l.words ≡ 8;
   words : AreCounted l.until l.lab l.words;
   replays : IsSome (replay l.lab.load l.lab.kept);

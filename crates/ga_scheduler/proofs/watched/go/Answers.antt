@@ -7,7 +7,7 @@ use Rattle.ga_scheduler.proofs.watched.go.Goals as goal
 
 pub returns-in-None-clause-halted : goal.returns-in-None-clause-halted
 returns-in-None-clause-halted c =
-    quiet_is (chip_of c.args.lab.now) c.args.schedule.now.turn.number c.args.schedule.now.turn.in_range
+    quiet_is (chip_of c.args.lab.now) c.args.schedule.now
     (none_left c.args.first (running c.args.lab.now c.args.schedule.now) (sym c.in-None.ensures.chosen))
 
 pub returns-in-Ok-clause-told : goal.returns-in-Ok-clause-told

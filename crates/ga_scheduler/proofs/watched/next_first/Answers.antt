@@ -25,13 +25,13 @@ returns-else-has-clause-chosen c =
     let node : NodeId = c.in-Some.node in
     let can : has_event (chip_of c.args.lab.now) node.number ≡ false =
     sym (c.requires.ready node.number (let l = node.in_range in omega arith)) ∙ sym c.has.ensures ∙ c.if-has.false in
-    c.next_from.ensures.first
-    ∙ choice_is (chip_of c.args.lab.now) c.args.ready.now c.args.schedule.now.turn.number c.requires.ready
+    c.next_from.ensures.chosen
+    ∙ choice_is (chip_of c.args.lab.now) c.args.ready.now c.args.schedule.now c.requires.ready
     ∙ sym (ap (λ (f : Option NodeId). chosen_first f r) c.in-Some.is ∙ chosen_other node r can)
 
 pub returns-in-None-clause-chosen : goal.returns-in-None-clause-chosen
 returns-in-None-clause-chosen c =
     let r : Running = running c.args.lab.now c.args.schedule.now in
-    c.next_from-in-None.ensures.first
-    ∙ choice_is (chip_of c.args.lab.now) c.args.ready.now c.args.schedule.now.turn.number c.requires.ready
+    c.next_from-in-None.ensures.chosen
+    ∙ choice_is (chip_of c.args.lab.now) c.args.ready.now c.args.schedule.now c.requires.ready
     ∙ sym (ap (λ (f : Option NodeId). chosen_first f r) c.in-None.is)

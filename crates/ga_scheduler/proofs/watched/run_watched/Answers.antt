@@ -3,6 +3,7 @@ use Rattle.std.specs.Prelude.{is_some}
 use Rattle.ga_scheduler.specs.inner.{HoldsReady}
 use Rattle.ga_scheduler.specs.Running.{Running, running}
 use Rattle.ga_scheduler.specs.Watched.{watching, ends_behind}
+use Rattle.ga_scheduler.proofs.Drawn.{nothing_known}
 use Rattle.ga_scheduler.proofs.Events.{gone_on_first, made_more_first, seen_more, ends_is, never_more_first, ended_seen, ended_halted_first}
 use Rattle.ga_scheduler.proofs.watched.run_watched.Goals as goal
 
@@ -22,7 +23,8 @@ loop-events-preserved g c =
       watch = seen_more by c.args.watch.now c.loop-events.watch c.sees.new.self start here next c.loop-events.events c.in-Ok.made i.watch i.at c.in-Ok.ensures.told c.in-Ok.ensures.moved c.sees.ensures.behind;
       never = never_more_first by c.args.watch.now start c.loop-events.events unmet i.never;
       ready = c.in-Ok.ensures.ready;
-      alone = c.in-Ok.ensures.alone;
+      known = c.in-Ok.ensures.known;
+      draws = c.go.ensures.draws;
       replays = c.in-Ok.ensures.replays;
       most = omega arith;
     }
@@ -34,7 +36,8 @@ loop-events-init g c = record {
   watch = refl;
   never = λ k l. absurd (omega arith);
   ready = subst (λ z. HoldsReady z c.ready_nodes-ready.result) c.chip.ensures.value c.ready_nodes-ready.ensures;
-  alone = tt;
+  draws = c.draws-draws.ensures;
+  known = nothing_known c.ready_nodes-ready.result c.nothing-known.result c.nothing-known.ensures.alone c.nothing-known.ensures.listed;
   replays = ap is_some c.chip.ensures.replays;
   most = omega arith;
 }

@@ -1,8 +1,8 @@
 use Rattle.std.proofs.Common.{◌≡◌, ◌-◌, ◌≤◌}
-use Rattle.std.specs.Prelude.{IsSome, IfSome}
+use Rattle.std.specs.Prelude.{IsSome}
 use Rattle.ga_event.specs.Apply.{replay}
 use Rattle.ga_lab.specs.Machine.{chip_of}
-use Rattle.ga_scheduler.specs.inner.{HoldsReady, IsAlone}
+use Rattle.ga_scheduler.specs.inner.{HoldsReady, IsKnown, is_random}
 use Rattle.ga_scheduler.specs.Running.{running}
 use Rattle.ga_scheduler.specs.Watched.{after_first, AreMadeFirst, watching, watch_after, NeverEnds}
 use Rattle.ga_scheduler.proofs.watched.run_watched.Given as goal
@@ -14,7 +14,8 @@ invariant-loop-events g l = record {
   watch : l.watch ≡ watch_after (watching l.first g.W.StopCondition.ends g.W.StopCondition.seen) l.initial.watch (running l.initial.lab l.initial.schedule) l.events;
   never : NeverEnds (watching l.first g.W.StopCondition.ends g.W.StopCondition.seen) l.initial.watch (running l.initial.lab l.initial.schedule) l.events;
   ready : HoldsReady (chip_of l.lab) l.ready;
-  alone : IfSome l.alone (IsAlone l.ready);
+  known : IsKnown l.ready l.known;
+  draws : l.draws ≡ is_random l.schedule.order;
   replays : IsSome (replay l.lab.load l.lab.kept);
   most : l.events ≤ l.most;
 }

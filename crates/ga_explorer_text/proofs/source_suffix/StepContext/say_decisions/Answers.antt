@@ -9,11 +9,11 @@ use Rattle.ga_explorer_text.proofs.source_suffix.StepContext.say_decisions.Goals
 
 pub telling-init : goal.telling-init
 telling-init g c = record {
-  decisions = c.before-decisions.ensures ∙ ap (node_at_step c.args.self.now.lab.now c.args.self.now.node) (sym (ap (λ (z : NodeAtStep). z.step) c.before-decisions.ensures));
+  decisions = c.requires;
   same = search rules;
   said = λ before said h. record {
     front = [];
-    splits = ap (decisions_text c.args.self.now.notes.now c.args.self.now.lab.now c.args.self.now.node c.args.most) (ap (λ (z : NodeAtStep). z.step) c.before-decisions.ensures);
+    splits = refl;
     is_said = written_pending _ before said _ h;
   };
 }
@@ -26,7 +26,7 @@ returns-in_default g c = (
       let s = c.args.self.now.lab.now in
       let node = c.args.self.now.node in
       let at = c.telling.decisions.step in
-      let whole : List ℕ = decisions_text notes s node c.args.most (c.args.self.now.near.step - 1) in (
+      let whole : List ℕ = decisions_text notes s node c.args.most c.args.decisions.now.step in (
         whole,
         refl,
         all_said _ before said whole _ _
@@ -45,7 +45,7 @@ returns-in_err-say_decision g c = (
       let node = c.args.self.now.node in
       let at = c.telling.decisions.step in
       let decision = c.in-Some.decision in
-      let whole : List ℕ = decisions_text notes s node c.args.most (c.args.self.now.near.step - 1) in
+      let whole : List ℕ = decisions_text notes s node c.args.most c.args.decisions.now.step in
       let done = c.telling.invariant.said before said h in
       let more = next_decision notes s node c.telling.left (c.telling.left - 1) at c.next.new.self.step decision (omega (arith, c.telling-test.true)) refl
       (c.in-Some.ensures.value ∙ ap (λ (w : NodeAtStep). newest_decided w.machine w.node at) c.telling.invariant.decisions) c.in-Some.ensures.step in (
@@ -66,7 +66,7 @@ telling-preserved g c = record {
       let node = c.args.self.now.node in
       let at = c.telling.decisions.step in
       let decision = c.in-Some.decision in
-      let whole : List ℕ = decisions_text notes s node c.args.most (c.args.self.now.near.step - 1) in
+      let whole : List ℕ = decisions_text notes s node c.args.most c.args.decisions.now.step in
       let done = c.telling.invariant.said before said h in
       let more = next_decision notes s node c.telling.left (c.telling.left - 1) at c.next.new.self.step decision (omega (arith, c.telling-test.true)) refl
       (c.in-Some.ensures.value ∙ ap (λ (w : NodeAtStep). newest_decided w.machine w.node at) c.telling.invariant.decisions) c.in-Some.ensures.step in
@@ -77,7 +77,7 @@ pub returns : goal.returns
 returns g c = (
   search rules,
   λ before said h.
-      let whole : List ℕ = decisions_text c.args.self.now.notes.now c.args.self.now.lab.now c.args.self.now.node c.args.most (c.args.self.now.near.step - 1) in (
+      let whole : List ℕ = decisions_text c.args.self.now.notes.now c.args.self.now.lab.now c.args.self.now.node c.args.most c.args.decisions.now.step in (
         whole,
         refl,
         all_said _ before said whole _ _ (no_more c.args.self.now.notes.now c.args.self.now.lab.now c.args.self.now.node c.telling.left c.telling.decisions.step (omega (arith, c.telling-test.false))) (c.telling.invariant.said before said h),

@@ -10,7 +10,7 @@ invariant-telling g l = record {
   decisions : l.decisions ≡ node_at_step l.self.lab.now l.self.node l.decisions.step;
   same : l.writer.stream.ghost_name ≡ l.fn.writer.stream.ghost_name;
   said : (before said : List ℕ) → IsWritten (g.W.Write.contents l.fn.writer.stream.now) before said l.fn.writer.pending.items
-      → IsWrittenUpTo (g.W.Write.contents l.writer.stream.now) before said (decisions_text l.self.notes.now l.self.lab.now l.self.node l.most (l.self.near.step - 1)) (decisions_text l.self.notes.now l.self.lab.now l.self.node l.left l.decisions.step) l.writer.pending.items;
+      → IsWrittenUpTo (g.W.Write.contents l.writer.stream.now) before said (decisions_text l.self.notes.now l.self.lab.now l.self.node l.most l.fn.decisions.step) (decisions_text l.self.notes.now l.self.lab.now l.self.node l.left l.decisions.step) l.writer.pending.items;
 }
 
 abbrev pub decreases-telling : goal.decreases-telling

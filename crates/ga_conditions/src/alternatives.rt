@@ -1,0 +1,85 @@
+//! Some conditions with `or` between them, as text.
+
+ghost use Rattle.std.specs.Prelude.{◌≡◌, ◌≤◌, length, drop, if◌then◌else◌, IsTrue, Some, None, option_map};
+ghost use Rattle.ga_conditions.specs.Conditions.{behind_or, or_cut, or_split, conditions_in, no_condition, until_in};
+
+use crate::condition::parse_run_condition;
+use ga_debug_info::DebugInfo;
+use ga_scheduler::{Condition, MAX_CONDITIONS};
+use ga_text::split_at_space;
+
+/// As many conditions as a run watches at most: the given ones, and then ones that never hold.
+pub type Conditions = [Condition; MAX_CONDITIONS];
+
+/// The conditions where none is given: each holds never.
+pub fn no_condition() -> Conditions
+    ensures size { length result ≡ 8 }
+    ensures value { result ≡ no_condition }
+{
+    [Condition::Never; MAX_CONDITIONS]
+}
+
+/// Whether a text begins with ` or `.
+#[tactic(auto, unfolding(crate::specs::Conditions::behind_or))]
+fn begins_or(text: &[u8]) -> bool
+    ensures rest { behind_or text.now ≡ (if result then Some (drop 4 text.now) else None) }
+    ensures long { IsTrue result → 4 ≤ length text.now }
+{
+    match text {
+        [b' ', b'o', b'r', b' ', ..] => true,
+        _ => false,
+    }
+}
+
+/// What comes before the first ` or `, and what follows it.
+fn or_cut(text: &[u8]) -> Option<(&[u8], &[u8])>
+    ensures { option_map (λ parts. (parts.0.now, parts.1.now)) result ≡ or_cut text.now }
+{
+    for place in 0..text.len() {
+        let (before, rest) = text.split_at(place);
+        if begins_or(rest) {
+            return Some((before, rest.split_at(4).1));
+        }
+    }
+    None
+}
+
+/// The first condition's text, and that of the others where there are some.
+fn or_split(text: &[u8]) -> (&[u8], Option<&[u8]>)
+    ensures first { result.0.now ≡ (or_split text.now).0 }
+    ensures others { option_map (λ others. others.now) result.1 ≡ (or_split text.now).1 }
+{
+    match or_cut(text) {
+        Some((first, others)) => (first, Some(others)),
+        None => (text, None),
+    }
+}
+
+/// The conditions of a text, at most as many as a run watches; or none.
+pub fn parse_conditions(notes: &Option<DebugInfo>, text: &[u8]) -> Option<Conditions>
+    ensures { result ≡ conditions_in notes.now text.now }
+{
+    let mut conditions = no_condition();
+    let mut left = text;
+    for place in 0..MAX_CONDITIONS {
+        let (first, others) = or_split(left);
+        conditions[place] = parse_run_condition(notes, first)?;
+        left = match others {
+            Some(others) => others,
+            None => return Some(conditions),
+        };
+    }
+    None
+}
+
+/// `until` and the conditions that follow it.
+#[tactic(auto, unfolding(crate::specs::Conditions::until_in))]
+pub fn parse_until(notes: &Option<DebugInfo>, text: &[u8]) -> Option<Conditions>
+    ensures { result ≡ until_in notes.now text.now }
+{
+    let (name, rest) = split_at_space(text)?;
+    match name {
+        b"until" => parse_conditions(notes, rest),
+        _ => None,
+    }
+}

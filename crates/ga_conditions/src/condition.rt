@@ -1,0 +1,273 @@
+//! One condition of a run or of a search back, as text.
+
+ghost use Rattle.std.specs.Prelude.{◌≡◌};
+ghost use Rattle.ga_conditions.specs.Conditions.{condition_in, lone_condition, named_condition, tested_in, possible_test, steps_condition, passes_in, passed_in, compared_in, labels_in, holds_in, node_and_place, comes_to, writes_to_in, written_in, address_or_label, noted_in, cell_of_line, begun_in, word_equal_in, operand_word_in};
+
+use crate::numbers::{parse_hex_word, parse_operand};
+use crate::tests_of_values::{parse_comparison, parse_test};
+use ga_debug_info::{DebugInfo, LabelAddress, label_address};
+use ga_grid::NodeId;
+use ga_scheduler::{Comparison, Condition, NodeValue, ValueTest};
+use ga_text::{parse_hex_byte, parse_node, parse_number, split_at_space};
+use ga_word::Word18;
+
+/// The condition that a text spells, or none.
+pub(crate) fn parse_run_condition(notes: &Option<DebugInfo>, text: &[u8]) -> Option<Condition>
+    ensures { result ≡ condition_in notes.now text.now }
+{
+    match split_at_space(text) {
+        Some((name, rest)) => named_condition(notes, name, rest),
+        None => lone_condition(text),
+    }
+}
+
+#[tactic(auto, unfolding(crate::specs::Conditions::lone_condition))]
+fn lone_condition(name: &[u8]) -> Option<Condition>
+    ensures { result ≡ lone_condition name.now }
+{
+    match name {
+        b"stop" => Some(Condition::Stops),
+        _ => None,
+    }
+}
+
+#[tactic(auto, unfolding(crate::specs::Conditions::named_condition))]
+fn named_condition(notes: &Option<DebugInfo>, name: &[u8], rest: &[u8]) -> Option<Condition>
+    ensures { result ≡ named_condition notes.now name.now rest.now }
+{
+    if name == b"stop".as_slice() {
+        Some(Condition::StopsAt(parse_node(rest)?))
+    } else if name == b"wait".as_slice() {
+        Some(Condition::WaitsAt(parse_node(rest)?))
+    } else if name == b"step".as_slice() {
+        steps_of(rest)
+    } else if name == b"pass".as_slice() {
+        passes_of(rest)
+    } else if name == b"mem".as_slice() {
+        holds_of(notes, rest)
+    } else if name == b"p".as_slice() {
+        let (node, address) = node_and_place(notes, rest)?;
+        Some(comes_to(node, address))
+    } else if name == b"reach".as_slice() {
+        let (node, address) = node_and_place(notes, rest)?;
+        Some(Condition::Reaches { node, address })
+    } else if name == b"change".as_slice() {
+        changes_of(notes, rest)
+    } else {
+        tested(notes, parse_node(name)?, rest)
+    }
+}
+
+/// The labels of a program, where there is source.
+fn names(notes: &Option<DebugInfo>) -> &[LabelAddress]
+    ensures { result.now ≡ labels_in notes.now }
+{
+    match notes {
+        Some(notes) => notes.names.as_slice(),
+        None => &[],
+    }
+}
+
+/// The test, if its number is a word or counts steps.
+fn possible(test: ValueTest) -> Option<ValueTest>
+    ensures { result ≡ possible_test test }
+{
+    if test.is_possible() { Some(test) } else { None }
+}
+
+/// `VALUE OP NUMBER` of a node
+#[tactic(auto, unfolding(crate::specs::Conditions::tested_in))]
+fn tested(notes: &Option<DebugInfo>, node: NodeId, text: &[u8]) -> Option<Condition>
+    ensures { result ≡ tested_in notes.now node text.now }
+{
+    let test = possible(parse_test(names(notes), node, text)?)?;
+    Some(Condition::Holds { node, test })
+}
+
+/// P of the node is this address.
+fn comes_to(node: NodeId, address: u32) -> Condition
+    ensures { result ≡ comes_to node address }
+{
+    Condition::Holds {
+        node,
+        test: ValueTest {
+            value: NodeValue::P,
+            comparison: Comparison::Equal,
+            number: address,
+        },
+    }
+}
+
+/// `NNN K`
+#[tactic(auto, unfolding(crate::specs::Conditions::steps_condition))]
+fn steps_of(text: &[u8]) -> Option<Condition>
+    ensures { result ≡ steps_condition text.now }
+{
+    let (node, step) = split_at_space(text)?;
+    Some(Condition::Steps {
+        node: parse_node(node)?,
+        step: parse_number(step)?,
+    })
+}
+
+/// `NNN MMM OP NUMBER` or `NNN MMM J`
+#[tactic(auto, unfolding(crate::specs::Conditions::passes_in))]
+fn passes_of(text: &[u8]) -> Option<Condition>
+    ensures { result ≡ passes_in text.now }
+{
+    let (writer, rest) = split_at_space(text)?;
+    let (reader, rest) = split_at_space(rest)?;
+    passed_of(parse_node(writer)?, parse_node(reader)?, rest)
+}
+
+/// `OP NUMBER` or `J`
+fn passed_of(writer: NodeId, reader: NodeId, text: &[u8]) -> Option<Condition>
+    ensures { result ≡ passed_in writer reader text.now }
+{
+    match split_at_space(text) {
+        Some((sign, word)) => compared(writer, reader, sign, word),
+        None => Some(Condition::PassesNumber {
+            writer,
+            reader,
+            number: parse_number(text)?,
+        }),
+    }
+}
+
+/// `OP NUMBER` of a word that passes
+#[tactic(auto, unfolding(crate::specs::Conditions::compared_in))]
+fn compared(writer: NodeId, reader: NodeId, sign: &[u8], word: &[u8]) -> Option<Condition>
+    ensures { result ≡ compared_in writer reader sign.now word.now }
+{
+    Some(Condition::Passes {
+        writer,
+        reader,
+        comparison: parse_comparison(sign)?,
+        word: word_of(&[], reader, word)?,
+    })
+}
+
+/// `NNN HH = NUMBER`
+#[tactic(auto, unfolding(crate::specs::Conditions::holds_in))]
+fn holds_of(notes: &Option<DebugInfo>, text: &[u8]) -> Option<Condition>
+    ensures { result ≡ holds_in notes.now text.now }
+{
+    let (node, rest) = split_at_space(text)?;
+    let (address, rest) = split_at_space(rest)?;
+    let node = parse_node(node)?;
+    let address = parse_hex_byte(address)?;
+    let word = word_equal(names(notes), node, rest)?;
+    Some(Condition::Holds {
+        node,
+        test: ValueTest {
+            value: NodeValue::Cell(address),
+            comparison: Comparison::Equal,
+            number: word.get(),
+        },
+    })
+}
+
+/// `NNN X`
+#[tactic(auto, unfolding(crate::specs::Conditions::node_and_place))]
+fn node_and_place(notes: &Option<DebugInfo>, text: &[u8]) -> Option<(NodeId, u32)>
+    ensures { result ≡ node_and_place notes.now text.now }
+{
+    let (node, address) = split_at_space(text)?;
+    let node = parse_node(node)?;
+    let address = address_of(notes, node, address)?;
+    Some((node, address))
+}
+
+/// `NNN HH` or `NNN HH = NUMBER`
+#[tactic(auto, unfolding(crate::specs::Conditions::writes_to_in))]
+fn changes_of(notes: &Option<DebugInfo>, text: &[u8]) -> Option<Condition>
+    ensures { result ≡ writes_to_in notes.now text.now }
+{
+    let (node, rest) = split_at_space(text)?;
+    written_of(names(notes), parse_node(node)?, rest)
+}
+
+/// `HH` or `HH = NUMBER`
+fn written_of(names: &[LabelAddress], node: NodeId, text: &[u8]) -> Option<Condition>
+    ensures { result ≡ written_in names.now node text.now }
+{
+    match split_at_space(text) {
+        Some((address, rest)) => {
+            let address = parse_hex_byte(address)?;
+            let word = word_equal(names, node, rest)?;
+            Some(Condition::Writes {
+                node,
+                address,
+                word: Some(word),
+            })
+        }
+        None => {
+            let address = parse_hex_byte(text)?;
+            Some(Condition::Writes {
+                node,
+                address,
+                word: None,
+            })
+        }
+    }
+}
+
+/// An address, or else a label of the node or `line N`, which only source gives.
+fn address_of(notes: &Option<DebugInfo>, node: NodeId, text: &[u8]) -> Option<u32>
+    ensures { result ≡ address_or_label notes.now node text.now }
+{
+    match parse_hex_word(text) {
+        Some(word) => Some(word.get()),
+        None => noted_of(notes, node, text),
+    }
+}
+
+/// A label, or `line N`.
+fn noted_of(notes: &Option<DebugInfo>, node: NodeId, text: &[u8]) -> Option<u32>
+    ensures { result ≡ noted_in notes.now node text.now }
+{
+    match split_at_space(text) {
+        Some((name, line)) => line_of(notes, node, name, line),
+        None => label_address(names(notes), node, text),
+    }
+}
+
+/// `line N`: the address of the first instruction word of the node that this line begins.
+#[tactic(auto, unfolding(crate::specs::Conditions::cell_of_line))]
+fn line_of(notes: &Option<DebugInfo>, node: NodeId, name: &[u8], line: &[u8]) -> Option<u32>
+    ensures { result ≡ cell_of_line notes.now node name.now line.now }
+{
+    match name {
+        b"line" => begun_by(notes, node, parse_number(line)?),
+        _ => None,
+    }
+}
+
+/// The address of the first instruction word of the node that a line begins.
+fn begun_by(notes: &Option<DebugInfo>, node: NodeId, line: u32) -> Option<u32>
+    ensures { result ≡ begun_in notes.now node line }
+{
+    match notes {
+        Some(notes) => notes.line_address(node, line),
+        None => None,
+    }
+}
+
+/// A number that is a word.
+fn word_of(names: &[LabelAddress], node: NodeId, text: &[u8]) -> Option<Word18>
+    ensures { result ≡ operand_word_in names.now node text.now }
+{
+    Word18::new(parse_operand(names, node, text)?)
+}
+
+/// `= NUMBER`
+#[tactic(auto, unfolding(crate::specs::Conditions::word_equal_in))]
+fn word_equal(names: &[LabelAddress], node: NodeId, text: &[u8]) -> Option<Word18>
+    ensures { result ≡ word_equal_in names.now node text.now }
+{
+    let (sign, word) = split_at_space(text)?;
+    match sign {
+        b"=" => word_of(names, node, word),
+        _ => None,
+    }
+}

@@ -1,0 +1,11 @@
+//! The language of conditions: what a run, a search back and a breakpoint ask of an event and of the chip after it, as text.
+#![tactic(auto)]
+
+mod alternatives;
+mod condition;
+mod numbers;
+mod tests_of_values;
+
+pub use alternatives::{Conditions, no_condition, parse_conditions, parse_until};
+pub use numbers::parse_hex_word;
+pub use tests_of_values::{parse_test, parse_value};

@@ -1,0 +1,111 @@
+-- What standard error and a listing say of a source and of an image (docs/REFERENCE.md, "Source"; this project's own).
+use Rattle.std.specs.Prelude.{ℕ, ◌-◌, zero, suc, nat_lt, nat_le, ◌&&◌, if◌then◌else◌, List, [], ◌∷◌, ◌++◌, length, take, codes, decimal, Option, Some, None}
+use Rattle.std.specs.List.{flat_map}
+use Rattle.ga_text.specs.Lines.{Text}
+use Rattle.ga_text.specs.Digits.{hex2_of}
+use Rattle.ga_parser.specs.Hints.{hint_for}
+use Rattle.ga_parser.specs.declared.fault.Fault.{Fault}
+use Rattle.ga_parser.specs.declared.fault.NumberRange.{NumberRange}
+use Rattle.ga_parser.specs.declared.fault.NumberRange.TheVariants.{Word, P, B, Cell}
+use Rattle.ga_parser.specs.declared.fault.SourceCause.{SourceCause}
+use Rattle.ga_parser.specs.declared.fault.SourceCause.TheVariants.{Memory, LongLine, OpenComment, NoNode, NoSuchNode, NodeTwice, Unknown, Taken, Missing, LabelTwice, RegisterTwice, Unmatched, Open, Number, CellTwice, Past, Reach, Loop}
+use Rattle.ga_source.specs.declared.program.Program.{Program}
+use Rattle.ga_source.specs.declared.stores.Store.{Store}
+use Rattle.ga_source.specs.Stores.{stores_of_program}
+use Rattle.ga_debug_info.specs.Source.{address_text}
+
+-- ---- a fault
+
+-- printable ASCII is printed unchanged, and any other byte as `\x` and its two hexadecimal digits
+abbrev pub printable_byte : ℕ → Text
+printable_byte byte = if nat_le 32 byte && nat_lt byte 127 then byte ∷ [] else codes "\\x" ++ hex2_of byte
+
+abbrev pub printable : Text → Text
+printable word = flat_map printable_byte word
+
+-- the spelling or the word that is proposed in place of an unknown one
+abbrev pub hint_part : Option Text → Text
+hint_part None = []
+hint_part (Some text) = codes ": " ++ printable text
+
+-- the numbers of a range
+abbrev pub range_text : NumberRange → Text
+range_text Word = codes "-131072 to 262143"
+range_text P = codes "0 to 0x3ff"
+range_text B = codes "0 to 0x1ff"
+range_text Cell = codes "0 to 0x3f, 0x80 to 0xbf"
+
+-- the cell that a line gave before
+abbrev pub given_before_text : ℕ → ℕ → Text
+given_before_text cell line = codes "cell " ++ address_text cell ++ codes " given before on line " ++ decimal line
+
+-- the cell in decimal, for `org`
+abbrev pub org_text : ℕ → Text
+org_text cell = codes " (org " ++ decimal cell ++ codes " is " ++ address_text cell ++ codes ")"
+
+-- what is wrong
+abbrev pub cause_text : SourceCause → Text
+cause_text Memory = codes "no memory"
+cause_text LongLine = codes "the line has more than 200 bytes"
+cause_text OpenComment = codes "a comment without its )"
+cause_text NoNode = codes "no node has begun"
+cause_text NoSuchNode = codes "no such node"
+cause_text NodeTwice = codes "the node has a program already"
+cause_text (Unknown word) = codes "what is " ++ printable word.now ++ hint_part (hint_for word.now)
+cause_text Taken = codes "the name is taken"
+cause_text Missing = codes "a name or a value is missing"
+cause_text LabelTwice = codes "the label stands twice"
+cause_text RegisterTwice = codes "the register is given twice"
+cause_text Unmatched = codes "nothing is open that this closes"
+cause_text Open = codes "this is never closed"
+cause_text (Number word range) = codes "number out of range: " ++ printable word.now ++ codes " (" ++ range_text range ++ codes ")"
+cause_text (CellTwice cell line) = given_before_text cell line ++ org_text cell
+cause_text (Past address) = address_text address ++ codes " is past the end of RAM or ROM"
+cause_text (Reach cell target) = address_text target ++ codes " is out of reach of a jump in " ++ address_text cell
+cause_text (Loop cell) = codes "the loop of unext in " ++ address_text cell ++ codes " is longer than its cell"
+
+-- a fault with its line
+abbrev pub fault_text : Fault → Text
+fault_text fault = codes "line " ++ decimal fault.line ++ codes ": " ++ cause_text fault.cause
+
+-- ---- faults
+
+-- a line after a prefix
+abbrev pub prefixed_line : Text → Text → Text
+prefixed_line prefix text = prefix ++ text ++ codes "\n"
+
+-- the number of faults that are left out
+abbrev pub more_faults_text : Text → ℕ → Text
+more_faults_text prefix zero = []
+more_faults_text prefix (suc n) = prefixed_line prefix (codes "and " ++ decimal (suc n) ++ codes " more")
+
+-- the maximum number of faults that are printed
+abbrev pub max_reported : ℕ
+max_reported = 20
+
+-- the first of some faults, each on a line, and the number of the others
+abbrev pub faults_text : Text → List Fault → Text
+faults_text prefix faults = flat_map (λ fault. prefixed_line prefix (fault_text fault)) (take max_reported faults) ++ more_faults_text prefix (length faults - max_reported)
+
+-- ---- lines of standard error
+
+abbrev pub program_name : Text
+program_name = codes "ga144: "
+
+abbrev pub out_of_memory_text : Text
+out_of_memory_text = prefixed_line program_name (codes "no memory")
+
+abbrev pub too_long_text : Text
+too_long_text = prefixed_line program_name (codes "the source has more than 16777216 bytes")
+
+-- a line that writes an address
+abbrev pub write_text : ℕ → ℕ → Text
+write_text line address = codes "line " ++ decimal line ++ codes ": warning: this writes " ++ address_text address
+
+-- the warning of a store over code
+abbrev pub store_text : Store → Text
+store_text store = prefixed_line program_name (write_text store.line store.address ++ codes ", which holds code of line " ++ decimal store.code_line)
+
+-- the stores over code of programs, in their order
+abbrev pub stores_of_programs : List Program → List Store
+stores_of_programs programs = flat_map stores_of_program programs

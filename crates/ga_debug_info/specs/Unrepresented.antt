@@ -1,0 +1,43 @@
+-- The fields of an image that source doesn't give (docs/REFERENCE.md, "Source"; this project's own).
+use Rattle.std.specs.Prelude.{ℕ, ◌+◌, ◌==◌, Bool, if◌then◌else◌, List, [], ◌∷◌, ◌++◌, length, codes}
+use Rattle.std.specs.List.{list_all}
+use Rattle.std.specs.Int.{from_bool}
+use Rattle.ga_stacks.specs.Ring.{fresh_word}
+use Rattle.ga_node.specs.Record.{NodeState, record_of}
+use Rattle.ga_node.specs.State.{wait_code}
+use Rattle.ga_grid.specs.Grid.{yxx_of}
+use Rattle.ga_text.specs.Digits.{decimal3_of}
+use Rattle.ga_text.specs.Lines.{Text}
+use Rattle.ga_debug_info.specs.Faults.{prefixed_line, program_name}
+
+-- the name of a field, unless it is as at load
+abbrev pub named_unless : Bool → Text → Text
+named_unless is_at_load name = if is_at_load then [] else name
+
+abbrev pub is_fresh : ℕ → Bool
+is_fresh word = word == fresh_word
+
+-- the fields beside the memories, P, A and B that aren't as at load, in their order in an image
+abbrev pub unrepresented_fields : NodeState → Text
+unrepresented_fields node =
+    named_unless (node.i == 0) (codes " i") ++ named_unless (node.io == fresh_word) (codes " io")
+    ++ named_unless (from_bool node.carry == 0) (codes " carry") ++ named_unless (node.slot == 4) (codes " slot")
+    ++ named_unless (list_all is_fresh (record_of node).d) (codes " d") ++ named_unless (list_all is_fresh (record_of node).r) (codes " r")
+    ++ named_unless (wait_code node.wait == 0) (codes " wait") ++ named_unless (node.stop == 0) (codes " stop")
+
+-- the line of a node with these fields
+abbrev pub node_line : ℕ → Text → Text
+node_line n fields = prefixed_line program_name (codes "node " ++ decimal3_of (yxx_of n) ++ codes ": not in source:" ++ fields)
+
+-- the line of a node, if there is such a field
+abbrev pub fields_line : ℕ → Text → Text
+fields_line n fields = if length fields == 0 then [] else node_line n fields
+
+-- the lines of nodes, the first of which has this number
+unfoldable pub unrepresented_from : ℕ → List NodeState → Text
+unrepresented_from n [] = []
+unrepresented_from n (node ∷ nodes) = fields_line n (unrepresented_fields node) ++ unrepresented_from (n + 1) nodes
+
+-- the lines of a chip
+abbrev pub unrepresented_text : List NodeState → Text
+unrepresented_text chip = unrepresented_from 0 chip

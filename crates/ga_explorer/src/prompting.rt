@@ -1,0 +1,113 @@
+//! Exploring at a terminal: a prompt before each command.
+
+ghost use Rattle.std.specs.Prelude.{◌≡◌, ◌-◌, ◌++◌, Some};
+ghost use Rattle.ga_text.specs.Lines.{Bytes};
+ghost use Rattle.ga_text.specs.Input.{IsWithin, input_limit};
+ghost use Rattle.ga_text.specs.Output.{IsSameStream, IsWritten, WritesExactly};
+ghost use Rattle.ga_console.specs.Session.{Serves, Written};
+ghost use Rattle.ga_explorer.specs.Opening.{ExplorerState};
+ghost use Rattle.ga_explorer.specs.Session.{prompt, Prompts};
+
+use crate::explorer::Explorer;
+use ga_console::{Command, CommandsEnd, LineAction, Responder, serve};
+use ga_lab::Lab;
+use ga_text::{Input, WriteError, WriteResult, Writer};
+use std::alloc::Global;
+use std::io::{Read, Write};
+
+/// A lab that is explored, and whether a prompt for the next command follows each answer.
+#[derive(Drop)]
+pub struct PromptedExplorer {
+    /// What answers.
+    pub explorer: Explorer,
+    /// A prompt follows each answer.
+    pub is_prompted: bool,
+}
+
+impl PromptedExplorer {
+    /// Writes the prompt of the next command, if one is wanted.
+    ///
+    /// # Errors
+    /// A write failed.
+    #[inline(always)]
+    fn write_prompt<W: Write>(&self, writer: &mut Writer<'_, W>) -> WriteResult
+        ensures { WritesExactly result (prompt self.now.is_prompted) W.contents writer.old writer.new }
+    {
+        if self.is_prompted {
+            return writer.write_text(b"> ");
+        }
+        Ok(())
+    }
+}
+
+impl Responder for PromptedExplorer {
+    ghost use Rattle.std.specs.Prelude.{false, None};
+    ghost use Rattle.ga_explorer.specs.inner.{explorer_state, PromptsFor};
+
+    ghost answers = { λ p line written new. PromptsFor p.is_prompted p.explorer line written new.is_prompted new.explorer };
+
+    ghost begin = { λ s. record { explorer = explorer_state s None; is_prompted = false } };
+
+    fn open(lab: Lab) -> Self {
+        PromptedExplorer {
+            explorer: Explorer::open(lab),
+            is_prompted: false,
+        }
+    }
+
+    fn answer<W: Write>(
+        &mut self,
+        alloc: Global,
+        line: &[u8],
+        writer: &mut Writer<'_, W>,
+    ) -> Result<LineAction, WriteError> {
+        match self.explorer.answer(alloc, line, writer)? {
+            LineAction::Quit => Ok(LineAction::Quit),
+            LineAction::Answered => {
+                self.write_prompt(writer)?;
+                Ok(LineAction::Answered)
+            }
+        }
+    }
+
+    #[inline(always)]
+    fn obey<W: Write>(
+        &mut self,
+        alloc: Global,
+        command: Command,
+        writer: &mut Writer<'_, W>,
+    ) -> WriteResult {
+        self.explorer.obey(alloc, command, writer)?;
+        self.write_prompt(writer)
+    }
+}
+
+/// Answers the command lines one by one, until the input ends, with a prompt before each if `is_prompted`.
+///
+/// # Errors
+/// A write failed.
+pub(crate) fn serve_explorer<R: Read, W: Write>(
+    alloc: Global,
+    input: &mut Input,
+    reader: &mut R,
+    writer: &mut Writer<'_, W>,
+    explorer: Explorer,
+    is_prompted: bool,
+) -> Result<CommandsEnd, WriteError>
+    requires { IsWithin input.old }
+    ensures same { IsSameStream writer.old writer.new }
+    ensures serves { (left before said : Bytes) → R.remaining reader.old ≡ Some left →
+        IsWritten (W.contents writer.old.stream.now) before said writer.old.pending.items →
+        (read rest text sent : Bytes) × (last : ExplorerState)
+        × (input.old.bytes ++ left ≡ read ++ rest) × (R.remaining reader.new ≡ Some rest)
+        × (W.contents writer.new.stream.now ≡ Some (before ++ sent))
+        × Serves (Prompts is_prompted) (input_limit - input.old.taken) explorer read rest text last result
+        × Written result (said ++ (prompt is_prompted ++ text)) sent }
+{
+    let mut session = PromptedExplorer {
+        explorer,
+        is_prompted,
+    };
+    session.write_prompt(writer)?;
+    serve(alloc, input, reader, writer, &mut session)
+}

@@ -1,0 +1,15 @@
+use Rattle.std.proofs.Common.{◌∙◌, ◌&&◌, length-set, arith}
+use Rattle.ga_causal.specs.Dependence.{is_marked}
+use Rattle.ga_explorer_text.specs.inner.{ended_but}
+use Rattle.ga_explorer_text.proofs.Ending.{flagged_more}
+use Rattle.ga_explorer_text.proofs.ended.ended_among.Goals as goal
+
+pub nodes-preserved : goal.nodes-preserved
+nodes-preserved c = record {
+  size = length-set c.nodes.ended c.nodes.number c.is_ended.result ∙ c.nodes.invariant.size;
+  marked = flagged_more c.nodes.ended c.nodes.number c.new.result.number c.is_ended.result (λ n. is_marked c.args.marks.now n && ended_but c.args.live.now n) c.nodes.invariant.size (omega arith) c.new.ensures
+      c.is_ended.ensures c.nodes.invariant.marked;
+}
+
+pub returns : goal.returns
+returns c = λ n k. c.nodes.invariant.marked n (omega (arith, k))

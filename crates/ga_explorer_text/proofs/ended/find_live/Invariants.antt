@@ -1,0 +1,16 @@
+use Rattle.std.proofs.Common.{◌≡◌, ℕ, Bool, length}
+use Rattle.ga_grid.specs.Chip.{records_of}
+use Rattle.ga_races.specs.Acts.{IsSubset}
+use Rattle.ga_races.proofs.Freeing.{how_many}
+use Rattle.ga_explorer_text.specs.Ended.{MarksEnded}
+use Rattle.ga_explorer_text.specs.inner.{ended_but}
+use Rattle.ga_explorer_text.proofs.ended.find_live.Given as goal
+
+abbrev pub invariant-ending : goal.invariant-ending
+invariant-ending l = record {
+  size : length l.live ≡ 144;
+  least : (others : ℕ → Bool) → MarksEnded (records_of l.chip) others → IsSubset (ended_but l.live) others;
+}
+
+abbrev pub decreases-ending : goal.decreases-ending
+decreases-ending l = how_many l.live

@@ -1,0 +1,56 @@
+-- Nodes that have ended: each waits for code, or to read from such nodes alone (F18A Technology Reference DB001, ports and port
+-- execution; G144A12 Chip Reference DB002, links).
+use Rattle.std.specs.Prelude.{◌≡◌, ℕ, ◌<◌, Bool, true, false, not, ◌&&◌, ◌||◌, List, Option, Some, None}
+use Rattle.ga_ports.specs.declared.side.Side.{Side}
+use Rattle.ga_ports.specs.declared.side.Side.TheVariants.{Right, Down, Left, Up}
+use Rattle.ga_node.specs.Record.{NodeRecord}
+use Rattle.ga_node.specs.declared.wait.Wait.{Wait}
+use Rattle.ga_node.specs.declared.wait.Wait.TheVariants as wait
+use Rattle.ga_grid.specs.Grid.{neighbour_of}
+use Rattle.ga_grid.specs.Chip.{record_at}
+use Rattle.ga_races.specs.Acts.{awaits, IsSubset}
+
+-- whether the node on a side is marked, if there is one
+abbrev pub is_ended : (ℕ → Bool) → Option ℕ → Bool
+is_ended marks None = true
+is_ended marks (Some m) = marks m
+
+-- the node awaits no neighbour on this side but a marked one
+abbrev pub ended_on : List NodeRecord → (ℕ → Bool) → ℕ → Side → Bool
+ended_on chip marks n side = not (awaits (record_at chip n).wait side) || is_ended marks (neighbour_of n side)
+
+-- the node awaits a neighbour on this side
+abbrev pub is_beside : Option ℕ → Bool → Bool
+is_beside None awaited = false
+is_beside (Some m) awaited = awaited
+
+abbrev pub awaits_on : List NodeRecord → ℕ → Side → Bool
+awaits_on chip n side = is_beside (neighbour_of n side) (awaits (record_at chip n).wait side)
+
+-- the node awaits a neighbour
+abbrev pub awaits_any : List NodeRecord → ℕ → Bool
+awaits_any chip n = awaits_on chip n Right || (awaits_on chip n Down || (awaits_on chip n Left || awaits_on chip n Up))
+
+-- the node awaits marked neighbours, and no other
+abbrev pub awaits_ended : List NodeRecord → (ℕ → Bool) → ℕ → Bool
+awaits_ended chip marks n =
+    awaits_any chip n && (ended_on chip marks n Right && (ended_on chip marks n Down && (ended_on chip marks n Left && ended_on chip marks n Up)))
+
+-- the node has ended if the marked ones have: it waits for code, or to read from marked nodes alone
+abbrev pub ends_by : Wait → Bool → Bool
+ends_by (wait.Fetch sides) ended = true
+ends_by (wait.Read sides) ended = ended
+ends_by (wait.Write side) ended = false
+ends_by wait.Nothing ended = false
+
+unfoldable pub has_ended : List NodeRecord → (ℕ → Bool) → ℕ → Bool
+has_ended chip marks n = ends_by (record_at chip n).wait (awaits_ended chip marks n)
+
+-- each node is marked that has ended if the marked ones have
+abbrev pub MarksEnded : List NodeRecord → (ℕ → Bool) → Type 0
+MarksEnded chip marks = (n : ℕ) → n < 144 → has_ended chip marks n ≡ true → marks n ≡ true
+
+-- The marked nodes have ended: the least set of this kind, in which no nodes wait for one another alone.
+pub record AreEnded (chip : List NodeRecord) (marks : ℕ → Bool) : Type 0 where
+  pub closed : MarksEnded chip marks
+  pub least : (others : ℕ → Bool) → MarksEnded chip others → IsSubset marks others

@@ -1,0 +1,117 @@
+//! Nodes that have ended.
+
+ghost use Rattle.std.specs.Prelude.{◌≡◌, ◌<◌, ◌&&◌, not, ℕ, Bool, true, false, length, IfSome, IfNone};
+ghost use Rattle.ga_grid.specs.Chip.{records_of};
+ghost use Rattle.ga_causal.specs.Dependence.{is_marked};
+ghost use Rattle.ga_explorer_text.specs.Ended.{ended_on, awaits_on, awaits_any, awaits_ended, has_ended, AreEnded};
+ghost use Rattle.ga_explorer_text.specs.inner.{ended_but};
+
+use ga_grid::{Chip, NodeId, neighbour};
+use ga_node::Wait;
+use ga_ports::Side;
+use ga_races::awaits;
+
+// Whether a node awaits no neighbour on a side but one that isn't among the live ones.
+fn is_ended_on(chip: &Chip, live: &[bool; 144], node: NodeId, side: Side) -> bool
+    ensures { result ≡ ended_on (records_of chip.now) (ended_but live.now) node.number side }
+{
+    if !awaits(&chip.node(node).wait(), side) {
+        return true;
+    }
+    match neighbour(node, side) {
+        Some(other) => !live[other.index()],
+        None => true,
+    }
+}
+
+// Whether a node awaits a neighbour on a side.
+fn awaits_on(chip: &Chip, node: NodeId, side: Side) -> bool
+    ensures { result ≡ awaits_on (records_of chip.now) node.number side }
+{
+    match neighbour(node, side) {
+        Some(_) => awaits(&chip.node(node).wait(), side),
+        None => false,
+    }
+}
+
+// Whether a node awaits a neighbour.
+fn awaits_any(chip: &Chip, node: NodeId) -> bool
+    ensures { result ≡ awaits_any (records_of chip.now) node.number }
+{
+    let right = awaits_on(chip, node, Side::Right);
+    let down = awaits_on(chip, node, Side::Down);
+    let left = awaits_on(chip, node, Side::Left);
+    let up = awaits_on(chip, node, Side::Up);
+    right || (down || (left || up))
+}
+
+// Whether a node awaits neighbours, and none of the live ones.
+fn awaits_ended(chip: &Chip, live: &[bool; 144], node: NodeId) -> bool
+    ensures { result ≡ awaits_ended (records_of chip.now) (ended_but live.now) node.number }
+{
+    let right = is_ended_on(chip, live, node, Side::Right);
+    let down = is_ended_on(chip, live, node, Side::Down);
+    let left = is_ended_on(chip, live, node, Side::Left);
+    let up = is_ended_on(chip, live, node, Side::Up);
+    let any = awaits_any(chip, node);
+    any && (right && (down && (left && up)))
+}
+
+// Whether a node has ended if all but the live ones have.
+#[tactic(auto, unfolding(crate::specs::Ended::has_ended))]
+fn has_ended(chip: &Chip, live: &[bool; 144], node: NodeId) -> bool
+    ensures { result ≡ has_ended (records_of chip.now) (ended_but live.now) node.number }
+{
+    match chip.node(node).wait() {
+        Wait::Fetch(_) => true,
+        Wait::Read(_) => awaits_ended(chip, live, node),
+        Wait::Write(_) => false,
+        Wait::Nothing => false,
+    }
+}
+
+// A live node that has ended if all but the live ones have.
+fn first_ended(chip: &Chip, live: &[bool; 144]) -> Option<NodeId>
+    ensures live { IfSome result (λ node. is_marked live.now node.number ≡ true) }
+    ensures ended { IfSome result (λ node. has_ended (records_of chip.now) (ended_but live.now) node.number ≡ true) }
+    ensures none { IfNone result ((n : ℕ) → n < 144 → is_marked live.now n ≡ true →
+        has_ended (records_of chip.now) (ended_but live.now) n ≡ false) }
+{
+    for number in 0..144u8 {
+        let node = NodeId::new(number);
+        if live[number as usize] && has_ended(chip, live, node) {
+            return Some(node);
+        }
+    }
+    None
+}
+
+/// The nodes that have not ended: a flag for each node. One that has waits for code, or to read from such nodes alone.
+pub(crate) fn find_live(chip: &Chip) -> [bool; 144]
+    ensures ended { AreEnded (records_of chip.now) (ended_but result) }
+    ensures size { length result ≡ 144 }
+{
+    let mut live = [true; 144];
+    'ending: while let Some(node) = first_ended(chip, &live) {
+        live[node.index()] = false;
+    }
+    live
+}
+
+/// The marked nodes that have ended.
+pub(crate) fn ended_among(marks: &[bool; 144], live: &[bool; 144]) -> [bool; 144]
+    ensures { (n : ℕ) → n < 144 → is_marked result n ≡ (is_marked marks.now n && ended_but live.now n) }
+{
+    let mut ended = [false; 144];
+    'nodes: for number in 0..144u8 {
+        ended[number as usize] = is_ended(marks, live, NodeId::new(number));
+    }
+    ended
+}
+
+// Whether a marked node has ended.
+fn is_ended(marks: &[bool; 144], live: &[bool; 144], node: NodeId) -> bool
+    ensures { result ≡ (is_marked marks.now node.number && ended_but live.now node.number) }
+{
+    marks[node.index()] && !live[node.index()]
+}

@@ -1,0 +1,251 @@
+//! Whether a word would be refused, before it is taken.
+
+ghost use Rattle.std.specs.Prelude.{◌≡◌, ℕ, List};
+ghost use Rattle.ga_parser.specs.Asking.{ParseState, ◌▷◌, value_said, cell as cell_row, value_or_call, address_asks};
+ghost use Rattle.ga_parser.specs.inner.Refusing.{RefusesBy, loop_cause_of};
+
+use super::controls::Open;
+use super::draft::{Expect, RequestBuilder};
+use super::fault::{NumberRange, SourceCause};
+use super::number::{Number, number_of};
+use super::scan::{Token, TokenKind};
+use super::vocabulary::{
+    Control, Register, control_named, is_reserved, parse_directive, parse_opcode,
+};
+
+/// Why a value is refused, where it is; what is no value by the other cause.
+#[tactic(auto, unfolding(crate::specs::Asking::value_said))]
+fn cell_cause<'s>(text: &'s [u8]) -> Option<SourceCause<'s>>
+    ensures { (now : ParseState) (line : ℕ) → RefusesBy result line (value_said now line text.now ▷ (λ said. cell_row said.1 line said.0)) }
+{
+    if let [b'\'', name @ ..] = text {
+        return if name.is_empty() {
+            Some(SourceCause::Missing)
+        } else {
+            None
+        };
+    }
+    match number_of(text) {
+        Number::Of(_) => None,
+        Number::OutOfRange => Some(SourceCause::Number(text, NumberRange::Word)),
+        Number::Nothing => Some(SourceCause::Missing),
+    }
+}
+
+/// Why a literal or a label's name is refused, where it is.
+#[tactic(auto, unfolding(crate::specs::Asking::value_said, crate::specs::Asking::call))]
+fn literal_cause<'s>(text: &'s [u8]) -> Option<SourceCause<'s>>
+    ensures { (now : ParseState) (line : ℕ) (next : List ℕ) → RefusesBy result line (value_said now line text.now ▷ (λ said. value_or_call said.1 line text.now next said.0)) }
+{
+    if let [b'\'', name @ ..] = text {
+        return if name.is_empty() {
+            Some(SourceCause::Missing)
+        } else {
+            None
+        };
+    }
+    match number_of(text) {
+        Number::Of(_) => None,
+        Number::OutOfRange => Some(SourceCause::Number(text, NumberRange::Word)),
+        Number::Nothing => {
+            if is_reserved(text) {
+                Some(SourceCause::Unknown(text))
+            } else {
+                None
+            }
+        }
+    }
+}
+
+/// Why an address is refused, where it is.
+#[tactic(auto, unfolding(crate::specs::Asking::address_asks))]
+fn address_cause<'s>(text: &'s [u8]) -> Option<SourceCause<'s>>
+    ensures { (now : ParseState) (line : ℕ) → RefusesBy result line (address_asks now line text.now) }
+{
+    match number_of(text) {
+        Number::Of(found) => {
+            if found < 0x40 || 0x80 <= found && found < 0xc0 {
+                None
+            } else {
+                Some(SourceCause::Number(text, NumberRange::Cell))
+            }
+        }
+        Number::OutOfRange => Some(SourceCause::Number(text, NumberRange::Cell)),
+        Number::Nothing => Some(SourceCause::Missing),
+    }
+}
+
+/// Why a word that ends a loop is refused, where it is: this one is open.
+fn loop_cause<'s>(innermost: Option<Open>) -> Option<SourceCause<'s>>
+    ensures { result ≡ loop_cause_of innermost }
+{
+    match innermost {
+        Some(Open::Loop(_, _)) => None,
+        Some(Open::Ahead(_, _)) => Some(SourceCause::Unmatched),
+        None => Some(SourceCause::Unmatched),
+    }
+}
+
+impl<'s> RequestBuilder<'s> {
+    ghost use Rattle.std.specs.Prelude.{◌≡◌, ℕ, reverse};
+    ghost use Rattle.ga_parser.specs.Asking.{given_in, register_asks, word_asks, hear};
+    ghost use Rattle.ga_parser.specs.Recovery.{passed_over};
+    ghost use Rattle.ga_parser.specs.Saying.{token_content};
+    ghost use Rattle.ga_parser.specs.inner.Drafting.{asking_of};
+    ghost use Rattle.ga_parser.specs.inner.Refusing.{RefusesBy, first_open, around_first, ahead_cause_of, control_cause_of, name_cause_of, given_cause_of};
+
+    /// The word that was left open last, where there is one.
+    #[tactic(auto, using(crate::proofs::Causes::last_is_first))]
+    fn innermost(&self) -> Option<Open>
+        ensures { result ≡ first_open (reverse self.now.open.items) }
+    {
+        let all = self.open.as_slice();
+        if all.is_empty() {
+            return None;
+        }
+        Some(all[all.len() - 1])
+    }
+
+    /// The word right around the one that was left open last.
+    #[tactic(auto, using(crate::proofs::Causes::last_but_one))]
+    fn around(&self) -> Option<Open>
+        ensures { result ≡ first_open (around_first (reverse self.now.open.items)) }
+    {
+        let all = self.open.as_slice();
+        if all.len() < 2 {
+            return None;
+        }
+        Some(all[all.len() - 2])
+    }
+
+    /// Why a word that ends a jump ahead is refused, where it is: this one is open.
+    fn ahead_cause(&self, innermost: Option<Open>) -> Option<SourceCause<'s>>
+        ensures { result ≡ ahead_cause_of self.now.labels innermost }
+    {
+        match innermost {
+            Some(Open::Ahead(_, label)) => {
+                if self.labels.is_marked(label) {
+                    Some(SourceCause::LabelTwice)
+                } else {
+                    None
+                }
+            }
+            Some(Open::Loop(_, _)) => Some(SourceCause::Unmatched),
+            None => Some(SourceCause::Unmatched),
+        }
+    }
+
+    /// Why a control word is refused, where it is.
+    fn control_cause(&self, control: Control) -> Option<SourceCause<'s>>
+        ensures { result ≡ control_cause_of self.now.labels (reverse self.now.open.items) control }
+    {
+        match control {
+            Control::Begin | Control::For | Control::If(_) => None,
+            Control::Else | Control::Then => self.ahead_cause(self.innermost()),
+            Control::Again => loop_cause(self.innermost()),
+            Control::Until(_) => loop_cause(self.innermost()),
+            Control::Next => loop_cause(self.innermost()),
+            Control::Unext => loop_cause(self.innermost()),
+            Control::While(_) => loop_cause(self.innermost()),
+            Control::NextAround => loop_cause(self.around()),
+            Control::Repeat => match loop_cause(self.innermost()) {
+                Some(cause) => Some(cause),
+                None => self.ahead_cause(self.around()),
+            },
+        }
+    }
+
+    /// Why a label's name is refused, where it is.
+    fn name_cause(&self, name: &'s [u8]) -> Option<SourceCause<'s>>
+        ensures { result ≡ name_cause_of self.now.labels name.now }
+    {
+        if is_reserved(name) {
+            return Some(SourceCause::Taken);
+        }
+        match self.labels.find(name) {
+            Some(label) => {
+                if self.labels.is_marked(label) {
+                    Some(SourceCause::LabelTwice)
+                } else {
+                    None
+                }
+            }
+            None => None,
+        }
+    }
+
+    /// Why a second value of a register is refused, where it is one.
+    fn twice_cause(&self, register: Register) -> Option<SourceCause<'s>>
+        ensures { result ≡ given_cause_of (given_in self.now.registers register) }
+    {
+        let given = match register {
+            Register::P => self.registers.p,
+            Register::A => self.registers.a,
+            Register::B => self.registers.b,
+        };
+        match given {
+            Some(_) => Some(SourceCause::RegisterTwice),
+            None => None,
+        }
+    }
+
+    /// Why a register's value is refused, where it is.
+    #[tactic(auto, using(crate::proofs::Causes::give_refused), unfolding(crate::specs::Asking::register_asks))]
+    fn register_cause(&self, register: Register, text: &'s [u8]) -> Option<SourceCause<'s>>
+        ensures { (line : ℕ) → RefusesBy result line (register_asks (passed_over (asking_of self.now)) line register text.now) }
+    {
+        match number_of(text) {
+            Number::Of(number) => {
+                if number >= register.bound() {
+                    return Some(SourceCause::Number(text, register.range()));
+                }
+                self.twice_cause(register)
+            }
+            Number::OutOfRange => Some(SourceCause::Number(text, register.range())),
+            Number::Nothing => {
+                if is_reserved(text) {
+                    return Some(SourceCause::Missing);
+                }
+                self.twice_cause(register)
+            }
+        }
+    }
+
+    /// Why a word without arguments is refused, if it is.
+    #[tactic(auto, using(crate::proofs::Causes::control_word_refused, crate::proofs::Causes::other_word_refused), unfolding(crate::specs::Asking::word_asks))]
+    fn word_cause(&self, text: &'s [u8], next: &[u8]) -> Option<SourceCause<'s>>
+        ensures { (line : ℕ) → RefusesBy result line (word_asks (passed_over (asking_of self.now)) line text.now next.now) }
+    {
+        if next == b",".as_slice() {
+            return cell_cause(text);
+        }
+        match parse_directive(text) {
+            Some(_) => None,
+            None => match parse_opcode(text) {
+                Some(_) => None,
+                None => match control_named(text) {
+                    Some(control) => self.control_cause(control),
+                    None => literal_cause(text),
+                },
+            },
+        }
+    }
+
+    /// Why a word would be refused that is the next one, where it would.
+    #[tactic(auto, using(crate::proofs::Causes::name_refused))]
+    pub(crate) fn refusal(&self, token: Token<'s>, next: &[u8]) -> Option<SourceCause<'s>>
+        ensures { RefusesBy result token.entry.line (hear (asking_of self.now) (token_content token.entry) next.now) }
+    {
+        match token.kind {
+            TokenKind::LongLine => Some(SourceCause::LongLine),
+            TokenKind::OpenComment => Some(SourceCause::OpenComment),
+            TokenKind::Word => match self.expect {
+                Expect::Word => self.word_cause(token.text, next),
+                Expect::Address => address_cause(token.text),
+                Expect::Name => self.name_cause(token.text),
+                Expect::Register(register) => self.register_cause(register, token.text),
+                Expect::Nothing => None,
+            },
+        }
+    }
+}
