@@ -2,12 +2,12 @@
 
 import re
 
-from conditions import SIGN, SIGNS, number_in, test_in
+from conditions import SIGN, SIGNS, number_in, test_in, value_of
 from listing import NAMES
 from machine import Machine, NODES, name
 from node import FETCH_DUE, Node, SIDES, neighbour, target_of
 from notes import Notes
-from whence import LOADED, asked_of, held_after, rows_of, tested_by
+from whence import LOADED, asked_of, held_after, queried_word, rows_of, tested_by, word_in
 
 NODE, W, HH = "[0-7](?:0[0-9]|1[0-7])", "0[0-3][0-9a-fA-F]{4}", "[0-9a-fA-F]{2}"
 NUMBER = "(?:0|[1-9][0-9]{0,9})"
@@ -452,20 +452,28 @@ class Explorer(Machine):
         return "\n".join(lines)
 
     def followed(self):
-        """The events with what is told of each and its nodes before it; and of each step of a node what it did."""
+        """The events with what is told of each and its nodes before it; of each step of a node what it did; and the nodes after their
+        steps, from the load on."""
         again, passed, deeds = Explorer(self.load, self.limit), [], {}
+        behind = {(number, 0): it.copy() for number, it in enumerate(again.chip)}
         for event in self.events:
             before = [again.chip[it].copy() for it in event]
             again.apply(event)
             passed.append((event, again.told[-1], before))
             deeds.update({(it, again.steps[it]): self.deed(it, again.told[-1]) for it in event})
-        return passed, deeds
+            behind.update({(it, again.steps[it]): again.chip[it].copy() for it in event})
+        return passed, deeds, behind
 
-    def made_line(self, tag, deeds, tails):
-        """The step that made a word, by its tag, or that it was loaded."""
+    def made_line(self, tag, deeds, tails, behind):
+        """The step that made a word, by its tag, or that it was loaded, with the word; a transferred one is in what the step did."""
         node, number, part = tag
         mark = f" {part}" if part in LOADED + ("r",) and part != "i" else ""
-        told = f"{number} {deeds[node, number]}{mark}{tails[node, number]}" if number else f"load {part}{self.notes.tail(node, cell_of(part))}"
+        word = f" {word_in(behind[node, number], part):06x}"
+        if number and part == "t" and deeds[node, number] == "+*":
+            word += f" a {behind[node, number].a:06x}"
+        if number and part in ("t", "i") and deeds[node, number].startswith("takes"):
+            word = ""
+        told = f"{number} {deeds[node, number]}{mark}{word}{tails[node, number]}" if number else f"load {part}{word}{self.notes.tail(node, cell_of(part))}"
         return f"{name(node)} {told}"
 
     @command(
@@ -477,17 +485,19 @@ class Explorer(Machine):
     def answer_whence(self, node, step, value):
         if not 1 <= step <= self.steps[node]:
             return "no 6 nostep"
-        passed, deeds = self.followed()
+        passed, deeds, behind = self.followed()
         asked, made = asked_of(passed, NODES)
         tails = self.tails(passed)
         first = held_after(passed, NODES, node, step, value) if value else asked[node, step]
-        head = f"{name(node)} {step} {deeds[node, step]}{tails[node, step]}"
         if first is None:
-            return head
+            return f"{name(node)} {step} {deeds[node, step]}{tails[node, step]}"
+        part = value and (f"{int(value[1:3], 16) & (0xBF if int(value[1:3], 16) > 0x7F else 0x3F):02x}" if value[0] == "[" else value)
+        part, word = (part, word_in(behind[node, step], part)) if value else queried_word(deeds[node, step], behind[node, step - 1], behind[node, step])
+        head = f"{name(node)} {step} {deeds[node, step]}{f' {part} {word:06x}' if part else ''}{tails[node, step]}"
         rows, whole = rows_of(first, made)
         deeper = first[:2] != (node, step)
         lines = [head] if deeper else []
-        lines += ["  " * (depth + deeper) + self.made_line(tag, deeds, tails) for tag, depth in rows.items()]
+        lines += ["  " * (depth + deeper) + self.made_line(tag, deeds, tails, behind) for tag, depth in rows.items()]
         return "\n".join(lines + ([] if whole else ["more"]))
 
     @command(
@@ -499,7 +509,7 @@ class Explorer(Machine):
     def answer_because(self, node, step, most):
         if not 1 <= step <= self.steps[node]:
             return "no 6 nostep"
-        passed, deeds = self.followed()
+        passed, deeds, behind = self.followed()
         asked, made = asked_of(passed, NODES)
         tails, lines = self.tails(passed), []
         own = [(told, before[event.index(node)], event[-1] == node) for event, told, before in passed if node in event]
@@ -511,7 +521,7 @@ class Explorer(Machine):
                 tag, register, word = tested
                 mark = f" {register} {word:06x}" if register else ""
                 head = f"{name(node)} {number} {deeds[node, number]}{mark}{tails[node, number]}"
-                lines.append(f"{head}\n  {self.made_line(tag, deeds, tails)}")
+                lines.append(f"{head}\n  {self.made_line(tag, deeds, tails, behind)}")
         return "\n".join(reversed(lines[-most:] if most else [])) if lines else "none"
 
     def offers(self, node, step):

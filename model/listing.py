@@ -36,6 +36,7 @@ def listed(source):
     try:
         programs, faults = programs_of(words), []
     except Fault:
+        words, line_of = numbered(source, is_whole=False)
         programs, faults = programs_left(words)
     parts = []
     for node, (_, read, layout) in programs.items():

@@ -192,9 +192,9 @@ def programs_of(words):
     return nodes
 
 
-def numbered(source):
+def numbered(source, is_whole=True):
     """All words of a source with their numbers, from 1 on, in place of their lines; and the line of each number."""
-    said = list(words_of(source, goes_on=True))
+    said = words_of(source, is_whole)
     return [(at, Fault(at, it.text) if isinstance(it, Fault) else it) for at, (_, it) in enumerate(said, 1)], [0] + [line for line, _ in said]
 
 
@@ -262,6 +262,9 @@ def programs_left(words):
             named = name_behind(words, begun)
         except Fault as error:
             faults.append(error)
+            if isinstance(words[0][1], Fault):
+                words = words[1:]
+                continue
             words = words[2 if words[0][1] == "node" else 1 :]
             words = words[next((at for at, (_, it) in enumerate(words) if it == "node"), len(words)) :]
             continue
@@ -274,7 +277,7 @@ def programs_left(words):
 
 def faults_of(source):
     """All faults of a source in the order of lines."""
-    words, lines = numbered(source)
+    words, lines = numbered(source, is_whole=False)
     return [on_line(it, lines) for it in programs_left(words)[1]]
 
 

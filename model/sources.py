@@ -30,6 +30,7 @@ class Generator:
     def __init__(self, seed):
         self.random = random.Random(seed)
         self.is_wild = self.random.random() < 0.2
+        self.extra = random.Random(f"constants and groups {seed}")
 
     def one(self, depth):
         draw = self.random.random()
@@ -69,14 +70,34 @@ class Generator:
                     lines += [f"{self.address()} b!", f": {label} !b"]
                     continue
                 lines += [f": {label} {self.some(self.random.randrange(0, 5), 2)}", self.some(self.random.randrange(0, 7), 2) + self.random.choice(["", " ;", f" {label} ;"])]
-        return "\n".join(self.random.choice(["", "", "\\ why ", "( so ) "]) + it if it.startswith("/") else it for it in lines) + "\n"
+        lines = [self.random.choice(["", "", "\\ why ", "( so ) "]) + it if it.startswith("/") else it for it in lines]
+        return "\n".join(self.with_groups(self.with_constants(lines))) + "\n"
+
+    def with_constants(self, lines):
+        """The lines with constants, some of them at fault, and uses of them."""
+        if self.extra.random() < 0.6:
+            return lines
+        value = self.extra.choice(["5", "-1", "0x3f", "100", "right", "262144", "dup", "k"])
+        defined = f"{value if self.extra.random() < 0.3 else 7} constant {self.extra.choice(['k', 'k', 'k', 'x', 'dup', '12'])}"
+        lines = [*lines]
+        lines.insert(self.extra.choice([0, 0, self.extra.randrange(len(lines))]), defined)
+        for use in self.extra.choices(["k", "k ,", "k constant j j", "'k", ": k", "org k", "/a k", "k ;", "9 constant k", "constant"], [9, 5, 5, 1, 1, 3, 2, 1, 1, 0.5], k=3):
+            lines[self.extra.randrange(len(lines))] += f" {use}"
+        return lines
+
+    def with_groups(self, lines):
+        """The lines with more names after some `node`."""
+        names = self.extra.sample(sorted(NODE_NAMES), 3) + ["999", "12", "x"]
+        return [f"{it} {' '.join(self.extra.choices(names, [5, 5, 5, 0.3, 0.3, 0.3], k=self.extra.choice([1, 1, 2])))}" if it.startswith("node ") and self.extra.random() < 0.3 else it for it in lines]
 
 
 def changed(seed):
-    """A variant of the small source: cut, with another byte somewhere, with a word more, or with many."""
+    """A variant of the small source: cut, with another byte somewhere, with a word more, with many, or with two faults, one after the other."""
     draw = random.Random(seed)
     place = draw.randrange(len(SMALL))
     how = draw.random()
+    if seed % 50 == 7:
+        return SMALL + "node 002 drpo repeat ;\n"
     if how < 0.15:
         return SMALL[:place]
     if how < 0.2:

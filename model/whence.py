@@ -4,12 +4,19 @@ A tag is a node, its step that made the word (0 where the word was loaded), and 
 the tags from which each was made.
 """
 
+import re
+
+from conditions import value_of
 from node import pop, push, target_of
 
 MOST = 100
 # the register by which each of the first opcodes decides where its node goes on; a jump and a call only by a word that came over a port
 TESTED = ("r", "r", "i", "i", "r", "r", "t", "t")
 LOADED = ("a", "b", "p", "i", "io", "carry", "slot", "wait", "stop")
+# the registers by which those opcodes decide that are asked for as they were before, and those in which others leave a word that they moved
+ASKED_BEFORE = {"jump": "i", "call": "i", "unext": "r", "next": "r", "if": "t", "-if": "t"}
+MOVED_TO = {"!p": "io", "!+": "io", "!b": "io", "!": "io", "push": "r", "a!": "a"}
+WAITS, SIDE_BITS = {"fetch": 16, "read": 32, "write": 48}, {"r": 8, "d": 4, "l": 2, "u": 1}
 
 
 class Tags:
@@ -160,6 +167,26 @@ def asked_of(passed, nodes):
 def held_after(passed, nodes, node, step, value):
     """The tag of the word of a node that has this name, after a step."""
     return next(tags[node].held(value) for tags in followed(passed, nodes, {}, {}) if tags[node].step == step)
+
+
+def word_in(it, part):
+    """The word in a part of a node, by the name that a tag has for it."""
+    if part == "wait":
+        return WAITS[it.wait[0]] + sum(SIDE_BITS[side] for side in it.wait[1]) if it.wait else 0
+    return it.stop if part == "stop" else value_of(it, None, f"[{part}]" if re.fullmatch("[0-389ab][0-9a-f]", part) else part)
+
+
+def queried_word(deed, before, behind):
+    """The part for which a step asks that only moved or tested a word, with the word; none where the step sent it."""
+    word = deed.split(" ")[0]
+    if word == "sends":
+        return None, None
+    if word in ("wait", "stop"):
+        part = "p" if before.slot == 4 else "paba"[before.opcode() % 4]
+        return part, word_in(before, part)
+    if word in ASKED_BEFORE:
+        return ASKED_BEFORE[word], word_in(before, ASKED_BEFORE[word])
+    return MOVED_TO.get(word, "t"), word_in(behind, MOVED_TO.get(word, "t"))
 
 
 def followed(passed, nodes, asked, made):

@@ -10,7 +10,7 @@ PORTS = {"right": 0x1D5, "down": 0x115, "left": 0x175, "up": 0x145, "io": 0x15D}
 BEGINNINGS = {"if": "if", "-if": "-if", "ahead": "jump"}
 ENDINGS = {"again": "jump", "until": "if", "-until": "-if", "next": "next"}
 CONTROLS = {*BEGINNINGS, *ENDINGS, "begin", "for", "else", "then", "while", "-while", "repeat", "unext", "*next"}
-DIRECTIVES = {":", "org", "/p", "/a", "/b", "..", "+cy", "-cy", "node", ",", "\\", "("}
+DIRECTIVES = {":", "org", "/p", "/a", "/b", "..", "+cy", "-cy", "node", "constant", ",", "\\", "("}
 MARK = "\xef\xbb\xbf"
 # In the place of a word that was skipped.
 GAP = ""
@@ -22,9 +22,10 @@ OTHERS |= {"1+": "1 . +", "1-": "-1 . +", "negate": "inv 1 . +", "*": "+*, one s
 OTHERS |= {"lshift": "2*, one bit", "<<": "2*, one bit", "rshift": "2/, one bit", ">>": "2/, one bit", "|": "dup push inv and pop xor"}
 OTHERS |= {"a@": "a", "@a": "@", "!a": "!", "@a+": "@+", "!a+": "!+", "do": "for", "loop": "next", "if,": "if", "endif": "then"}
 OTHERS |= {"exit": ";", ";s": ";", "call": "NAME", "jump": "NAME ;", "variable": ": NAME 0 ,", "create": ": NAME", ",": "N ,"}
+OTHERS |= {"equ": "N constant NAME"}
 OTHERS |= {"end": "end on a line of its own", "//": "\\", "#": "\\", "--": "\\"}
 MEANT = "drop dup pop over push and or xor inv invert nop ex a a! b! begin for next unext *next again until -until while -while repeat".split()
-MEANT += "if -if ahead else then org node right down left up io".split()
+MEANT += "if -if ahead else then org node constant right down left up io".split()
 
 
 class Fault(Exception):
@@ -100,16 +101,14 @@ def unknown(line, word):
     return fault(line, f"what is {shown(word)}" + (f": {shown(told)}" if told else ""))
 
 
-def words_of(source, goes_on=False):
-    """The words with their lines and columns; a line at fault is a word that is a Fault, and the last one unless it goes on."""
+def scanned(source):
+    """The words with their lines and columns; a line at fault is a word that is a Fault."""
     for number, line in enumerate(lines_of(source), 1):
         if line == "end":
             return
         if len(line) > 200:
             yield number, fault(number, "the line has more than 200 bytes")
-            if goes_on:
-                continue
-            return
+            continue
         within = False
         for found in re.finditer("[^ \t]+", line):
             word = found[0]
@@ -123,8 +122,62 @@ def words_of(source, goes_on=False):
                 yield At(number, found.start() + 1), word
         if within:
             yield number, fault(number, "a comment without its )")
-            if not goes_on:
-                return
+
+
+def without_constants(words):
+    """The words without definitions of constants, each of which is replaced by its number from there on; a definition at fault is a Fault."""
+    numbers, labels, left, at = {}, set(), [], 0
+    while at < len(words):
+        line, word = words[at]
+        third = words[at + 2 : at + 3]
+        if isinstance(word, Fault) or words[at + 1 : at + 2] == [] or words[at + 1][1] != "constant":
+            left.append((line, word if isinstance(word, Fault) else numbers.get(word, word)))
+            if word == ":" and at + 1 < len(words) and words[at + 1][1] not in numbers:
+                labels.add(words[at + 1][1])
+            at += 1
+            continue
+        at += 3
+        if not third or isinstance(third[0][1], Fault):
+            left.append((words[at - 2][0], fault(words[at - 2][0], "a name or a value is missing")))
+            at -= 1
+            continue
+        number, (name_line, name) = numbers.get(word, word), third[0]
+        try:
+            is_number_here = number_of(number, line) is not None
+        except Fault:
+            is_number_here = False
+        if not is_number_here:
+            left.append((line, fault(line, "no number from -131072 to 262143 before constant")))
+        elif name in numbers or name in labels or not is_name(name):
+            left.append((name_line, fault(name_line, "the name is taken")))
+        else:
+            numbers[name] = number
+    return left
+
+
+def with_nodes(words, is_whole):
+    """The words with a `node` before each name of a node; the program of several nodes after each of the names, or after the last alone."""
+    all_words, at = [], 0
+    while at < len(words):
+        if words[at][1] != "node" or words[at + 1 : at + 2] == [] or words[at + 1][1] == "node":
+            all_words.append(words[at])
+            at += 1
+            continue
+        begin, last = words[at], at + 2
+        while last < len(words) and words[last][0] == begin[0] and not isinstance(words[last][1], Fault) and re.fullmatch("[0-9]{3}", words[last][1]):
+            last += 1
+        end = next((it for it in range(last, len(words)) if words[it][1] == "node"), len(words))
+        for name in words[at + 1 : last]:
+            all_words += [begin, name, *(words[last:end] if is_whole else [])]
+        all_words += [] if is_whole else words[last:end]
+        at = end
+    return all_words
+
+
+def words_of(source, is_whole=True):
+    """The words, in which constants are numbers and each node has a `node` of its own."""
+    return with_nodes(without_constants(list(scanned(source))), is_whole)
+
 
 
 def out_of_range(line, word, place=""):

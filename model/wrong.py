@@ -3,7 +3,7 @@
 
 wrong.py PROGRAM COUNT: each wrong definition has to be told within so many sessions, by an answer that differs or by a
 replay that can't go on; one of source within so many sources and as many that are cut or changed, one of pictures within so many of
-these, one of orders within so many programs that look. A definition is wrong in one place: its file, a text that stands there once, and
+these, one of ends within so many programs. A definition is wrong in one place: its file, a text that stands there once, and
 what takes its place.
 
 The file `told` beside this says which session told a definition when `wrong.py --write PROGRAM COUNT` wrote it, by a sum of the
@@ -20,9 +20,9 @@ import tempfile
 from concurrent.futures import ThreadPoolExecutor
 
 NODE, MACHINE, WORDS, SOURCE, LISTING = "node.py", "machine.py", "words.py", "source.py", "listing.py"
-EXPLORE, WHENCE, NOTES, PICTURES, ORDERS = "explore.py", "whence.py", "notes.py", "pictures.py", "every_order.py"
+EXPLORE, WHENCE, NOTES, PICTURES, ENDS = "explore.py", "whence.py", "notes.py", "pictures.py", "ends.py"
 # Which generator tells a wrong definition in a file; the others `sessions`.
-GENERATORS = {WORDS: "sources", SOURCE: "sources", LISTING: "sources", EXPLORE: "exploring", WHENCE: "exploring", NOTES: "exploring", PICTURES: "pictures", ORDERS: "every_order --looks"}
+GENERATORS = {WORDS: "sources", SOURCE: "sources", LISTING: "sources", EXPLORE: "exploring", WHENCE: "exploring", NOTES: "exploring", PICTURES: "pictures", ENDS: "ends"}
 WRONG = (
     # the grid
     (NODE, '(column % 2 == 0) == (side == "r")', '(column % 2 == 0) == (side == "l")'),
@@ -255,7 +255,17 @@ WRONG = (
     (SOURCE, 'LEADING = (":", "org", "/p", "/a", "/b")', 'LEADING = (":", "org", "/p", "/b")'),
     (SOURCE, 'last = next((place for place in range(at + 1, len(words)) if words[place][1] != ","), len(words))', "last = at + 1"),
     (SOURCE, 'words = words[2 if words[0][1] == "node" else 1 :]', "words = words[1:]"),
-    (SOURCE, "list(words_of(source, goes_on=True))", "list(words_of(source))"),
+    (SOURCE, "            if isinstance(words[0][1], Fault):\n                words = words[1:]\n                continue\n", ""),
+    # constants, and nodes with one program
+    (WORDS, "name in numbers or name in labels or not", "name in numbers or not"),
+    (WORDS, "name in labels or not is_name(name)", "name in labels"),
+    (WORDS, "name in numbers or name in labels", "name in labels"),
+    (WORDS, "else numbers.get(word, word)))", "else word))"),
+    (WORDS, "number, (name_line, name) = numbers.get(word, word)", "number, (name_line, name) = word"),
+    (WORDS, "words[last][0] == begin[0] and ", ""),
+    (WORDS, '"[0-9]{3}"', '"[0-9]+"'),
+    (WORDS, "(words[last:end] if is_whole else [])", "(words[last:end] if name == words[last - 1] else [])"),
+    (WORDS, "all_words += [] if is_whole else words[last:end]", "all_words += []"),
     (SOURCE, "str(lines[int(found[0])])", "found[0]"),
     (SOURCE, "sorted(faults, key=lambda it: it.line)", "faults"),
     (SOURCE, "MOST_TOLD = 20", "MOST_TOLD = 21"),
@@ -327,7 +337,7 @@ WRONG = (
     (EXPLORE, "elif only is None and not lines:", "elif only is None:"),
     (EXPLORE, "ended = all(self.next(node) is None for node in range(NODES))", "ended = all(self.chip[node].wait for node in range(NODES))"),
     (EXPLORE, "cells[node] = target_of(held.p)", "cells[node] = target_of(held.p + 1)"),
-    (EXPLORE, "load {part}{self.notes.tail(node, cell_of(part))}", "load {part}"),
+    (EXPLORE, "load {part}{word}{self.notes.tail(node, cell_of(part))}", "load {part}{word}"),
     (EXPLORE, "self.steps[node] == 1 and vars", "vars"),
     (EXPLORE, "busy = [name(node) for node in stuck if node not in ended]", "busy = [name(node) for node in stuck if node not in idle]"),
     (EXPLORE, "if node in ended and node not in idle]", "if node in ended]"),
@@ -356,6 +366,12 @@ WRONG = (
     (WHENCE, "if code > 7 or code in (2, 3) and asked[1] not in came:", "if code > 6 or code in (2, 3) and asked[1] not in came:"),
     (WHENCE, "return made[asked][0] if code < 2 else asked,", "return made[asked][0] if code < 1 else asked,"),
     (WHENCE, 'return (made[asked][0], "", None) if', 'return (asked, "", None) if'),
+    (WHENCE, '"push": "r", "a!": "a"}', '"push": "r", "a!": "t"}'),
+    (WHENCE, "return ASKED_BEFORE[word], word_in(before, ASKED_BEFORE[word])", "return ASKED_BEFORE[word], word_in(behind, ASKED_BEFORE[word])"),
+    (WHENCE, 'if word == "sends":', 'if word == "send":'),
+    (EXPLORE, "{word_in(behind[node, number], part):06x}", "{word_in(behind[node, max(number - 1, 0)], part):06x}"),
+    (EXPLORE, 'part == "t" and deeds[node, number] == "+*"', 'part == "t" and deeds[node, number] == "+"'),
+    (EXPLORE, 'if number and part in ("t", "i") and deeds', 'if number and part in ("t",) and deeds'),
     (NOTES, "place[0] == cell[0] and place[1] <= cell[1]", "place[0] == cell[0] and place[1] < cell[1]"),
     (NOTES, "if place == max(before)[0]][-1:]", "if place == min(before)[0]][-1:]"),
     (NOTES, "[[word] for word, _ in cell.literals]", "[[cell.slots[0][0]] for _ in cell.literals]"),
@@ -411,16 +427,15 @@ WRONG = (
     (PICTURES, "races.get(at, [])", "races.get(at + 1, [])"),
     (PICTURES, "if view.races else []:", "if not view.races else []:"),
     (PICTURES, 'self.text += "quit\\nrun 5\\n"', 'self.obey("quit")\n            self.obey("run 5")'),
-    # orders of nodes that look and poll
-    (ORDERS, "            if read != word:\n                return False\n", ""),
-    (ORDERS, "            there.looks.update(dict.fromkeys(nodes, ()))\n", ""),
-    (ORDERS, "if vars(record) == vars(self.chip[node]):", "if record.p == self.chip[node].p:"),
-    (ORDERS, "if vars(record) == vars(self.chip[node]):", "if record.d[0] == self.chip[node].d[0]:"),
-    (ORDERS, "return it.waits(READS, side), it", 'return it.waits(("read",), side), it'),
-    (ORDERS, 'return ("looks", word, *(self.changes.get((neighbour(node, side), side)) for side in SIDES))', 'return ("looks", word)'),
-    (ORDERS, "return [node for node in running if not self.is_parked(node)] +", "return [node for node in running if not self.is_parked(node)][:1] +"),
-    (ORDERS, "polling = [name(node) for node, it in enumerate(chip) if not it.wait and not it.stop]", "polling = [name(node) for node, it in enumerate(chip) if not it.wait]"),
-    (ORDERS, 'its, does in ((waiting, " waiting"), (polling, " polling")) if its', 'its, does in ((polling, " polling"), (waiting, " waiting")) if its'),
+    # ends
+    (ENDS, "clean | {None}", "clean | going | {None}"),
+    (ENDS, 'it.wait[0] == "fetch" or it.wait[0] == "read" and', 'it.wait[0] != "write" and'),
+    (ENDS, 'it.wait[0] == "fetch" or it.wait[0] == "read" and all(', 'it.wait[0] == "fetch" or it.wait[0] == "read" and any('),
+    (ENDS, "word &= ~(it.waits(READS, side) << 16 - 2 * place)", 'word &= ~(it.waits(("read",), side) << 16 - 2 * place)'),
+    (ENDS, "                    leaving.add(component[at])", "                    pass"),
+    (ENDS, "            if number in leaving:\n                continue\n", ""),
+    (ENDS, "if reader is not None and self.at(chip, reader).waits(READS, side):", 'if reader is not None and self.at(chip, reader).waits(("read",), side):'),
+    (ENDS, "return 5 if any(", "return 5 if all("),
 )
 
 

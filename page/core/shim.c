@@ -8,6 +8,7 @@ void heap_free(Byte *);
 Size ga_session(const Byte *, Size, Byte *, Size, Byte *, Size, unsigned);
 Size ga_kept(const Byte *, Size, Byte *, Size, unsigned);
 Size ga_assemble(const Byte *, Size, Byte *, Size, Byte *, Size);
+Size ga_check(const Byte *, Size, Byte *, Size, unsigned, unsigned, unsigned);
 Size ga_list(const Byte *, Size, Byte *, Size);
 Size ga_shades(const Byte *, Size, const Byte *, Size, unsigned, Byte *, Size);
 #define PAGE(name) __attribute__((export_name(#name)))
@@ -46,6 +47,7 @@ PAGE(assemble) Size assemble(Size count) {
     __builtin_memset(faults, 0, sizeof faults);
     ANSWER(ga_assemble(input, count, output, output_room, faults, sizeof faults - 1))
 }
+PAGE(check) Size check(Size count, unsigned most, unsigned limit, unsigned asked) { ANSWER(ga_check(input, count, output, output_room, most, limit, asked)) }
 PAGE(list) Size list(Size count) { ANSWER(ga_list(input, count, output, output_room)) }
 // The input is an image, and behind it the numbers of the nodes.
 PAGE(shades) Size shades(Size image, Size nodes, unsigned place) { ANSWER(ga_shades(input, image, input + image, nodes, place, output, output_room)) }

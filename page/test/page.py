@@ -17,7 +17,7 @@ sys.dont_write_bytecode = True
 TOP = os.path.dirname(os.path.dirname(os.path.dirname(os.path.abspath(__file__))))
 sys.path.insert(0, f"{TOP}/model")
 from browser import Browser
-from runs import orders, races, until_stop, whence
+from runs import ends, orders, races, until_stop, whence
 from listing import listed
 from looks import commands, from_afar, shots, shown, times
 import mouse
@@ -312,7 +312,7 @@ def main():
         dice, taken = random.Random(7), 0
         for name in browser.run("return [...document.getElementById('examples').options].map(it => it.value).filter(it => it)"):
             taken += clicks(browser, name, dice)
-        for test in (until_stop, orders, whence, races, shown, from_afar):
+        for test in (until_stop, orders, whence, ends, races, shown, from_afar):
             test(browser, check)
         source_lines(browser)
         keys(browser)

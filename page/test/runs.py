@@ -77,6 +77,22 @@ return { reached, answer, before, now: logged(), hidden: find("whence").hidden }
     check(result["hidden"] == unknown and result["now"] == (result["before"] if unknown else result["answer"]), f"whence: {result}")
 
 
+def ends(browser, check):
+    """The ends of a program; the session of a kind by a click, and back by `redo`."""
+    path = f"{TOP}/sessions/check/status-5/a_key_for_who_asked_second"
+    with open(path) as typed, open(f"{path}.stdout") as wanted:
+        text, lines = typed.read(), wanted.read().split("\n")[:-1]
+    result = browser.run(USED + """
+page.open(%s); page.command("run 3");
+find("check").click(); const told = logged(), links = [...find("log").querySelectorAll("a")].filter(it => it.textContent.startsWith("--session"));
+links[0].click(); const made = page.session.events.length, asked = page.core.check(page.session.load, 100000, page.session.limit, 1).split("\\n").slice(0, -1), saved = query("save"), who = query("who");
+press("g"); const again = page.session.events.length;
+return { told, links: links.length, made, alike: JSON.stringify(asked) === JSON.stringify(saved), stuck: who.some(it => it.startsWith("stuck ")), again };
+""" % json.dumps(text))
+    check(result["told"] == lines and result["links"] == sum("--session" in it for it in lines), f"check: {result}")
+    check(result["made"] > 3 and result["alike"] and result["stuck"] and result["again"] == 3, f"the session of a kind of end: {result}")
+
+
 def races(browser, check):
     """101 takes a word from 100 or from 102, whichever comes first. The page shows the alternative, and then makes it. A step without an
     alternative has no mark."""

@@ -90,20 +90,22 @@ function told_effects([head, ...rows]) {
 function line_told(told) { const found = /^ga144: line (\d+):/.exec(told) || /^no \d+ \w+ line (\d+)$/.exec(told); return found ? +found[1] : 0; }
 
 // What is no place where nodes or steps are named; and what is before, and after, the part that is one.
-const BARE = /^(?:removed|kept|made|quiet|full|memory|spent|chain|effects|races|independent|none|no|idle|looks|every|ready)\b/;
+const BARE = /^(?:it can|stopped|at least|\d+ states?|removed|kept|made|quiet|full|memory|spent|chain|effects|races|independent|none|no|idle|looks|every|ready)\b/;
 const BARE_COMMANDS = /^(?:chip|dump|help|count)\b/;
 function named_part(command, line) {
   const before = /^reached \d+ (?:by \d+ )?/.exec(line) || (/^words\b/.test(command) && /^\d+ /.exec(line)), after = /^effects\b/.test(command) ? / \d+$/.exec(line) : /^stuck\b/.test(line) && / and \d+ idle$/.exec(line);
   return [before ? before[0].length : 0, after ? after.index : line.length];
 }
 
-// An answer's line in parts: what leads somewhere has `step`, `node`, or `line` and `column`.
+// An answer's line in parts: what leads somewhere has `step`, `node`, `kind`, or `line` and `column`.
 function parts_of(command, line) {
   const fault = /^(ga144: )(line (\d+))(:.*)$/s.exec(line) || /^(no \d+ \w+ )(line (\d+))()$/.exec(line);
   if (fault) return [{ text: fault[1] }, { text: fault[2], line: +fault[3], column: 0 }, { text: fault[4] }];
+  const kind = /^check\b/.test(command) && /^(.*: )(--session (\d+))$/.exec(line);
+  if (kind) return [...parts_of(command, kind[1]), { text: kind[2], kind: +kind[3] }];
   if (BARE.test(line) || BARE_COMMANDS.test(command)) return [{ text: line }];
   const cut = line.indexOf(" \\ "), own = cut < 0 ? line : line.slice(0, cut), place = cut < 0 ? null : place_of(line.slice(cut + 3)), parts = [];
-  const [from, upto] = named_part(command, own), nodes_alone = /^(?:trace|words|node|mem|step) /.test(own);
+  const [from, upto] = named_part(command, own), nodes_alone = /^(?:trace|words|node|mem|step|stuck|ring|ended|ends|goes|  not) /.test(own);
   let at = from;
   if (from) parts.push({ text: own.slice(0, from) });
   for (const it of own.slice(from, upto).matchAll(nodes_alone ? /(?<!\w)([0-7](?:0\d|1[0-7]))(?!\w)/g : /(?<!\w)([0-7](?:0\d|1[0-7]))(?: ([1-9]\d{0,9}))?(?!\w)/g)) {

@@ -47,6 +47,12 @@ class Core {
     return said ? text_of(said.bytes) : "";
   }
 
+  // How the program of a session can end, in whatever order its nodes run; or the steps that lead to a kind of end. Null for want of memory.
+  check(load, most, limit, kind) {
+    const said = this.question(bytes_of(load), (core, count) => core.check(count, most, limit, kind));
+    return said && text_of(said.bytes);
+  }
+
   // Of each event that these nodes make in turn, how it stands to the one at a place: 2 depends on it, 1 leads to it, 0 neither.
   shades(image, nodes, place) {
     const front = bytes_of(image), input = new Uint8Array(front.length + nodes.length);

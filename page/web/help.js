@@ -11,6 +11,7 @@ const HELP = [
     ["a word of the source", "its first step, then the next one"],
     ["a node", "its registers, memory and steps; twice: one step of it"],
     ["a step, a node or a line in an answer", "goes there"],
+    ["a session in the answer of check", "makes the events that lead to that end; redo makes those before again"],
     ["a cell of the memory", "the steps that wrote it"],
     ["a mark ▼ or a line of races", "the chip as it would be had the step come out otherwise; once more: make it so"],
     ["the picture", "drag: earlier and later; wheel: nearer and farther"]]],
@@ -21,7 +22,7 @@ const HELP = [
     [", .", "the step before, the step after (Page Up and Page Down: by twenty; Home, End)"], ["p", "the other end of a pass"], ["j", "the next step of the same word"], ["arrows", "the node beside; in the list of steps, the step above or below"], ["Escape", "nothing is chosen"]]],
   ["Keys: ask", [
     ["q", "whence: the steps whose values went into the chosen one"], ["k", "because: the newest steps that decided where the node went on before it"], ["w", "why: from the step chosen before to this one"], ["f", "effects: what a rollback of it would remove"],
-    ["h", "who waits for whom"], ["y", "words: those that went over the link"], ["z", "races: steps that another order would change"], ["/", "a command"]]],
+    ["h", "who waits for whom"], ["!", "check: how the program can end, in whatever order its nodes run"], ["y", "words: those that went over the link"], ["z", "races: steps that another order would change"], ["/", "a command"]]],
   ["Keys: the rest", [
     ["e", "examples"], ["o", "open a file"], ["i", "edit the text; Ctrl and Enter opens it"], ["c", "copy the session; d: as ga144 debug reads it"], ["x", "save"], ["#", "put the session into the address"],
     ["+ - 0", "nearer, farther, all"], ["[ ]", "earlier, later"], ["a", "all nodes in the picture"], ["l", "light or dark"], ["?", "this page"]]],

@@ -41,7 +41,7 @@ function acts_of(page) {
   const look = act => () => { act(); page.draw_picture(); };
   return {
     s: () => page.command("step " + page.selected), r: () => page.round(), m: () => page.run(find("most").value.trim()), u: () => find("until").focus(), v: () => page.next_order(), b: () => page.command("back"),
-    t: () => page.take(), Enter: () => page.take(), g: () => page.redo(), w: () => page.why(), h: () => page.command("who"), f: () => page.effects(), y: () => page.words(), q: () => page.whence(), k: () => page.because(), Escape: () => { page.forget(); page.draw(); },
+    t: () => page.take(), Enter: () => page.take(), g: () => page.redo(), w: () => page.why(), h: () => page.command("who"), "!": () => page.check(), f: () => page.effects(), y: () => page.words(), q: () => page.whence(), k: () => page.because(), Escape: () => { page.forget(); page.draw(); },
     ",": () => page.along(-1), ".": () => page.along(1), PageUp: () => page.along(-20), PageDown: () => page.along(20), Home: () => page.along(-1e9), End: () => page.along(1e9), p: () => page.across(), j: () => page.next_of_word(),
     ArrowLeft: () => page.beside(-1, 0), ArrowRight: () => page.beside(1, 0), ArrowUp: () => page.beside(0, 1), ArrowDown: () => page.beside(0, -1),
     "+": look(() => page.picture.zoom(.6)), "-": look(() => page.picture.zoom(1.6)), "0": look(() => page.picture.fit()), "[": look(() => page.picture.move(-.4)), "]": look(() => page.picture.move(.4)),
@@ -62,7 +62,7 @@ function acts_on_text(page) {
 }
 
 function listen_to_keys(acts) {
-  const buttons = { step: "s", round: "r", run: "m", back: "b", who: "h", effects: "f", words: "y", whence: "q", because: "k", take: "t", redo: "g", theme: "l", help: "?", in: "+", out: "-", fit: "0", earlier: "[", later: "]", copy: "c", plain: "d", save: "x", load: "o", link: "#", edit: "i" };
+  const buttons = { step: "s", round: "r", run: "m", back: "b", who: "h", check: "!", effects: "f", words: "y", whence: "q", because: "k", take: "t", redo: "g", theme: "l", help: "?", in: "+", out: "-", fit: "0", earlier: "[", later: "]", copy: "c", plain: "d", save: "x", load: "o", link: "#", edit: "i" };
   for (const id in buttons) find(id).onclick = () => acts[buttons[id]]();
   document.onkeydown = event => {
     const { target, key } = event, typed = /INPUT|TEXTAREA|SELECT/.test(target.tagName) && target.type !== "checkbox";

@@ -1,6 +1,6 @@
 // What the page shows, and what it does for a person.
 // A longer text than SHOWN is not put into the text area, which would take minutes.
-const LONGEST_RUN = 100000, SHOWN = 200000, SHOWN_RACES = 200, MOST_UNDONE = 20;
+const LONGEST_RUN = 100000, MOST_STATES = 100000, SHOWN = 200000, SHOWN_RACES = 200, MOST_UNDONE = 20;
 
 class Page {
   constructor(core) {
@@ -57,6 +57,7 @@ class Page {
   // Gives one command as a person does. Each that changes the chip can be undone to `before`, and what was undone isn't made again then.
   command(line) {
     if (line === "redo") return this.redo();
+    if (line === "check") return this.check();
     if (!KEEPS.test(line)) {
       const answer = (this.session.ask([line]) || [[NO_MEMORY]])[0];
       if (line === "help") show_help(answer, "commands"); else this.say(line, answer);
@@ -122,6 +123,26 @@ class Page {
   because() { this.about("because", " 5"); }
   why() { if (this.chosen && this.earlier) this.command(`why ${this.earlier.join(" ")} ${this.chosen.join(" ")}`); }
 
+  // How the program can end, in whatever order its nodes run, from the load.
+  check() {
+    const said = this.core.check(this.session.load, MOST_STATES, this.session.limit, 0), lines = said === null ? [NO_MEMORY] : said.trimEnd().split("\n");
+    this.say("check", lines);
+    return lines;
+  }
+
+  // Makes the events that lead to a kind of end in the place of those so far; `redo` makes these again.
+  lead_to(kind) {
+    const said = this.core.check(this.session.load, MOST_STATES, this.session.limit, kind), lines = said === null ? [NO_MEMORY] : said.trimEnd().split("\n");
+    if (!lines.every(it => STEPS_ALONE.test(it))) return this.note(lines[0]);
+    const before = this.session.now(), { chosen, selected } = this;
+    this.session.restore({ commands: "", said: READY, is_plain: true, events: [] });
+    this.session.obey(lines);
+    if (before.events.length) this.undone = [...this.undone.slice(1 - MOST_UNDONE), { before, chosen, selected, count: before.events.length }];
+    this.forget();
+    this.say(`check --session ${kind}`, [`made ${this.session.events.length}`]);
+    this.after();
+  }
+
   is_chosen([name, step]) { return !this.race && !!this.chosen && this.chosen[0] === name && this.chosen[1] === step; }
 
   // Chooses a step; chosen once more, it is taken back.
@@ -157,7 +178,8 @@ class Page {
   next_of_word() { const row = this.chosen && this.session.places.row(...this.chosen); if (row && row.key) this.choose_word(row.key); }
 
   // Goes where a part of an answer leads.
-  follow({ step, node, line, column }) {
+  follow({ step, node, line, column, kind }) {
+    if (kind) return this.lead_to(kind);
     if (line) return find("editor").hidden ? this.source.mark(column ? `${line}:${column}` : null, "picked", column ? 0 : line) : this.select_line(line);
     if (node) return this.select(node);
     if (!this.session.event_at(step)) { this.select(step[0]); return this.note(`${step[0]} has ${this.session.steps[step[0]] || 0} steps now`); }

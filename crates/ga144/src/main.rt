@@ -1,5 +1,5 @@
 //! `ga144 debug`: a session with a GA144 over standard input and output. `ga144 explore`: one that runs up to a condition.
-//! `ga144 race`: workers that race for its nodes. `ga144 check`: every order of its nodes. `ga144 draw`: a session's picture.
+//! `ga144 race`: workers that race for its nodes. `ga144 check`: its ends in every order of its nodes. `ga144 draw`: a session's picture.
 //! `ga144 dap`: a session of an editor.
 //! `ga144 asm`, `ga144 list`, `ga144 dis`: source made into an image, listed, and made of an image. Where a file is named, it is read
 //! before standard input.
@@ -7,6 +7,7 @@
 
 mod adapter;
 mod arriving;
+mod checking;
 mod files;
 
 ghost use Rattle.std.specs.Prelude.{IfOk};
@@ -14,34 +15,17 @@ ghost use Rattle.ga_console.specs.Settings.{AreInRange};
 
 use adapter::{out_of_memory, serve_editor};
 use arriving::begin_reading;
-use files::{Front, chip_of, front_of};
+use checking::{CheckWork, find_verdict};
+use files::{chip_of, front_of};
 use ga_asm_text::{assemble_source, disassemble, list_source};
-use ga_check::orders::Bounds;
+use ga_check_report::{CheckBounds, Verdict};
 use ga_console::{LineFault, Settings, Status, arguments, race_report, session};
 use ga_explorer::{Usage, explore};
-use ga_orders::{Verdict, check_orders};
 use ga_picture::{View, draw_session};
+use std::env;
 use std::io::IsTerminal;
 use std::process::ExitCode;
-use std::sync::atomic::{AtomicBool, AtomicU64, Ordering};
-use std::thread::{Threads, join};
-use std::time::Duration;
-use std::{env, thread};
-
-/// How many events a run of `check` has at most.
-const RUN_LIMIT: u32 = 1_000_000;
-
-/// How many choices of what a node takes first it has at most.
-const MOST_CHOICES: u32 = 1000;
-
-/// How many steps a node makes in it at most.
-const MOST_STEPS: u32 = 100_000;
-
-/// How many milliseconds pass between two looks whether all is done.
-const TICK: u64 = 20;
-
-/// The number of checks for the end between two progress lines.
-const TICKS: u64 = 50;
+use std::thread::Threads;
 
 fn main(rt: HostRuntime) -> ExitCode {
     match settings(&rt) {
@@ -69,20 +53,25 @@ fn main(rt: HostRuntime) -> ExitCode {
         Ok(
             Settings::Check {
                 most,
+                seconds,
                 settled,
                 session,
-                workers,
                 progress,
                 file,
             },
         ) => {
-            let runs = Runs {
+            let bounds = CheckBounds {
                 most,
-                settled,
-                asked: session.unwrap_or(0),
-                workers,
+                seconds: seconds.unwrap_or(0),
             };
-            checked(&rt, &rt, runs, progress, &file)
+            let asked = session.unwrap_or(0);
+            let work = CheckWork {
+                bounds,
+                settled,
+                asked,
+                progress,
+            };
+            checked(&rt, &rt, work, &file)
         }
         Ok(Settings::Dap) => match begin_reading(rt, rt.alloc(), rt.stdin()) {
             Ok((mut reader, mut arrivals)) => serve_editor(&rt, &mut reader, &mut arrivals),
@@ -197,98 +186,26 @@ fn is_at_terminal(rt: &HostRuntime) -> bool {
     rt.stdin().is_terminal() && rt.stdout().is_terminal()
 }
 
-/// The maximum number of runs of a program, whether its idle nodes come to rest first, the number of the requested order, if it
-/// isn't 0, and the number of workers.
-#[derive(Clone, Copy)]
-struct Runs {
-    most: u32,
-    settled: bool,
-    asked: u32,
-    workers: u32,
-}
-
-/// Reads a file, if one is named, or standard input, and runs every order of its nodes. Reports progress if requested.
+/// Reads a file, if one is named, or standard input, and tells the ends of its program.
 fn checked<T: Threads + Sync>(
     threads: &T,
     rt: &HostRuntime,
-    runs: Runs,
-    tells: bool,
+    work: CheckWork,
     file: &Option<String>,
 ) -> ExitCode {
-    let front = match front_of(rt, file) {
-        Ok(front) => front,
-        Err(code) => return code,
-    };
-    if !tells {
-        let made = AtomicU64::new(0);
-        return exit_with(rt, verdict_on(threads, rt, runs, &front, &made));
-    }
-    let (made, is_done) = (AtomicU64::new(0), AtomicBool::new(false));
-    // Where no thread can be made the second begins when the first has ended.
-    let (verdict, _told) = join(
-        threads,
-        || {
-            let verdict = verdict_on(threads, rt, runs, &front, &made);
-            is_done.store(true, Ordering::SeqCst);
-            verdict
-        },
-        || tell_progress(rt, &made, &is_done),
-    );
-    exit_with(rt, verdict)
-}
-
-/// What comes of every order of what is read, with how many runs were made so far in `made`.
-fn verdict_on<T: Threads + Sync>(
-    threads: &T,
-    rt: &HostRuntime,
-    runs: Runs,
-    front: &Front,
-    made: &AtomicU64,
-) -> Verdict {
-    let bounds = Bounds {
-        runs: u64::from(runs.most),
-        choices: MOST_CHOICES,
-        steps: MOST_STEPS,
-    };
-    let mut reader = front.reader(rt);
-    let (mut writer, mut errors) = (rt.stdout(), rt.stderr());
-    check_orders(
-        threads,
-        rt.alloc(),
-        &mut reader,
-        &mut writer,
-        &mut errors,
-        RUN_LIMIT,
-        runs.settled,
-        bounds,
-        u64::from(runs.asked),
-        runs.workers,
-        made,
-    )
-}
-
-/// Reports each second how many runs were made so far, until all is done.
-fn tell_progress(rt: &HostRuntime, made: &AtomicU64, is_done: &AtomicBool) {
-    for tick in 1..u64::MAX {
-        thread::sleep(rt, Duration::from_millis(TICK));
-        if is_done.load(Ordering::SeqCst) {
-            return;
-        }
-        let runs = made.load(Ordering::SeqCst);
-        if tick % TICKS == 0 && runs > 0 {
-            let _ = eprintln!(rt; "ga144: {runs} runs so far");
-        }
+    match front_of(rt, file) {
+        Ok(front) => exit_with(rt, find_verdict(threads, rt, work, &front)),
+        Err(code) => code,
     }
 }
 
 /// The exit status of a verdict.
 fn exit_with(rt: &HostRuntime, verdict: Verdict) -> ExitCode {
     match verdict {
-        Verdict::Alike => ExitCode::from(0),
-        Verdict::Several => ExitCode::from(5),
-        Verdict::SearchedAlike => ExitCode::from(0),
-        Verdict::SearchedSeveral => ExitCode::from(5),
-        Verdict::Open => ExitCode::from(6),
+        Verdict::Clean => ExitCode::from(0),
+        Verdict::Saved => ExitCode::from(0),
+        Verdict::Unclean => ExitCode::from(5),
+        Verdict::Unknown => ExitCode::from(6),
         Verdict::Ended(status) => exit(rt, status),
     }
 }

@@ -5,6 +5,7 @@ pub mod Telling
 pub mod SourceLines
 pub mod Cells
 pub mod NodeTexts
+pub mod Unchanged
 pub mod SourceWords
 pub mod SourceNames
 pub mod PlainWords

@@ -6,7 +6,8 @@ use Rattle.std.proofs.lemmas.Bool.{cases_Bool, eqb-true}
 use Rattle.std.proofs.lemmas.Option.{same_Some}
 use Rattle.ga_node.specs.Record.{NodeState, fresh_node}
 use Rattle.ga_grid.specs.Grid.{load_p_of, default_chip, yxx_of}
-use Rattle.ga_parser.specs.Plain.{no_request, plain_of, words_in, body_in, bodies_in, yxx_in}
+use Rattle.ga_parser.specs.Plain.{no_request, plain_of, body_in, bodies_in, yxx_in}
+use Rattle.ga_parser.specs.Words.{words_in}
 use Rattle.ga_source.specs.Programs.{is_item}
 use Rattle.ga_source.specs.Made.{with_requests, number_or, plain_node, IsNode, HasPlain, IsSoundBody, node_number_of_words}
 use Rattle.ga_asm_text.specs.Source.{IsLoadedAs, IsSourceOf}
@@ -18,7 +19,7 @@ use Rattle.ga_grid.specs.Chip.{nowhere, node_at}
 use Rattle.ga_grid.proofs.Chips.{node_at-default_chip}
 use Rattle.ga_text.specs.Lines.{Text}
 use Rattle.ga_text.specs.Digits.{decimal3_of}
-use Rattle.ga_asm_text.proofs.SourceWords.{says_whole, says_words, starts, body_of, bodies_of, all_bodies, name_back}
+use Rattle.ga_asm_text.proofs.SourceWords.{says_whole, says_words, all_single, starts, body_of, bodies_of, all_bodies, name_back}
 use Rattle.ga_asm_text.proofs.FreeCells.{node_free}
 
 -- ---- the nodes that the words make which are written of them
@@ -214,11 +215,12 @@ source_loaded chip made n size within fit named others =
 pub is_source : (chip : List NodeState) (text : Text) → length chip ≡ 144 → All IsFit chip → Says text (source_words 0 chip) → IsSourceOf chip text
 unfolding AreApart
 is_source chip text size fit says =
-    let words = says_words text (source_words 0 chip) says in
+    let single = all_single 0 chip (omega (arith, size)) in
+    let words = says_words text (source_words 0 chip) single says in
     let bodies : bodies_in (words_in text) ≡ bodies_of 0 chip = ap bodies_in words ∙ all_bodies 0 chip (omega (arith, size)) in
     record {
       sound = record {
-        whole = says_whole text (source_words 0 chip) says;
+        whole = says_whole text (source_words 0 chip) single says;
         begins = ap body_in words ∙ starts 0 chip;
         bodies = subst (All IsSoundBody) (sym bodies) (all_sound 0 chip (omega (arith, size)) fit);
         apart = subst (λ (l : List (List Word)). (j k : ℕ) → j < k → k < length l → node_number_of_words l j ≢ node_number_of_words l k) (sym bodies) (all_apart 0 chip (omega (arith, size)));

@@ -1,5 +1,5 @@
 -- The words of a source that is written, node by node.
-use Rattle.std.specs.Prelude.{◌==◌, not, codes}
+use Rattle.std.specs.Prelude.{◌==◌, ◌&&◌, not, is_some, codes}
 use Rattle.std.proofs.Common.{◌≡◌, ◌∙◌, ℕ, ◌+◌, ◌*◌, ◌/◌, ◌%◌, ◌-◌, ◌<◌, ◌≤◌, Bool, true, false, List, [], ◌∷◌, ◌++◌, length, map, Some, refl, arith, ap, sym, inl, inr}
 use Rattle.std.specs.List.{list_all}
 use Rattle.std.proofs.lemmas.List.{append-nil}
@@ -9,46 +9,52 @@ use Rattle.ga_grid.specs.Grid.{yxx_of, node_of, node_number}
 use Rattle.ga_node.specs.Record.{NodeState}
 use Rattle.ga_text.specs.Lines.{Text}
 use Rattle.ga_text.specs.Digits.{decimal3_of}
-use Rattle.ga_parser.specs.Saying.{TokenContent, parted, is_word, source_lines, said_from, up_to_fault, said_in}
-use Rattle.ga_parser.specs.Plain.{words_in, is_node, body_in, bodies_in, yxx_in}
+use Rattle.ga_parser.specs.Saying.{TokenContent, parted, is_word, source_lines, said_from, up_to_fault}
+use Rattle.ga_parser.specs.Words.{said_in, words_in}
+use Rattle.ga_parser.specs.Plain.{is_node, body_in, bodies_in, yxx_in}
 use Rattle.ga_asm_text.specs.inner.{Word, Says, number_word, register_words, address_words, cell_words, next_of, cells_words, next_behind, usual_p, registers_words, memory_words, holds_words, node_words, named_words, source_words}
+use Rattle.ga_asm_text.proofs.Unchanged.{is_quiet, are_single, not_true, all_same}
 use Rattle.ga_text.proofs.Numbers.{decimal_read as digit_back}
 use Rattle.ga_text.proofs.Taking.{node_of_yxx as number_back}
 
 -- ---- all that a text says
 
-whole_all : (said : List TokenContent) → list_all is_word said ≡ true → up_to_fault (said ++ []) ≡ said
+whole_all : (said : List TokenContent) → list_all is_word said ≡ true → up_to_fault said ≡ said
 unfolding up_to_fault
 whole_all [] whole = refl
 whole_all (one ∷ said) whole =
     let parts = and_parts (is_word one) (list_all is_word said) whole in
-    ap (λ (rest : List TokenContent). one ∷ rest) (cond-true (is_word one) (up_to_fault (said ++ [])) [] parts.0 ∙ whole_all said parts.1)
+    ap (λ (rest : List TokenContent). one ∷ rest) (cond-true (is_word one) (up_to_fault said) [] parts.0 ∙ whole_all said parts.1)
 
 nothing_behind : (next : ℕ) → said_from next (source_lines []) ≡ []
 unfolding parted said_from
 nothing_behind next = refl
 
-all_said : (text : Text) (said : List TokenContent) (next : ℕ) → said_from 1 (source_lines (text ++ [])) ≡ said ++ said_from next (source_lines []) → list_all is_word said ≡ true → said_in text ≡ said
+all_said : (text : Text) (words : List Word) (said : List TokenContent) (next : ℕ) → said_from 1 (source_lines (text ++ [])) ≡ said ++ said_from next (source_lines []) → list_all is_word said ≡ true → map (λ (one : TokenContent). one.text) said ≡ words → are_single false words ≡ true → said_in text ≡ said
 unfolding said_in
-all_said text said next e whole =
-    ap (λ (t : Text). up_to_fault (said_from 1 (source_lines t))) (sym (append-nil text))
-    ∙ (ap up_to_fault (e ∙ ap (λ (l : List TokenContent). said ++ l) (nothing_behind next)) ∙ whole_all said whole)
+all_said text words said next e whole texts single =
+    let written : said_from 1 (source_lines text) ≡ said =
+    ap (λ (t : Text). said_from 1 (source_lines t)) (sym (append-nil text)) ∙ (e ∙ (ap (λ (l : List TokenContent). said ++ l) (nothing_behind next) ∙ append-nil said)) in
+    ap up_to_fault (all_same text said written (ap (are_single false) texts ∙ single)) ∙ whole_all said whole
 
-pub says_whole : (text : Text) (words : List Word) → Says text words → list_all is_word (said_in text) ≡ true
-says_whole text words says = let a = says.says 1 [] in ap (list_all is_word) (all_said text a.0 a.1 a.2 a.4) ∙ a.4
+pub says_whole : (text : Text) (words : List Word) → are_single false words ≡ true → Says text words → list_all is_word (said_in text) ≡ true
+says_whole text words single says = let a = says.says 1 [] in ap (list_all is_word) (all_said text words a.0 a.1 a.2 a.4 a.3 single) ∙ a.4
 
-pub says_words : (text : Text) (words : List Word) → Says text words → words_in text ≡ words
-says_words text words says = let a = says.says 1 [] in ap (map (λ (one : TokenContent). one.text)) (all_said text a.0 a.1 a.2 a.4) ∙ a.3
+pub says_words : (text : Text) (words : List Word) → are_single false words ≡ true → Says text words → words_in text ≡ words
+says_words text words single says = let a = says.says 1 [] in ap (map (λ (one : TokenContent). one.text)) (all_said text words a.0 a.1 a.2 a.4 a.3 single) ∙ a.3
 
 -- ---- the bodies of nodes
+
+-- the word isn't `node`, defines no constant, begins no label, and has not three digits
+abbrev is_inert : Word → Bool
+is_inert word = not (is_node word) && is_quiet word && not (is_some (node_number word))
+
+abbrev AreInert : List Word → Type 0
+AreInert words = list_all is_inert words ≡ true
 
 -- no word is `node`
 abbrev HasNoNode : List Word → Type 0
 HasNoNode words = list_all (λ word. not (is_node word)) words ≡ true
-
-pub not_true : (b : Bool) → not b ≡ true → b ≡ false
-not_true true e = sym e
-not_true false e = refl
 
 body_front : (words rest : List Word) → HasNoNode words → body_in rest ≡ [] → body_in (words ++ rest) ≡ words
 unfolding body_in
@@ -65,50 +71,94 @@ bodies_rest (word ∷ words) rest none =
     let parts = and_parts (not (is_node word)) (list_all (λ w. not (is_node w)) words) none in
     cond-false (is_node word) _ (bodies_in (words ++ rest)) (not_true (is_node word) parts.0) ∙ bodies_rest words rest parts.1
 
-none_both : (words more : List Word) → HasNoNode words → HasNoNode more → HasNoNode (words ++ more)
-none_both words more a b = list_all-append (λ word. not (is_node word)) words more ∙ and_from (list_all (λ word. not (is_node word)) words) (list_all (λ word. not (is_node word)) more) a b
+inert_no_node : (words : List Word) → AreInert words → HasNoNode words
+inert_no_node [] inert = refl
+inert_no_node (word ∷ words) inert =
+    let parts = and_parts (is_inert word) (list_all is_inert words) inert in
+    let outer = and_parts (not (is_node word) && is_quiet word) (not (is_some (node_number word))) parts.0 in
+    and_from (not (is_node word)) (list_all (λ w. not (is_node w)) words) (and_parts (not (is_node word)) (is_quiet word) outer.0).0 (inert_no_node words parts.1)
+
+none_both : (words more : List Word) → AreInert words → AreInert more → AreInert (words ++ more)
+none_both words more a b = list_all-append is_inert words more ∙ and_from (list_all is_inert words) (list_all is_inert more) a b
 
 -- ---- which words there are
 
-register_no_node : (name : Word) (v usual : ℕ) → is_node name ≡ false → HasNoNode (register_words name v usual)
-register_no_node name v usual other = elim (cases_Bool (v == usual)) [
+register_inert : (name : Word) (v usual : ℕ) → is_inert name ≡ true → AreInert (register_words name v usual)
+unfolding node_number
+register_inert name v usual other = elim (cases_Bool (v == usual)) [
   | inl same ↦ rw same refl
   | inr differs ↦ rw (differs, other) refl
 ]
 
-address_no_node : (address next : ℕ) → HasNoNode (address_words address next)
-address_no_node address next = elim (cases_Bool (address == next)) [
+address_inert : (address next : ℕ) → AreInert (address_words address next)
+unfolding node_number
+address_inert address next = elim (cases_Bool (address == next)) [
   | inl same ↦ rw same refl
   | inr differs ↦ rw differs refl
 ]
 
-cell_no_node : (word address next : ℕ) → HasNoNode (cell_words word address next)
-cell_no_node word address next = elim (cases_Bool (word == 0)) [
+cell_inert : (word address next : ℕ) → AreInert (cell_words word address next)
+unfolding node_number
+cell_inert word address next = elim (cases_Bool (word == 0)) [
   | inl same ↦ rw same refl
-  | inr differs ↦ rw differs (none_both (address_words address next) (number_word 6 word ∷ codes "," ∷ []) (address_no_node address next) refl)
+  | inr differs ↦ rw differs (none_both (address_words address next) (number_word 6 word ∷ codes "," ∷ []) (address_inert address next) refl)
 ]
 
-cells_no_node : (address next : ℕ) (cells : List ℕ) → HasNoNode (cells_words address next cells)
+cells_inert : (address next : ℕ) (cells : List ℕ) → AreInert (cells_words address next cells)
 unfolding cells_words
-cells_no_node address next [] = refl
-cells_no_node address next (word ∷ words) =
-    none_both (cell_words word address next) (cells_words (address + 1) (next_of word address next) words) (cell_no_node word address next) (cells_no_node (address + 1) (next_of word address next) words)
+cells_inert address next [] = refl
+cells_inert address next (word ∷ words) =
+    none_both (cell_words word address next) (cells_words (address + 1) (next_of word address next) words) (cell_inert word address next) (cells_inert (address + 1) (next_of word address next) words)
 
-node_no_node : (n : ℕ) (node : NodeState) → HasNoNode (node_words n node)
-node_no_node n node =
+node_inert : (n : ℕ) (node : NodeState) → AreInert (node_words n node)
+unfolding node_number
+node_inert n node =
     let p = register_words (codes "/p") node.p (usual_p n (holds_words node)) in
     let a = register_words (codes "/a") node.a 0 in
     let b = register_words (codes "/b") node.b 0x15d in
     let rom = cells_words 0x80 (next_behind 0 0 node.ram) node.rom in
     none_both (registers_words n node (holds_words node)) (memory_words node)
-    (none_both (p ++ a) b (none_both p a (register_no_node (codes "/p") node.p (usual_p n (holds_words node)) refl) (register_no_node (codes "/a") node.a 0 refl)) (register_no_node (codes "/b") node.b 0x15d refl))
-    (none_both (cells_words 0 0 node.ram) rom (cells_no_node 0 0 node.ram) (cells_no_node 0x80 (next_behind 0 0 node.ram) node.rom))
+    (none_both (p ++ a) b (none_both p a (register_inert (codes "/p") node.p (usual_p n (holds_words node)) refl) (register_inert (codes "/a") node.a 0 refl)) (register_inert (codes "/b") node.b 0x15d refl))
+    (none_both (cells_words 0 0 node.ram) rom (cells_inert 0 0 node.ram) (cells_inert 0x80 (next_behind 0 0 node.ram) node.rom))
 
 name_no_node : (n : ℕ) → n < 144 → is_node (decimal3_of (yxx_of n)) ≡ false
 name_no_node n within = differs (48 + yxx_of n / 100) (48 + yxx_of n / 10 % 10) (48 + yxx_of n % 10) (ne_eqb (48 + yxx_of n / 100) 110 (λ e. omega arith))
   where
     differs : (a b c : ℕ) → (a == 110) ≡ false → is_node (a ∷ b ∷ c ∷ []) ≡ false
     differs a b c e = rw e refl
+
+name_quiet : (n : ℕ) → n < 144 → is_quiet (decimal3_of (yxx_of n)) ≡ true
+name_quiet n within = differs (48 + yxx_of n / 100) (48 + yxx_of n / 10 % 10) (48 + yxx_of n % 10) (ne_eqb (48 + yxx_of n / 100) 99 (λ e. omega arith)) (ne_eqb (48 + yxx_of n / 100) 58 (λ e. omega arith))
+  where
+    differs : (a b c : ℕ) → (a == 99) ≡ false → (a == 58) ≡ false → is_quiet (a ∷ b ∷ c ∷ []) ≡ true
+    differs a b c no_constant no_label = rw (no_constant, no_label) refl
+
+-- ---- each node has a `node` of its own
+
+singles_rest : (words rest : List Word) → AreInert words → are_single false rest ≡ true → are_single false (words ++ rest) ≡ true
+unfolding are_single
+singles_rest [] rest inert end = end
+singles_rest (word ∷ words) rest inert end =
+    let parts = and_parts (is_inert word) (list_all is_inert words) inert in
+    let outer = and_parts (not (is_node word) && is_quiet word) (not (is_some (node_number word))) parts.0 in
+    let first = and_parts (not (is_node word)) (is_quiet word) outer.0 in
+    and_from (is_quiet word && not (is_some (node_number word))) (are_single (is_node word) (words ++ rest))
+    (and_from (is_quiet word) (not (is_some (node_number word))) first.1 outer.1)
+    (ap (λ (b : Bool). are_single b (words ++ rest)) (not_true (is_node word) first.0) ∙ singles_rest words rest parts.1 end)
+
+named_single : (n : ℕ) (words rest : List Word) → n < 144 → AreInert words → are_single false rest ≡ true → are_single false (named_words n words ++ rest) ≡ true
+unfolding are_single node_number
+named_single n [] rest within inert end = end
+named_single n (word ∷ words) rest within inert end =
+    let name = decimal3_of (yxx_of n) in
+    and_from (is_quiet name && true) (are_single (is_node name) ((word ∷ words) ++ rest))
+    (and_from (is_quiet name) true (name_quiet n within) refl)
+    (ap (λ (b : Bool). are_single b ((word ∷ words) ++ rest)) (name_no_node n within) ∙ singles_rest (word ∷ words) rest inert end)
+
+pub all_single : (n : ℕ) (nodes : List NodeState) → n + length nodes ≤ 144 → are_single false (source_words n nodes) ≡ true
+unfolding source_words are_single
+all_single n [] within = refl
+all_single n (node ∷ nodes) within = named_single n (node_words n node) (source_words (n + 1) nodes) (omega arith) (node_inert n node) (all_single (n + 1) nodes (omega arith))
 
 -- ---- the body of each node
 
@@ -142,7 +192,7 @@ pub all_bodies : (n : ℕ) (nodes : List NodeState) → n + length nodes ≤ 144
 unfolding source_words bodies_in bodies_of
 all_bodies n [] within = refl
 all_bodies n (node ∷ nodes) within =
-    named_body n (node_words n node) (source_words (n + 1) nodes) (omega arith) (node_no_node n node) (starts (n + 1) nodes)
+    named_body n (node_words n node) (source_words (n + 1) nodes) (omega arith) (inert_no_node (node_words n node) (node_inert n node)) (starts (n + 1) nodes)
     ∙ ap (λ (l : List (List Word)). body_of n (node_words n node) ++ l) (all_bodies (n + 1) nodes (omega arith))
 
 -- ---- the names of nodes

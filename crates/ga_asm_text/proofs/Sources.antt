@@ -4,7 +4,8 @@ use Rattle.ga_parser.specs.declared.fault.Fault.{Fault}
 use Rattle.ga_parser.specs.declared.fault.SourceCause.TheVariants.{Memory}
 use Rattle.ga_source.specs.declared.program.Assembled.{Assembled}
 use Rattle.ga_parser.specs.declared.scan.Token.{Token}
-use Rattle.ga_parser.specs.Saying.{all_in, token_contents}
+use Rattle.ga_parser.specs.Saying.{token_contents}
+use Rattle.ga_parser.specs.Words.{all_in, once_in}
 use Rattle.ga_source.specs.Made.{IsSoundSource}
 use Rattle.ga_source.specs.Recovery.{with_numbers, IsAssembledOf, fault_at_line, faults_by_line, or_first, AreFaultsOfWords}
 use Rattle.ga_image.specs.FirstFault.{no_memory}
@@ -45,7 +46,7 @@ pub listed_whole : (source text : List ℕ) (words : List Token) (all : Assemble
 listed_whole source text words all said is = record { words = words; all = all; said = said; assembled = is }
 
 -- or it has a fault
-pub listed_faulty : (source text : List ℕ) (words : List Token) (fault : Fault) (found all : List Fault) → token_contents words ≡ all_in source → (IsSoundSource source → fault.cause ≡ Memory) → fault.cause ≢ Memory
+pub listed_faulty : (source text : List ℕ) (words : List Token) (fault : Fault) (found all : List Fault) → token_contents words ≡ once_in source → (IsSoundSource source → fault.cause ≡ Memory) → fault.cause ≢ Memory
     → AreFaultsOfWords (token_contents (with_numbers 1 words)) found → all ≡ or_first found fault → AreAmong (map (listed_fault source) (faults_by_line words all)) text → IsListed source true text
 listed_faulty source text words fault found all said sound other are is among = (
   (λ is_sound. other (sound is_sound)),

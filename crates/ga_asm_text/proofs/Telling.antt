@@ -1,6 +1,6 @@
 -- Texts that say words, line by line.
 use Rattle.std.specs.Prelude.{◌-◌, ◌==◌, not, codes, bytes_eq, filter, slice_index, take, drop, if◌then◌else◌, suc, slice_index_or, ◌≢◌, Some}
-use Rattle.std.proofs.Common.{◌≡◌, ◌∙◌, ℕ, ◌+◌, ◌/◌, ◌%◌, ◌<◌, ◌≤◌, Bool, true, false, ◌&&◌, List, [], ◌∷◌, ◌++◌, length, map, refl, arith, ap, sym, inl, inr, append_assoc, length-append, subst}
+use Rattle.std.proofs.Common.{◌≡◌, ◌∙◌, ℕ, ◌+◌, ◌/◌, ◌%◌, ◌<◌, ◌≤◌, Bool, true, false, ◌&&◌, List, [], ◌∷◌, ◌++◌, length, map, refl, arith, ap, ap₂, sym, inl, inr, append_assoc, length-append, subst}
 use Rattle.std.specs.List.{list_all, All, AllByRecursion}
 use Rattle.std.proofs.lemmas.List.{map-append, append-nil}
 use Rattle.std.proofs.lemmas.List.Folds.{list_all-append}
@@ -8,9 +8,13 @@ use Rattle.std.proofs.lemmas.Slice.Eq.{bytes_eq-Decides}
 use Rattle.std.proofs.lemmas.Bool.{cases_Bool, and_parts, and_from, cond-false, ltb-true, lt-ltb, ne_eqb, false≢true}
 use Rattle.ga_text.specs.Lines.{Text, Bytes, Line, HasNoFeed, ended, text_of, ends_line, with_byte}
 use Rattle.ga_text.specs.Digits.{decimal3_of}
-use Rattle.ga_parser.specs.Saying.{parted, is_feed, is_blank, source_lines, has_bytes, source_words, order_mark, without_return, bare, TokenContent, a_word, is_word, spoken, said_by, next_line, said_from, said_in, up_to_fault}
+use Rattle.ga_parser.specs.Saying.{parted, is_feed, is_blank, source_lines, has_bytes, source_words, order_mark, without_return, bare, TokenContent, a_word, is_word, spoken, said_by, next_line, said_from, up_to_fault, PlacedToken, at_columns, columns_by, columns_from, scanned_in}
+use Rattle.ga_parser.specs.Words.{said_in, placed_in}
+use Rattle.ga_parser.specs.Constants.{without_definitions}
+use Rattle.ga_parser.specs.Groups.{grouped}
+use Rattle.ga_parser.specs.Groups.Beginning.{Nothing}
 use Rattle.ga_asm_text.specs.inner.{Word, Says, IsOrdinary, IsUnmarked, is_inner, is_shown}
-use Rattle.ga_asm_text.proofs.SourceWords.{not_true}
+use Rattle.ga_asm_text.proofs.Unchanged.{not_true}
 use Rattle.ga_parser.proofs.Scanning.{short_line}
 use Rattle.std.proofs.lemmas.List.Elements.{All-head, All-tail}
 use Rattle.ga_node.specs.Record.{NodeState}
@@ -284,13 +288,42 @@ to_end (first ∷ lines) body line rest =
     ∙ (sym (line_then line first behind body.0.no_feed)
     ∙ ap (λ (t : Text). said_from line (source_lines t)) (sym (append_assoc (ended first) (text_of lines) (ended end_line))))))
 
+-- nor columns
+end_last_column : (line : ℕ) (rest : Bytes) → columns_from line (source_lines (ended end_line ++ rest)) ≡ []
+unfolding columns_from
+end_last_column line rest =
+    ap (columns_from line) (part_behind is_feed end_line 10 rest refl refl)
+    ∙ ap (λ (own : List ℕ). if bytes_eq own (codes "end") then [] else columns_by own ++ columns_from (next_line line) (source_lines rest)) (own_line line end_line refl refl)
+
+column_then : (line : ℕ) (first rest : Text) → HasNoFeed first → columns_from line (source_lines (ended first ++ rest)) ≡ (if bytes_eq (bare line first) (codes "end") then [] else columns_by (bare line first) ++ columns_from (next_line line) (source_lines rest))
+unfolding columns_from
+column_then line first rest none =
+    ap (λ (t : Text). columns_from line (source_lines t)) (append_assoc first (10 ∷ []) rest)
+    ∙ ap (columns_from line) (part_behind is_feed first 10 rest (inner_of first none) refl)
+
+columns_to_end : (lines : List Line) → AllByRecursion IsBodyLine lines → (line : ℕ) (rest : Bytes) → columns_from line (source_lines ((text_of lines ++ ended end_line) ++ rest)) ≡ columns_from line (source_lines (text_of lines ++ ended end_line))
+columns_to_end [] body line rest = end_last_column line rest ∙ sym (end_last_column line [])
+columns_to_end (first ∷ lines) body line rest =
+    let behind : Text = text_of lines ++ ended end_line in
+    let whole : (text_of (first ∷ lines) ++ ended end_line) ++ rest ≡ ended first ++ (behind ++ rest) =
+    ap (λ (t : Text). t ++ rest) (append_assoc (ended first) (text_of lines) (ended end_line)) ∙ append_assoc (ended first) behind rest in
+    ap (λ (t : Text). columns_from line (source_lines t)) whole
+    ∙ (column_then line first (behind ++ rest) body.0.no_feed
+    ∙ (ap (λ (l : List ℕ). if bytes_eq (bare line first) (codes "end") then [] else columns_by (bare line first) ++ l) (columns_to_end lines body.1 (next_line line) rest)
+    ∙ (sym (column_then line first behind body.0.no_feed)
+    ∙ ap (λ (t : Text). columns_from line (source_lines t)) (sym (append_assoc (ended first) (text_of lines) (ended end_line))))))
+
 -- so a source up to its line `end` says what the whole text says
+scanned_all : (source rest : Text) → EndsAtEnd source → scanned_in (source ++ rest) ≡ scanned_in source
+scanned_all source rest ends =
+    ap (λ (t : Text). scanned_in (t ++ rest)) ends.splits
+    ∙ (ap₂ at_columns (to_end ends.lines ends.before 1 rest) (columns_to_end ends.lines ends.before 1 rest)
+    ∙ ap scanned_in (sym ends.splits))
+
 says_all : (source rest : Text) → EndsAtEnd source → said_in (source ++ rest) ≡ said_in source
-unfolding said_in
+unfolding said_in placed_in
 says_all source rest ends =
-    ap (λ (t : Text). up_to_fault (said_from 1 (source_lines (t ++ rest)))) ends.splits
-    ∙ (ap up_to_fault (to_end ends.lines ends.before 1 rest)
-    ∙ ap (λ (t : Text). up_to_fault (said_from 1 (source_lines t))) (sym ends.splits))
+    ap (λ (words : List PlacedToken). up_to_fault (map (λ (one : PlacedToken). one.said) (grouped true Nothing (without_definitions words)))) (scanned_all source rest ends)
 
 -- what was read of a text, as a source, says what the text says
 pub read_says : (text read rest source ahead : Text) → text ≡ read ++ rest → read ≡ source ++ ahead → IsReadWhole source ahead rest → said_in source ≡ said_in text

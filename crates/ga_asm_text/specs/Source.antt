@@ -10,7 +10,8 @@ use Rattle.ga_parser.specs.declared.fault.Fault.{Fault}
 use Rattle.ga_source.specs.declared.program.Program.{Program}
 use Rattle.ga_source.specs.declared.program.Assembled.{Assembled}
 use Rattle.ga_parser.specs.declared.scan.Token.{Token}
-use Rattle.ga_parser.specs.Saying.{all_in, token_contents}
+use Rattle.ga_parser.specs.Saying.{token_contents}
+use Rattle.ga_parser.specs.Words.{all_in}
 use Rattle.ga_source.specs.Recovery.{with_numbers, IsAssembledOf, AreFaultsOfSource}
 use Rattle.ga_debug_info.specs.Faults.{fault_text}
 use Rattle.ga_debug_info.specs.Source.{line_in}

@@ -5,7 +5,6 @@ ghost use Rattle.ga_text.specs.Lines.{Bytes};
 ghost use Rattle.hex.specs.Hex.{lower_digits};
 ghost use Rattle.ga_grid.specs.Grid.{yxx_of};
 ghost use Rattle.ga_text.specs.Digits.{decimal3_of};
-ghost use Rattle.ga_parser.specs.Saying.{token_contents, all_in};
 ghost use Rattle.ga_asm_text.specs.inner.{Adds, hex_of, Listing, IsListed, with_fault, behind_listing, lines_left, Grows, Tells};
 ghost use Rattle.ga_parser.specs.declared.fault.SourceCause.TheVariants.{Memory};
 ghost use Rattle.ga_source.specs.Made.{IsSoundSource};
@@ -24,7 +23,7 @@ use ga_ports::{Target, advance_p, classify};
 use ga_slots::Op;
 use ga_source::{
     Assembled, Fault, Group, Item, Operand, Program, RecoveredSource, Request, SourceCause, Token,
-    assemble_by_word_number, faults_on_lines, or_first, recover_words, source_words,
+    assemble_by_word_number, faults_on_lines, or_first, recover_words, source_words, words_once,
 };
 use ga_text::write_all;
 use std::alloc::{AllocError, Global};
@@ -116,7 +115,7 @@ fn listing_of(alloc: Global, source: &[u8]) -> Result<Listed, Fault<'_>>
                 is_faulty: false,
             })
         }
-        Err(fault) => faulty_listing(alloc, source, all, fault),
+        Err(fault) => faulty_listing(alloc, source, fault),
     }
 }
 
@@ -127,16 +126,16 @@ fn listing_of(alloc: Global, source: &[u8]) -> Result<Listed, Fault<'_>>
 fn faulty_listing<'s>(
     alloc: Global,
     source: &'s [u8],
-    words: &[Token<'s>],
     fault: Fault<'s>,
 ) -> Result<Listed, Fault<'s>>
-    requires words { token_contents words.now ≡ all_in source.now }
-    requires fault { IsSoundSource source.now → fault.cause ≡ Memory }
+    requires { IsSoundSource source.now → fault.cause ≡ Memory }
     ensures { IfOk result (λ listed. IsListed source.now listed.is_faulty listed.text.items) }
 {
     if fault.cause == SourceCause::Memory {
         return Err(fault);
     }
+    let all = words_once(alloc, source)?;
+    let words = all.as_slice();
     let RecoveredSource { assembled, faults } = recover_words(alloc, words)?;
     let faults = or_first(faults, fault)?;
     let report = report_of(alloc, words, faults.as_slice())?;

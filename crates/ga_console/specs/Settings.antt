@@ -11,7 +11,7 @@ abbrev pub AreInRange : Settings → Type 0
 AreInRange (Debug limit) = Within 1 4000000 limit
 AreInRange (Explore limit chip file) = Within 1 100000000 limit
 AreInRange (Race workers calls limit) = Within 1 16 workers × Within 1 100000 calls × Within 1 4000000 limit
-AreInRange (Check most settled session workers progress file) = Within 1 4294967295 most × IfSome session (Within 1 4294967295) × Within 1 16 workers
+AreInRange (Check most seconds settled session progress file) = Within 1 4294967295 most × IfSome seconds (Within 1 4294967295) × IfSome session (Within 1 4294967295)
 AreInRange Dap = Unit {0}
 AreInRange (Assemble file) = Unit {0}
 AreInRange (List file) = Unit {0}

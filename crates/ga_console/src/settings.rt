@@ -17,7 +17,7 @@ const DEFAULT_LIMIT: u32 = 1_000_000;
 /// How many events a session of exploring keeps where no limit is given.
 const DEFAULT_EXPLORED: u32 = 20_000_000;
 
-/// How many runs are made at most where no number is given.
+/// The maximum number of states where no number is given.
 const DEFAULT_MOST: u32 = 1_000_000;
 
 /// From how many own steps on a run is drawn as one mark, where no number is given.
@@ -45,14 +45,14 @@ pub enum Settings {
         calls: u32,
         limit: u32,
     },
-    /// Run every order of a program's nodes, in at most `most` runs, 1 to 4294967295, with 1 to 16 workers, and write how they
-    /// end; or write the session of one of them, whose number counts from 1. With `settled` each node whose first event is to
-    /// wait for code makes it first, and with `progress` the progress is written.
+    /// Find the ends of a program in every order of its nodes, with at most `most` states, 1 to 4294967295, in at most `seconds`, 1 to
+    /// 4294967295, if given, and write their kinds; or write the session of one kind, whose number counts from 1. With `settled` each node
+    /// whose first event is to wait for code makes it first, and with `progress` the progress is written.
     Check {
         most: u32,
+        seconds: Option<u32>,
         settled: bool,
         session: Option<u32>,
-        workers: u32,
         progress: bool,
         file: Option<String>,
     },
@@ -169,52 +169,52 @@ fn chosen(alloc: Global, matches: &ArgMatches<'_>) -> Result<Settings, LineFault
     }
 }
 
-/// Which orders to run, and what to write about them.
+/// How far to search for ends, and what to write about them.
 fn checked(alloc: Global, check: &ArgMatches<'_>) -> Result<Settings, LineFault>
     ensures in_range { IfOk result AreInRange }
 {
     let most = place(check.get_str("most"), DEFAULT_MOST)?;
     Ok(Settings::Check {
         most,
+        seconds: seconds(check.get_str("seconds"))?,
         settled: check.get_flag("settled"),
-        session: order(alloc, check.get_str("session"))?,
-        workers: workers(check.get_str("workers"))?,
+        session: kind(alloc, check.get_str("session"))?,
         progress: check.get_flag("progress"),
         file: file(alloc, check)?,
     })
 }
 
-/// The number of an order, counted from 1, where one is given, spelled as in a command.
-fn order(alloc: Global, text: Option<&str>) -> Result<Option<u32>, LineFault>
-    ensures in_range { IfOk result (λ order. IfSome order (λ n. Within 1 4294967295 n)) }
+/// The maximum number of seconds, if one is given.
+fn seconds(text: Option<&str>) -> Result<Option<u32>, LineFault>
+    ensures in_range { IfOk result (λ seconds. IfSome seconds (λ n. Within 1 4294967295 n)) }
+{
+    match text {
+        None => Ok(None),
+        given => Ok(Some(number(given, u32::MAX)?)),
+    }
+}
+
+/// The number of a kind of end, counted from 1, where one is given, spelled as in a command.
+fn kind(alloc: Global, text: Option<&str>) -> Result<Option<u32>, LineFault>
+    ensures in_range { IfOk result (λ kind. IfSome kind (λ n. Within 1 4294967295 n)) }
 {
     match text {
         None => Ok(None),
         Some(given) => match parse_number(given.as_bytes()) {
             Some(_) => Ok(Some(number(text, u32::MAX)?)),
-            None => Err(no_order(alloc, given)),
+            None => Err(no_kind(alloc, given)),
         },
     }
 }
 
-/// Reports that these digits are no number of an order, in the form of clap's errors.
-fn no_order(alloc: Global, digits: &str) -> LineFault {
+/// Reports that these digits are no number of a kind of end, in the form of clap's errors.
+fn no_kind(alloc: Global, digits: &str) -> LineFault {
     match format!(in alloc;
         "error: invalid value '{digits}' for '--session <K>': K is a decimal number without leading zeros\n\n\
         For more information, try '--help'.\n"
     ) {
         Ok(text) => LineFault::Refused(text),
         Err(_) => LineFault::Memory,
-    }
-}
-
-/// How many workers there are, or one where no number is given.
-fn workers(text: Option<&str>) -> Result<u32, LineFault>
-    ensures in_range { IfOk result (λ n. Within 1 16 n) }
-{
-    match text {
-        None => Ok(1),
-        given => number(given, MOST_WORKERS),
     }
 }
 

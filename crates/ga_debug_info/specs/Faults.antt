@@ -8,7 +8,7 @@ use Rattle.ga_parser.specs.declared.fault.Fault.{Fault}
 use Rattle.ga_parser.specs.declared.fault.NumberRange.{NumberRange}
 use Rattle.ga_parser.specs.declared.fault.NumberRange.TheVariants.{Word, P, B, Cell}
 use Rattle.ga_parser.specs.declared.fault.SourceCause.{SourceCause}
-use Rattle.ga_parser.specs.declared.fault.SourceCause.TheVariants.{Memory, LongLine, OpenComment, NoNode, NoSuchNode, NodeTwice, Unknown, Taken, Missing, LabelTwice, RegisterTwice, Unmatched, Open, Number, CellTwice, Past, Reach, Loop}
+use Rattle.ga_parser.specs.declared.fault.SourceCause.TheVariants.{Memory, LongLine, OpenComment, NoNode, NoSuchNode, NodeTwice, Unknown, Taken, Missing, NoNumber, LabelTwice, RegisterTwice, Unmatched, Open, Number, CellTwice, Past, Reach, Loop}
 use Rattle.ga_source.specs.declared.program.Program.{Program}
 use Rattle.ga_source.specs.declared.stores.Store.{Store}
 use Rattle.ga_source.specs.Stores.{stores_of_program}
@@ -54,6 +54,7 @@ cause_text NodeTwice = codes "the node has a program already"
 cause_text (Unknown word) = codes "what is " ++ printable word.now ++ hint_part (hint_for word.now)
 cause_text Taken = codes "the name is taken"
 cause_text Missing = codes "a name or a value is missing"
+cause_text NoNumber = codes "no number from -131072 to 262143 before constant"
 cause_text LabelTwice = codes "the label stands twice"
 cause_text RegisterTwice = codes "the register is given twice"
 cause_text Unmatched = codes "nothing is open that this closes"

@@ -10,7 +10,8 @@ use Rattle.ga_source.specs.declared.group.Group.{Group}
 use Rattle.ga_source.specs.declared.program.Program.{Program}
 use Rattle.ga_source.specs.declared.program.Assembled.{Assembled}
 use Rattle.ga_parser.specs.declared.scan.Token.{Token}
-use Rattle.ga_parser.specs.Saying.{token_contents, all_in, columns_of, columns_in}
+use Rattle.ga_parser.specs.Saying.{token_contents, columns_of}
+use Rattle.ga_parser.specs.Words.{all_in, columns_in}
 use Rattle.ga_source.specs.Recovery.{with_numbers, IsAssembledOf}
 use Rattle.ga_debug_info.specs.declared.wording.SlotWord.{SlotWord}
 use Rattle.ga_debug_info.specs.declared.wording.DisplayedWord.{DisplayedWord}

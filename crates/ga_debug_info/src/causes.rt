@@ -157,6 +157,9 @@ fn push_cause(text: &mut Vec<u8>, cause: SourceCause<'_>) -> Result<(), AllocErr
         SourceCause::Unknown(word) => push_unknown(text, word),
         SourceCause::Taken => text.extend_from_slice(b"the name is taken"),
         SourceCause::Missing => text.extend_from_slice(b"a name or a value is missing"),
+        SourceCause::NoNumber => {
+            text.extend_from_slice(b"no number from -131072 to 262143 before constant")
+        }
         SourceCause::LabelTwice => text.extend_from_slice(b"the label stands twice"),
         SourceCause::RegisterTwice => text.extend_from_slice(b"the register is given twice"),
         SourceCause::Unmatched => text.extend_from_slice(b"nothing is open that this closes"),

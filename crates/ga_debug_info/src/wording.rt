@@ -2,7 +2,8 @@
 
 ghost use Rattle.std.specs.Prelude.{◌≡◌, ◌<◌, ◌++◌, ◌∷◌, [], map, length, slice_index, drop, decimal, codes, IfOk, OnOk};
 ghost use Rattle.ga_source.specs.Reading.{p_behind};
-ghost use Rattle.ga_parser.specs.Saying.{token_contents, all_in, columns_of, columns_in};
+ghost use Rattle.ga_parser.specs.Saying.{token_contents, columns_of};
+ghost use Rattle.ga_parser.specs.Words.{all_in, columns_in};
 ghost use Rattle.ga_debug_info.specs.Notes.{word_line as line_by_number, word_column as column_by_number, quoted_word, quoted_if_long, worded_by, last_slot as last_slot_of, word_in_slot as word_by_slot, word_told, slots_worded, address_worded, literal_worded, group_worded, program_worded, all_worded, AreSlotWords};
 
 use crate::building::{is_code, push_number};

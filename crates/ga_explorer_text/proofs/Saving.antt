@@ -1,6 +1,6 @@
 -- The lines of the kept events, and where they lead.
-use Rattle.std.proofs.Common.{◌≡◌, ℕ, zero, suc, ◌+◌, ◌≤◌, List, [], ◌∷◌, ◌++◌, length, drop, take, Some, None, Ok, Err, refl, sym, ap, ◌∙◌, subst, arith}
-use Rattle.std.specs.Prelude.{Option, Result, IsSome, map, flat_map, option_and_then, slice_get}
+use Rattle.std.proofs.Common.{◌≡◌, ℕ, zero, suc, ◌+◌, ◌≤◌, List, [], ◌∷◌, ◌++◌, length, drop, take, Some, None, refl, sym, ap, ◌∙◌, arith}
+use Rattle.std.specs.Prelude.{Option, IsSome, map, flat_map, option_and_then, slice_get}
 use Rattle.std.proofs.lemmas.List.{length-map, drop_all}
 use Rattle.ga_grid.specs.declared.node_id.NodeId.{NodeId}
 use Rattle.ga_event.specs.declared.event.Event.{Event}
@@ -9,9 +9,7 @@ use Rattle.ga_event.specs.declared.event.Cause.{Cause}
 use Rattle.ga_event.specs.declared.made.Made.{Made}
 use Rattle.ga_event.specs.Apply.{EventOutcome, Did, Carried, replay}
 use Rattle.ga_event.specs.Told.{made_after, made_in, events_told}
-use Rattle.ga_event.specs.Next.{next}
-use Rattle.ga_lab.specs.Machine.{State, chip_of, outcomes_of_kept, causes_of, step_answer, with_event, unless_refused, stepped, actor_of, stepped_all}
-use Rattle.ga_lab.specs.declared.fault.LabFault.{LabFault}
+use Rattle.ga_lab.specs.Machine.{State, outcomes_of_kept, causes_of, actor_of}
 use Rattle.ga_scheduler.proofs.WordCounts.{kept_told}
 use Rattle.ga_explorer_text.specs.Saved.{step_line, saved_line, saved_lines, with_feed, saved_text}
 use Rattle.ga_explorer_text.specs.inner.{actor_in, line_at, cause_line}

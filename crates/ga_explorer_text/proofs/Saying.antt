@@ -19,7 +19,7 @@ use Rattle.ga_provenance.specs.declared.listing.ProvenanceRow.{ProvenanceRow}
 use Rattle.ga_provenance.specs.Origins.{node_after, origin_of}
 use Rattle.ga_provenance.specs.Rows.{row_at, made_row, AreRows}
 use Rattle.ga_explorer_text.specs.inner.{is_first}
-use Rattle.ga_explorer_text.specs.Trees.{blanks, rows_by, tree_rows_text, more_text, most_rows, TellsTree}
+use Rattle.ga_explorer_text.specs.Trees.{blanks, rows_by, tree_rows_text, more_text, most_rows, TellsTree, word_of_value, a_of_value, worded_text, value_text}
 use Rattle.ga_explorer_text.specs.Waiting.{each_node, node_count, all_waiting, stuck_text, all_rings, rest_text}
 use Rattle.ga_explorer_text.specs.Ended.{AreEnded}
 use Rattle.std.proofs.lemmas.Bool.Decides.{nat_tests}
@@ -156,7 +156,7 @@ made_by s step value rows is_whole told cut = by_first s step value rows (first_
 
 -- the whole text
 pub tree_told : (notes : Option DebugInfo) (s : State) (node : NodeId) (step : ℕ) (value : Value) (rows told : List ProvenanceRow) (is_whole : Bool) (first last : List ℕ) → AreRows s [] (row_at 0 value ∷ []) rows is_whole
-    → length rows ≤ most_rows → (is_whole ≡ false → length rows ≡ most_rows) → told ≡ rows → first ≡ rows_by notes s node step (is_first step told) told → last ≡ more_text is_whole
+    → length rows ≤ most_rows → (is_whole ≡ false → length rows ≡ most_rows) → told ≡ rows → first ≡ rows_by notes s node step value (is_first step told) told → last ≡ more_text is_whole
     → TellsTree notes s node step value (first ++ last)
 tree_told notes s node step value rows told is_whole first last are most cut same f l = record {
   rows = rows;
@@ -164,8 +164,12 @@ tree_told notes s node step value rows told is_whole first last are most cut sam
   told = are;
   most = most;
   cut = cut;
-  text = ap (λ z. z ++ last) (f ∙ ap (λ z. rows_by notes s node step (is_first step z) z) same ∙ ap (λ (b : Bool). rows_by notes s node step b rows) (made_by s step value rows is_whole are cut)) ∙ ap (λ z. tree_rows_text notes s node step value rows ++ z) l;
+  text = ap (λ z. z ++ last) (f ∙ ap (λ z. rows_by notes s node step value (is_first step z) z) same ∙ ap (λ (b : Bool). rows_by notes s node step value b rows) (made_by s step value rows is_whole are cut)) ∙ ap (λ z. tree_rows_text notes s node step value rows ++ z) l;
 }
+
+-- a line with the words of its value
+pub worded_as : (s : State) (value : Value) (word a : ℕ) → word ≡ word_of_value s value → a ≡ a_of_value s value → worded_text s value word a ≡ value_text s value
+worded_as s value word a e f = ap (λ (w : ℕ). worded_text s value w a) e ∙ ap (worded_text s value (word_of_value s value)) f
 
 -- ---- blanks, two more at a time
 

@@ -1,21 +1,27 @@
 -- The texts of `whence`: the steps whose values went into what a step made, as a tree (docs/REFERENCE.md, "Exploring"; this project's
 -- own).
-use Rattle.std.specs.Prelude.{◌≡◌, ◌≤◌, ℕ, zero, suc, ◌+◌, ◌-◌, ◌%◌, ◌==◌, ◌⊎◌, Bool, true, false, if◌then◌else◌, List, [], ◌∷◌, ◌++◌, length, flat_map, codes, decimal, Option, Some, None}
+use Rattle.std.specs.Prelude.{◌≡◌, ◌≤◌, ℕ, zero, suc, ◌+◌, ◌-◌, ◌%◌, ◌==◌, ◌&&◌, ◌⊎◌, min, Bool, true, false, if◌then◌else◌, List, [], ◌∷◌, ◌++◌, length, flat_map, codes, decimal, Option, Some, None}
 use Rattle.std.specs.List.{slice_get}
 use Rattle.ga_text.specs.Lines.{Text}
 use Rattle.ga_text.specs.Digits.{hex2_of, name_of_node, step_text}
+use Rattle.ga_word.specs.Word.{hex6_of}
 use Rattle.ga_grid.specs.declared.node_id.NodeId.{NodeId}
 use Rattle.ga_event.specs.declared.made.Made.{Made}
+use Rattle.ga_event.specs.declared.made.Made.TheVariants.{Own, Pass}
+use Rattle.ga_event.specs.Told.{steps_of}
+use Rattle.ga_event.specs.Flow.{part_of}
 use Rattle.ga_lab.specs.Machine.{State, has_step, history_of}
 use Rattle.ga_lab.specs.declared.fault.LabFault.TheVariants.{NoStep, Memory}
+use Rattle.ga_node.specs.declared.kind.Kind.{Kind}
+use Rattle.ga_node.specs.declared.kind.Kind.TheVariants as kind
 use Rattle.ga_event.specs.declared.flow.part.Part.{Part}
 use Rattle.ga_event.specs.declared.flow.part.Part.TheVariants as part
 use Rattle.ga_provenance.specs.declared.value.Value.{Value}
 use Rattle.ga_provenance.specs.declared.listing.ProvenanceRow.{ProvenanceRow}
-use Rattle.ga_provenance.specs.Origins.{value_of_step, origin_of}
+use Rattle.ga_provenance.specs.Origins.{value_of_step, node_after, origin_of}
 use Rattle.ga_provenance.specs.Rows.{row_at, AreRows}
 use Rattle.ga_provenance.specs.Asked.{queried_value}
-use Rattle.ga_display.specs.Texts.{refusal_text, advised_text}
+use Rattle.ga_display.specs.Texts.{register_text, refusal_text, advised_text}
 use Rattle.ga_debug_info.specs.declared.notes.DebugInfo.{DebugInfo}
 use Rattle.ga_explorer_text.specs.Deeds.{action_text}
 use Rattle.ga_explorer_text.specs.SourceSuffix.{step_tail, value_tail}
@@ -64,11 +70,51 @@ told_step_text (Some made) n = action_text made n
 abbrev pub did_text : State → NodeId → ℕ → Text
 did_text s node step = step_text node step ++ codes " " ++ told_step_text (slice_get (history_of s node.number) (step - 1)) node.number
 
--- a value: the step that made it, or that it was loaded
+-- the word of a value: the one in its part after its step, or after the last step of a node that made fewer
+abbrev pub word_of_value : State → Value → ℕ
+word_of_value s value = part_of 0 (node_after s value.node.number (min value.step (steps_of value.node.number s.kept))) value.part
+
+-- A after the step of a value
+abbrev pub a_of_value : State → Value → ℕ
+a_of_value s value = word_of_value s (value_of_step value.node value.step part.A)
+
+-- the word that a step left in a part, where A was this after it: `+*` makes both T and A, and a transferred word, in T or the
+-- instruction word, is in the text of the transfer
+abbrev pub left_by_op : ℕ → Part → ℕ → ℕ → Text
+left_by_op code (part.Data k) word a = if code == 16 && k == 0 then (codes " " ++ hex6_of word) ++ register_text (codes "a") a else codes " " ++ hex6_of word
+left_by_op code at word a = codes " " ++ hex6_of word
+
+abbrev pub left_by_kind : Kind → Part → ℕ → ℕ → Text
+left_by_kind (kind.Run code) at word a = left_by_op code at word a
+left_by_kind what at word a = codes " " ++ hex6_of word
+
+abbrev pub left_by_transfer : Part → ℕ → Text
+left_by_transfer (part.Data k) word = if k == 0 then [] else codes " " ++ hex6_of word
+left_by_transfer part.I word = []
+left_by_transfer at word = codes " " ++ hex6_of word
+
+abbrev pub left_text : Option Made → Part → ℕ → ℕ → Text
+left_text (Some (Pass writer i reader j sent)) at word a = left_by_transfer at word
+left_text (Some (Own node step what)) at word a = left_by_kind what at word a
+left_text None at word a = codes " " ++ hex6_of word
+
+-- a value with this word, where A was this after its step: the step that made it, or that it was loaded
+abbrev pub worded_text : State → Value → ℕ → ℕ → Text
+worded_text s value word a =
+    if value.step == 0 then name_of_node value.node ++ codes " load " ++ part_name value.part ++ (codes " " ++ hex6_of word)
+    else did_text s value.node value.step ++ mark_text value.part ++ left_text (slice_get (history_of s value.node.number) (value.step - 1)) value.part word a
+
 abbrev pub value_text : State → Value → Text
-value_text s value =
-    if value.step == 0 then name_of_node value.node ++ codes " load " ++ part_name value.part
-    else did_text s value.node value.step ++ mark_text value.part
+value_text s value = worded_text s value (word_of_value s value) (a_of_value s value)
+
+-- the queried value of a step, by the name of its part; the word that a step sent, T before it, is in the text of the transfer
+abbrev pub queried_of_transfer : ℕ → Value → ℕ → Text
+queried_of_transfer step value word = if value.step == step then register_text (part_name value.part) word else []
+
+abbrev pub queried_text : Option Made → ℕ → Value → ℕ → Text
+queried_text (Some (Pass writer i reader j sent)) step value word = queried_of_transfer step value word
+queried_text (Some (Own node k what)) step value word = register_text (part_name value.part) word
+queried_text None step value word = register_text (part_name value.part) word
 
 -- two blanks for each level
 unfoldable pub blanks : ℕ → Text
@@ -79,16 +125,23 @@ blanks (suc level) = codes "  " ++ blanks level
 abbrev pub tree_row_text : Option DebugInfo → State → ℕ → ProvenanceRow → Text
 tree_row_text notes s deeper row = blanks (row.depth + deeper) ++ (value_text s row.value ++ value_tail notes s row.value)
 
+-- the step of the query alone, and with the queried value
 abbrev pub head_text : Option DebugInfo → State → NodeId → ℕ → Text
 head_text notes s node step = did_text s node step ++ step_tail notes s node step
 
+abbrev pub did_queried_text : State → NodeId → ℕ → Value → Text
+did_queried_text s node step value = did_text s node step ++ queried_text (slice_get (history_of s node.number) (step - 1)) step value (word_of_value s value)
+
+abbrev pub queried_head_text : Option DebugInfo → State → NodeId → ℕ → Value → Text
+queried_head_text notes s node step value = did_queried_text s node step value ++ step_tail notes s node step
+
 -- The step of the query is the first row if it made the value. Otherwise it comes before the rows, which are one level deeper.
-abbrev pub rows_by : Option DebugInfo → State → NodeId → ℕ → Bool → List ProvenanceRow → Text
-rows_by notes s node step made rows =
-    if made then flat_map (tree_row_text notes s 0) rows else head_text notes s node step ++ flat_map (tree_row_text notes s 1) rows
+abbrev pub rows_by : Option DebugInfo → State → NodeId → ℕ → Value → Bool → List ProvenanceRow → Text
+rows_by notes s node step value made rows =
+    if made then flat_map (tree_row_text notes s 0) rows else queried_head_text notes s node step value ++ flat_map (tree_row_text notes s 1) rows
 
 abbrev pub tree_rows_text : Option DebugInfo → State → NodeId → ℕ → Value → List ProvenanceRow → Text
-tree_rows_text notes s node step value rows = rows_by notes s node step ((origin_of s value).step == step) rows
+tree_rows_text notes s node step value rows = rows_by notes s node step value ((origin_of s value).step == step) rows
 
 -- the line after the rows of a tree, if these are not all
 abbrev pub more_text : Bool → Text

@@ -1,28 +1,20 @@
 //! The steps at which a value decided where a node continued, written line by line.
 
 ghost use Rattle.std.specs.Prelude.{◌≡◌, ◌+◌, ◌-◌, ◌≤◌, ◌<◌, ◌^◌, ◌++◌};
-ghost use Rattle.arrayvec.specs.ArrayVec.{array_vec_len};
-ghost use Rattle.ga_display.specs.Texts.{register_text};
 ghost use Rattle.ga_text.specs.Output.{WritesSome};
 ghost use Rattle.ga_explorer_text.specs.Because.{decided_text, because_text};
-ghost use Rattle.ga_explorer_text.specs.Trees.{part_name};
 
 use crate::deed_text::push_action;
-use crate::part_text::{MAX_PART_BYTES, push_part};
+use crate::part_text::push_named_word;
 use crate::source_suffix::StepContext;
 use arrayvec::ArrayVec;
 use ga_debug_info::DebugInfo;
 use ga_display::refusal_text;
-use ga_event::Part;
 use ga_grid::NodeId;
 use ga_lab::{Lab, LabFault, Made};
 use ga_provenance::{Decision, Decisions, ProvenanceRow};
-use ga_text::{TextBuffer, WORD_DIGITS, WriteResult, Writer, push_spaced, push_step, push_text};
-use ga_word::Word18;
+use ga_text::{TextBuffer, WriteResult, Writer, push_step, push_text};
 use std::io::Write;
-
-/// The most bytes of a register that was tested, with its word.
-const TESTED_ROOM: usize = 1 + MAX_PART_BYTES + 1 + WORD_DIGITS;
 
 /// `because NNN K [N]`: writes the last steps of a node before one at which a value decided where it continued, the newest
 /// first, each with the step that made the value; or `none`. Allocates nothing.
@@ -55,19 +47,9 @@ fn decided_line(node: NodeId, decision: Decision) -> TextBuffer
     push_text(&mut out, b" ");
     push_action(&mut out, decision.made, node);
     if let Made::Own { .. } = decision.made {
-        push_tested(&mut out, decision.tested.part, decision.word);
+        push_named_word(&mut out, decision.tested.part, decision.word);
     }
     out
-}
-
-/// Adds a register that was tested, and its word.
-fn push_tested(out: &mut TextBuffer, part: Part, word: Word18)
-    requires { array_vec_len out.old + TESTED_ROOM ≤ 256 }
-    ensures { out.new.items ≡ out.old.items ++ register_text (part_name part) word }
-{
-    push_text(out, b" ");
-    push_part(out, part);
-    push_spaced(out, word);
 }
 
 impl<'l> StepContext<'l> {

@@ -15,6 +15,7 @@ mod ring_text;
 mod run_text;
 mod saved_text;
 mod source_suffix;
+mod value_words;
 mod whence_text;
 mod who_text;
 mod words_text;

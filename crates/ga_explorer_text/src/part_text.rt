@@ -2,13 +2,20 @@
 
 ghost use Rattle.std.specs.Prelude.{◌≡◌, ◌+◌, ◌≤◌, ◌++◌};
 ghost use Rattle.arrayvec.specs.ArrayVec.{array_vec_len};
+ghost use Rattle.ga_display.specs.Texts.{register_text};
 ghost use Rattle.ga_explorer_text.specs.Trees.{data_name, return_name, part_name, mark_text};
 
 use ga_event::Part;
-use ga_text::{MAX_NUMBER_DIGITS, TextBuffer, push_byte, push_number, push_text};
+use ga_text::{
+    MAX_NUMBER_DIGITS, TextBuffer, WORD_DIGITS, push_byte, push_number, push_spaced, push_text,
+};
+use ga_word::Word18;
 
 /// The most bytes of a part's name.
 pub(crate) const MAX_PART_BYTES: usize = b"d".len() + MAX_NUMBER_DIGITS;
+
+/// The most bytes of a part's name and its word.
+pub(crate) const MAX_NAMED_WORD_BYTES: usize = 1 + MAX_PART_BYTES + 1 + WORD_DIGITS;
 
 /// Adds the name of a part: of a cell its address.
 pub(crate) fn push_part(out: &mut TextBuffer, part: Part)
@@ -78,4 +85,14 @@ pub(crate) fn push_part_suffix(out: &mut TextBuffer, part: Part)
             push_part(out, part);
         }
     }
+}
+
+/// Adds the name of a part, and its word.
+pub(crate) fn push_named_word(out: &mut TextBuffer, part: Part, word: Word18)
+    requires { array_vec_len out.old + MAX_NAMED_WORD_BYTES ≤ 256 }
+    ensures { out.new.items ≡ out.old.items ++ register_text (part_name part) word }
+{
+    push_text(out, b" ");
+    push_part(out, part);
+    push_spaced(out, word);
 }

@@ -125,19 +125,27 @@ impl<'l> StepContext<'l> {
         }
     }
 
-    /// The slot after the first `place` steps of a node, which is walked back there: from here, if this is the same node and
-    /// not earlier, else from its newest step.
-    fn slot_near(&self, node: NodeId, place: u32) -> u32
+    /// A node that is walked back to its first `place` steps: from here, if this is the same node and not earlier, else from its
+    /// newest step.
+    pub fn walk_near(&self, node: NodeId, place: u32) -> Walk<'l>
         requires { place ≤ steps_of node.number self.now.lab.now.kept }
-        ensures { result ≡ (node_after self.now.lab.now node.number place).slot }
+        ensures { result ≡ node_at_step self.now.lab.now node place }
     {
         if self.node == node && place <= self.near.step() {
             let mut walk = self.near.copy();
             walk.back_to(place);
-            walked_slot(self.lab, node, place, &walk)
+            walk
         } else {
-            walked_slot(self.lab, node, place, &self.lab.walk(node, place))
+            self.lab.walk(node, place)
         }
+    }
+
+    /// The slot after the first `place` steps of a node, which is walked back there.
+    fn slot_near(&self, node: NodeId, place: u32) -> u32
+        requires { place ≤ steps_of node.number self.now.lab.now.kept }
+        ensures { result ≡ (node_after self.now.lab.now node.number place).slot }
+    {
+        walked_slot(self.lab, node, place, &self.walk_near(node, place))
     }
 
     /// The slot that was next before a step.

@@ -1,29 +1,44 @@
 //! The provenance of a value, written line by line.
 
-ghost use Rattle.std.specs.Prelude.{◌≡◌, ◌≤◌, ◌<◌, ◌+◌, ◌++◌, IfSome};
+ghost use Rattle.std.specs.Prelude.{◌≡◌, ◌≤◌, ◌<◌, ◌+◌, ◌-◌, ◌++◌, codes, IfSome};
+ghost use Rattle.ga_word.specs.Word.{hex6_of};
+ghost use Rattle.ga_display.specs.Texts.{register_text};
 ghost use Rattle.arrayvec.specs.ArrayVec.{array_vec_len};
 ghost use Rattle.ga_text.specs.Output.{WritesSome, WritesExactly};
-ghost use Rattle.ga_explorer_text.specs.Trees.{blanks, value_text, did_text, more_text, asked_value, TellsWhence};
+ghost use Rattle.ga_explorer_text.specs.Trees.{blanks, left_by_transfer, left_by_op, left_by_kind, left_text, worded_text, queried_of_transfer, queried_text, did_text, more_text, asked_value, TellsWhence};
 ghost use Rattle.ga_event.specs.Flow.{IsPart};
-ghost use Rattle.ga_lab.specs.Machine.{node_at_step};
+ghost use Rattle.ga_lab.specs.Machine.{history_of, node_at_step};
+ghost use Rattle.std.specs.List.{slice_get};
 ghost use Rattle.ga_explorer_text.specs.inner.{is_first};
 
 use crate::deed_text::{MAX_ACTION_BYTES, push_action};
-use crate::part_text::{push_part, push_part_suffix};
+use crate::part_text::{MAX_NAMED_WORD_BYTES, push_named_word, push_part, push_part_suffix};
 use crate::source_suffix::StepContext;
+use crate::value_words::ValueWords;
 use arrayvec::ArrayVec;
 use ga_debug_info::DebugInfo;
 use ga_display::{advised_text, refusal_text};
 use ga_event::Part;
 use ga_grid::NodeId;
-use ga_lab::{Lab, LabFault, Walk};
+use ga_lab::{Lab, LabFault, Made, Walk};
+use ga_node::Kind;
 use ga_provenance::{ProvenanceRow, Value, find_provenance_at, queried_value_at};
-use ga_text::{MAX_STEP_BYTES, TextBuffer, WriteResult, Writer, push_node, push_step, push_text};
+use ga_text::{
+    MAX_STEP_BYTES, TextBuffer, WORD_DIGITS, WriteResult, Writer, push_node, push_spaced,
+    push_step, push_text,
+};
+use ga_word::Word18;
 use std::alloc::Global;
 use std::io::Write;
 
 /// How many lines a tree has at most.
 const MOST_ROWS: u32 = 100;
+
+/// The code of `+*`.
+const MULTIPLY_STEP: u8 = 16;
+
+/// The most bytes of a word and of A.
+const TWO_WORDS: usize = 1 + WORD_DIGITS + MAX_NAMED_WORD_BYTES;
 
 /// The most bytes of a step with what it did.
 const DID_ROOM: usize = MAX_STEP_BYTES + 1 + MAX_ACTION_BYTES;
@@ -110,18 +125,32 @@ fn head_line(lab: &Lab, node: NodeId, step: u32) -> TextBuffer
     out
 }
 
-/// The step that made a value, or that it was loaded.
-fn value_line(lab: &Lab, value: Value) -> TextBuffer
-    ensures { result.items ≡ value_text lab.now value }
+/// A step of a node, with what it did and the queried value.
+fn queried_line(lab: &Lab, node: NodeId, step: u32, value: Value, word: Word18) -> TextBuffer
+    ensures { result.items ≡ did_text lab.now node step ++ queried_text (slice_get (history_of lab.now node.number) (step - 1)) step value word }
+{
+    let mut out = ArrayVec::new();
+    push_did(&mut out, lab, node, step);
+    let made = lab.made_by_step(node, step.saturating_sub(1));
+    push_queried(&mut out, made, step, value, word);
+    out
+}
+
+/// The step that made a value, or that it was loaded, with the value's word.
+fn value_line(lab: &Lab, value: Value, words: ValueWords) -> TextBuffer
+    ensures { result.items ≡ worded_text lab.now value words.word words.a }
 {
     let mut out = ArrayVec::new();
     if value.step == 0 {
         push_node(&mut out, value.node);
         push_text(&mut out, b" load ");
         push_part(&mut out, value.part);
+        push_spaced(&mut out, words.word);
     } else {
         push_did(&mut out, lab, value.node, value.step);
         push_part_suffix(&mut out, value.part);
+        let made = lab.made_by_step(value.node, value.step - 1);
+        push_left(&mut out, made, value.part, words);
     }
     out
 }
@@ -139,11 +168,96 @@ fn push_did(out: &mut TextBuffer, lab: &Lab, node: NodeId, step: u32)
     }
 }
 
+/// Adds the queried value of a step, but for the word that it sent.
+fn push_queried(out: &mut TextBuffer, made: Option<Made>, step: u32, value: Value, word: Word18)
+    requires { array_vec_len out.old + MAX_NAMED_WORD_BYTES ≤ 256 }
+    ensures { out.new.items ≡ out.old.items ++ queried_text made step value word }
+{
+    match made {
+        Some(Made::Pass { .. }) => push_queried_of_transfer(out, step, value, word),
+        Some(Made::Own { .. }) => push_named_word(out, value.part, word),
+        None => push_named_word(out, value.part, word),
+    }
+}
+
+/// Adds the queried value of a transfer: one that its node has after it.
+fn push_queried_of_transfer(out: &mut TextBuffer, step: u32, value: Value, word: Word18)
+    requires { array_vec_len out.old + MAX_NAMED_WORD_BYTES ≤ 256 }
+    ensures { out.new.items ≡ out.old.items ++ queried_of_transfer step value word }
+{
+    if value.step == step {
+        push_named_word(out, value.part, word);
+    }
+}
+
+/// Adds the word that a step left in a part, but for a transferred one.
+fn push_left(out: &mut TextBuffer, made: Option<Made>, part: Part, words: ValueWords)
+    requires { array_vec_len out.old + TWO_WORDS ≤ 256 }
+    ensures { out.new.items ≡ out.old.items ++ left_text made part words.word words.a }
+{
+    match made {
+        Some(Made::Pass { .. }) => push_beside_transfer(out, part, words.word),
+        Some(Made::Own { kind, .. }) => push_left_by_kind(out, kind, part, words),
+        None => push_spaced(out, words.word),
+    }
+}
+
+/// Adds the word that an event of a node's own left in a part.
+fn push_left_by_kind(out: &mut TextBuffer, kind: Kind, part: Part, words: ValueWords)
+    requires { array_vec_len out.old + TWO_WORDS ≤ 256 }
+    ensures { out.new.items ≡ out.old.items ++ left_by_kind kind part words.word words.a }
+{
+    match kind {
+        Kind::Run(code) => push_left_by_op(out, code, part, words),
+        Kind::Fetch => push_spaced(out, words.word),
+        Kind::Wait => push_spaced(out, words.word),
+        Kind::Stop(_) => push_spaced(out, words.word),
+    }
+}
+
+/// Adds the word that an opcode left in a part, and A where it is T of `+*`.
+fn push_left_by_op(out: &mut TextBuffer, code: u8, part: Part, words: ValueWords)
+    requires { array_vec_len out.old + TWO_WORDS ≤ 256 }
+    ensures { out.new.items ≡ out.old.items ++ left_by_op code part words.word words.a }
+{
+    match part {
+        Part::Data(k) => {
+            if code == MULTIPLY_STEP && k == 0 {
+                push_t_and_a(out, words);
+            } else {
+                push_spaced(out, words.word);
+            }
+        }
+        _ => push_spaced(out, words.word),
+    }
+}
+
+/// Adds a word, and A.
+fn push_t_and_a(out: &mut TextBuffer, words: ValueWords)
+    requires { array_vec_len out.old + TWO_WORDS ≤ 256 }
+    ensures { out.new.items ≡ out.old.items ++ ((codes " " ++ hex6_of words.word) ++ register_text (codes "a") words.a) }
+{
+    push_spaced(out, words.word);
+    push_named_word(out, Part::A, words.a);
+}
+
+/// Adds the word that a transfer left in a part, but for the transferred one, which is in T or the instruction word.
+fn push_beside_transfer(out: &mut TextBuffer, part: Part, word: Word18)
+    requires { array_vec_len out.old + 1 + WORD_DIGITS ≤ 256 }
+    ensures { out.new.items ≡ out.old.items ++ left_by_transfer part word }
+{
+    match part {
+        Part::Data(0) => (),
+        Part::I => (),
+        _ => push_spaced(out, word),
+    }
+}
+
 impl<'l> StepContext<'l> {
     ghost use Rattle.std.specs.Prelude.{◌≡◌, Some, flat_map};
     ghost use Rattle.ga_event.specs.Flow.{IsPart};
     ghost use Rattle.ga_text.specs.Output.{WritesSome, WritesExactly};
-    ghost use Rattle.ga_explorer_text.specs.Trees.{tree_row_text, rows_by, head_text, TellsAsked};
+    ghost use Rattle.ga_explorer_text.specs.Trees.{tree_row_text, rows_by, head_text, queried_head_text, TellsAsked};
     ghost use Rattle.ga_explorer_text.specs.inner.{is_first};
 
     /// Writes the tree of a value for the step to which its node is walked back.
@@ -159,7 +273,7 @@ impl<'l> StepContext<'l> {
     {
         match find_provenance_at(alloc, self.lab, &self.near, self.node, value, MOST_ROWS) {
             Ok(listing) => {
-                self.say_rows(listing.rows.as_slice(), writer)?;
+                self.say_rows(value, listing.rows.as_slice(), writer)?;
                 writer.write_blocks(more(listing.is_whole))
             }
             Err(_) => writer.write_text(advised_text(LabFault::Memory)),
@@ -167,15 +281,31 @@ impl<'l> StepContext<'l> {
     }
 
     /// Writes the rows, after the step of the query if this isn't the first of them.
-    fn say_rows<W: Write>(&self, rows: &[ProvenanceRow], writer: &mut Writer<'_, W>) -> WriteResult
-        ensures { WritesSome result (λ text. text ≡ rows_by self.now.notes.now self.now.lab.now self.now.node self.now.near.step (is_first self.now.near.step rows.now) rows.now)
+    fn say_rows<W: Write>(
+        &self,
+        value: Value,
+        rows: &[ProvenanceRow],
+        writer: &mut Writer<'_, W>,
+    ) -> WriteResult
+        ensures { WritesSome result (λ text. text ≡ rows_by self.now.notes.now self.now.lab.now self.now.node self.now.near.step value (is_first self.now.near.step rows.now) rows.now)
             W.contents writer.old writer.new }
     {
         if is_first(self.near.step(), rows) {
-            return self.say_lines(0, rows, writer);
+            return self.say_tree(0, rows, writer);
         }
-        self.say_head(writer)?;
-        self.say_lines(1, rows, writer)
+        self.say_queried(value, writer)?;
+        self.say_tree(1, rows, writer)
+    }
+
+    /// Says the step asked for, to which its node is walked back, with the queried value.
+    fn say_queried<W: Write>(&self, value: Value, writer: &mut Writer<'_, W>) -> WriteResult
+        ensures { WritesSome result (λ text. text ≡ queried_head_text self.now.notes.now self.now.lab.now self.now.node self.now.near.step value)
+            W.contents writer.old writer.new }
+    {
+        let word = self.words_of(value).word;
+        let line = queried_line(self.lab, self.node, self.near.step(), value, word);
+        writer.write_blocks(line.as_slice())?;
+        self.say_own_tail(writer)
     }
 
     /// Says the step asked for, to which its node is walked back.
@@ -185,6 +315,20 @@ impl<'l> StepContext<'l> {
     {
         writer.write_blocks(head_line(self.lab, self.node, self.near.step()).as_slice())?;
         self.say_own_tail(writer)
+    }
+
+    /// Says the lines of some rows, each so much deeper, with words that are read from the first of them on.
+    fn say_tree<W: Write>(
+        &self,
+        deeper: u8,
+        rows: &[ProvenanceRow],
+        writer: &mut Writer<'_, W>,
+    ) -> WriteResult
+        ensures { WritesSome result (λ text. text ≡ flat_map (tree_row_text self.now.notes.now self.now.lab.now deeper) rows.now)
+            W.contents writer.old writer.new }
+    {
+        let root = self.root(rows);
+        root.say_lines(deeper, rows, writer)
     }
 
     /// Says the lines of some rows, each so much deeper.
@@ -213,7 +357,8 @@ impl<'l> StepContext<'l> {
         ensures { WritesExactly result (tree_row_text self.now.notes.now self.now.lab.now deeper row) W.contents writer.old writer.new }
     {
         say_blanks(u64::from(row.depth) + u64::from(deeper), writer)?;
-        writer.write_blocks(value_line(self.lab, row.value).as_slice())?;
+        let words = self.words_of(row.value);
+        writer.write_blocks(value_line(self.lab, row.value, words).as_slice())?;
         self.write_value_suffix(row.value, writer)
     }
 }

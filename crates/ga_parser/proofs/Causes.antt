@@ -1,8 +1,7 @@
 -- Whether words are refused, by what is open and by the labels that stand.
-use Rattle.std.proofs.Common.{◌≡◌, ◌∙◌, ℕ, zero, suc, ◌+◌, ◌-◌, ◌<◌, ◌≤◌, Bool, true, false, cond, List, [], ◌∷◌, ◌++◌, length, take, get_or, slice_index_or, ap, sym, refl, arith, subst, Option, Some, None}
-use Rattle.std.specs.Prelude.{reverse, Result, Ok, Err, IsOk, is_none, bytes_eq, codes}
+use Rattle.std.proofs.Common.{◌≡◌, ◌∙◌, ℕ, zero, suc, ◌-◌, ◌<◌, ◌≤◌, Bool, true, false, cond, List, [], ◌∷◌, ◌++◌, length, take, get_or, ap, sym, refl, arith, subst, Option, Some, None}
+use Rattle.std.specs.Prelude.{reverse, Result, Ok, is_none, bytes_eq, codes}
 use Rattle.std.specs.Option.{option_map_or}
-use Rattle.std.proofs.lemmas.Bool.{cases_Bool, cond-true, cond-false}
 use Rattle.std.proofs.lemmas.List.{reverse-append, length-take-le}
 use Rattle.ga_slots.specs.declared.op.Op.TheVariants.{Jump as JumpOp, Next as NextOp}
 use Rattle.ga_parser.specs.declared.item.Request.TheVariants.{Unext as UnextAsked}

@@ -6,3 +6,6 @@ pub mod Asking
 pub mod Hinting
 pub mod Causes
 pub mod Recovering
+pub mod Placing
+pub mod Resolving
+pub mod Grouping

@@ -24,10 +24,10 @@ use Rattle.ga_parser.specs.declared.fault.NumberRange.TheVariants.{Word as ToWor
 use Rattle.ga_parser.specs.declared.draft.Expect.{Expect}
 use Rattle.ga_parser.specs.declared.draft.Expect.TheVariants.{Word, Address, Name, Register, Nothing}
 use Rattle.ga_parser.specs.declared.scan.TokenKind.{TokenKind}
-use Rattle.ga_parser.specs.declared.scan.TokenKind.TheVariants.{Word as WordKind, LongLine as LongLineKind, OpenComment as OpenCommentKind}
+use Rattle.ga_parser.specs.declared.scan.TokenKind.TheVariants.{Word as WordKind, LongLine as LongLineKind, OpenComment as OpenCommentKind, NoNumber as NoNumberKind, Missing as MissingKind, Taken as TakenKind}
 use Rattle.ga_parser.specs.declared.controls.Open.{Open}
 use Rattle.ga_parser.specs.Asking.{Mention, is_waiting, with_carry_bit, ParseState, Refusal, asking as asks, nothing_asked, by_range, value_said, cell, directive, word_asks, named_word, address_asks, register_asks, given_in, with_given, hear as hear_asking, expected, of_kind, asked_from, asked_by_words, finished, all_closed, all_placed, next_text, ◌▷◌, mention_of}
-use Rattle.ga_parser.specs.Asking.Wrong.{LongLine, OpenComment}
+use Rattle.ga_parser.specs.Asking.Wrong.{LongLine, OpenComment, NoNumber, Missing, Taken}
 use Rattle.ga_parser.specs.Saying.{TokenContent, token_content, token_contents}
 use Rattle.ga_ports.specs.Steps.{◌>>=◌}
 use Rattle.ga_parser.specs.Vocabulary.{by_name, has_prefix, number_by_word, directives, directive_in, bound_of, range_of}
@@ -218,6 +218,9 @@ abbrev is_a_word : TokenKind → Option ℕ
 is_a_word WordKind = Some 0
 is_a_word LongLineKind = None
 is_a_word OpenCommentKind = None
+is_a_word NoNumberKind = None
+is_a_word MissingKind = None
+is_a_word TakenKind = None
 
 more_words : (outcome : Result ParseState Refusal) (all : Plain) (said : TokenContent) (words : List TokenContent) → AsksPlain outcome all words → AsksPlain outcome all (said ∷ words)
 more_words (Ok end) all said words h = h
@@ -227,6 +230,9 @@ kind_cases : (kind : TokenKind) (line : ℕ) (asks : Result ParseState Refusal) 
 kind_cases WordKind line asks = inl refl
 kind_cases LongLineKind line asks = inr ((λ e. no_some (ap is_a_word e)), record { line = line; wrong = LongLine }, refl)
 kind_cases OpenCommentKind line asks = inr ((λ e. no_some (ap is_a_word e)), record { line = line; wrong = OpenComment }, refl)
+kind_cases NoNumberKind line asks = inr ((λ e. no_some (ap is_a_word e)), record { line = line; wrong = NoNumber }, refl)
+kind_cases MissingKind line asks = inr ((λ e. no_some (ap is_a_word e)), record { line = line; wrong = Missing }, refl)
+kind_cases TakenKind line asks = inr ((λ e. no_some (ap is_a_word e)), record { line = line; wrong = Taken }, refl)
 
 -- the first word is heard, or has a fault of its line
 first_word : (now : ParseState) (heard : Heard) (last : ℕ) (said : TokenContent) (words : List TokenContent) (all : Plain)

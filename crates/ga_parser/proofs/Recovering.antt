@@ -1,5 +1,5 @@
 -- The words of a node of which some are passed over, one by one.
-use Rattle.std.proofs.Common.{false, ◌≡◌, ◌∙◌, ℕ, ◌+◌, ◌<◌, List, [], length, drop, get_or, slice_index_or, ap, sym, refl, inl, inr, ◌⊎◌, true≢false}
+use Rattle.std.proofs.Common.{false, ◌≡◌, ◌∙◌, ℕ, ◌+◌, ◌<◌, List, [], length, drop, get_or, slice_index_or, ap, sym, inl, inr, ◌⊎◌, true≢false}
 use Rattle.std.specs.Prelude.{Result, Err, IsOk, is_ok, ◌&&◌}
 use Rattle.std.proofs.lemmas.Bool.{cond-false}
 use Rattle.ga_parser.specs.declared.fault.Fault.{Fault}

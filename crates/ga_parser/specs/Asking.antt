@@ -4,9 +4,9 @@ use Rattle.std.specs.Option.{option_map_or}
 use Rattle.ga_slots.specs.declared.op.Op.{Op}
 use Rattle.ga_slots.specs.declared.op.Op.TheVariants.{Jump, Call, Next as NextOp, Push}
 use Rattle.ga_parser.specs.declared.scan.TokenKind.{TokenKind}
-use Rattle.ga_parser.specs.declared.scan.TokenKind.TheVariants.{Word as WordKind, LongLine as LongLineKind, OpenComment as OpenCommentKind}
+use Rattle.ga_parser.specs.declared.scan.TokenKind.TheVariants.{Word as WordKind, LongLine as LongLineKind, OpenComment as OpenCommentKind, NoNumber as NoNumberKind, Missing as MissingKind, Taken as TakenKind}
 use Rattle.ga_parser.specs.declared.number.Number.{Number as NumberIn}
-use Rattle.ga_parser.specs.declared.number.Number.TheVariants.{Of, OutOfRange, Nothing as NoNumber}
+use Rattle.ga_parser.specs.declared.number.Number.TheVariants.{Of, OutOfRange, Nothing as NotANumber}
 use Rattle.ga_parser.specs.declared.item.Operand.{Operand}
 use Rattle.ga_parser.specs.declared.item.Operand.TheVariants.{Number, Label}
 use Rattle.ga_parser.specs.declared.item.Item.TheVariants.{Opcode, Literal, Back, Ahead, Cell}
@@ -75,6 +75,7 @@ pub data Wrong : Type 0 where
   Unknown : List ℕ → Wrong
   Taken : Wrong
   Missing : Wrong
+  NoNumber : Wrong
   LabelTwice : Wrong
   RegisterTwice : Wrong
   Unmatched : Wrong
@@ -207,7 +208,7 @@ control now line Repeat = end_loop now line ▷ (λ end. end_ahead (jump end.1 l
 abbrev pub by_range : {X : Type 0} → NumberIn → ℕ → List ℕ → NumberRange → (ℕ → Result X Refusal) → Result X Refusal → Result X Refusal
 by_range (Of n) line word range asks other = asks n
 by_range OutOfRange line word range asks other = refuse_line line (NoNumberHere word range)
-by_range NoNumber line word range asks other = other
+by_range NotANumber line word range asks other = other
 
 -- the value of a word, if it has one: a number, a port, or, after an apostrophe, the address of a label
 unfoldable pub value_said : ParseState → ℕ → List ℕ → Result (Option Operand × ParseState) Refusal
@@ -308,6 +309,9 @@ abbrev pub of_kind : TokenKind → ℕ → Result ParseState Refusal → Result 
 of_kind WordKind line asks = asks
 of_kind LongLineKind line asks = refuse_line line LongLine
 of_kind OpenCommentKind line asks = refuse_line line OpenComment
+of_kind NoNumberKind line asks = refuse_line line NoNumber
+of_kind MissingKind line asks = refuse_line line Missing
+of_kind TakenKind line asks = refuse_line line Taken
 
 -- what words ask for with one word more
 abbrev pub hear : ParseState → TokenContent → List ℕ → Result ParseState Refusal

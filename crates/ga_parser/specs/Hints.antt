@@ -49,6 +49,7 @@ other_words =
     ∷ (codes "jump", codes "NAME ;")
     ∷ (codes "variable", codes ": NAME 0 ,")
     ∷ (codes "create", codes ": NAME")
+    ∷ (codes "equ", codes "N constant NAME")
     ∷ (codes ",", codes "N ,")
     ∷ (codes "end", codes "end on a line of its own")
     ∷ (codes "//", codes "\\")
@@ -114,7 +115,7 @@ known_words =
     ∷ codes "inv" ∷ codes "invert" ∷ codes "nop" ∷ codes "ex" ∷ codes "a" ∷ codes "a!" ∷ codes "b!" ∷ codes "begin"
     ∷ codes "for" ∷ codes "next" ∷ codes "unext" ∷ codes "*next" ∷ codes "again" ∷ codes "until" ∷ codes "-until" ∷ codes "while"
     ∷ codes "-while" ∷ codes "repeat" ∷ codes "if" ∷ codes "-if" ∷ codes "ahead" ∷ codes "else" ∷ codes "then" ∷ codes "org"
-    ∷ codes "node" ∷ codes "right" ∷ codes "down" ∷ codes "left" ∷ codes "up" ∷ codes "io"
+    ∷ codes "node" ∷ codes "constant" ∷ codes "right" ∷ codes "down" ∷ codes "left" ∷ codes "up" ∷ codes "io"
     ∷ []
 
 unfoldable pub known_word : List ℕ → Option (List ℕ)

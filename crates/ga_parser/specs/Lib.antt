@@ -4,6 +4,9 @@ pub mod Vocabulary
 pub mod Nearness
 pub mod Hints
 pub mod Asking
+pub mod Constants
+pub mod Groups
+pub mod Words
 pub mod Requests
 pub mod Recovery
 pub mod inner

@@ -12,7 +12,7 @@ use Rattle.ga_parser.specs.declared.item.Request.TheVariants.{Put, Go}
 use Rattle.ga_parser.specs.declared.item.LocatedRequest.{LocatedRequest}
 use Rattle.ga_parser.specs.declared.item.RegisterValue.{RegisterValue}
 use Rattle.ga_parser.specs.declared.item.Registers.{Registers}
-use Rattle.ga_parser.specs.Saying.{TokenContent, said_in}
+use Rattle.ga_parser.specs.Saying.{TokenContent}
 use Rattle.ga_ports.specs.Steps.{◌>>=◌}
 use Rattle.ga_parser.specs.Vocabulary.{number_by_word}
 
@@ -21,10 +21,6 @@ use Rattle.ga_parser.specs.Vocabulary.{number_by_word}
 -- the words of the tokens; a line's fault has no text
 abbrev pub texts_in : List TokenContent → List (List ℕ)
 texts_in all = map (λ said. said.text) all
-
--- the words of a source
-abbrev pub words_in : List ℕ → List (List ℕ)
-words_in source = texts_in (said_in source)
 
 -- a program begins with this word
 abbrev pub is_node : List ℕ → Bool

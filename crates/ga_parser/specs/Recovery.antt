@@ -12,7 +12,7 @@ use Rattle.ga_parser.specs.declared.item.Operand.{Operand}
 use Rattle.ga_parser.specs.declared.item.Operand.TheVariants.{Number, Label}
 use Rattle.ga_parser.specs.declared.item.Registers.{Registers}
 use Rattle.ga_parser.specs.declared.item.Request.{Request}
-use Rattle.ga_parser.specs.declared.item.Request.TheVariants.{Put, Unext, Mark, Fill, Go, Carry}
+use Rattle.ga_parser.specs.declared.item.Request.TheVariants.{Put, Unext}
 use Rattle.ga_parser.specs.declared.draft.Expect.{Expect}
 use Rattle.ga_parser.specs.declared.draft.Expect.TheVariants.{Word}
 use Rattle.ga_parser.specs.Asking.{ParseState, Mention, Refusal, nothing_asked, hear, is_waiting, line_of, label_at, mention_of, next_text}

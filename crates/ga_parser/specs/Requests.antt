@@ -1,12 +1,12 @@
 -- The requests that the words of a node make, and how words are refused (docs/REFERENCE.md, "Source"; this project's own).
 use Rattle.std.specs.Prelude.{ℕ, ◌≡◌, List, map, Ok}
 use Rattle.ga_parser.specs.declared.fault.SourceCause.{SourceCause}
-use Rattle.ga_parser.specs.declared.fault.SourceCause.TheVariants.{LongLine as TooLong, OpenComment as LeftOpen, Unknown as WhatIs, Taken as IsTaken, Missing as IsMissing, LabelTwice as StandsTwice, RegisterTwice as GivenTwice, Unmatched as NothingOpen, Open as NeverClosed, Number as OutOfRange}
+use Rattle.ga_parser.specs.declared.fault.SourceCause.TheVariants.{LongLine as TooLong, OpenComment as LeftOpen, Unknown as WhatIs, Taken as IsTaken, Missing as IsMissing, NoNumber as NumberLeftOut, LabelTwice as StandsTwice, RegisterTwice as GivenTwice, Unmatched as NothingOpen, Open as NeverClosed, Number as OutOfRange}
 use Rattle.ga_parser.specs.declared.fault.Fault.{Fault}
 use Rattle.ga_parser.specs.declared.item.NodeRequests.{NodeRequests}
 use Rattle.ga_parser.specs.Saying.{TokenContent}
 use Rattle.ga_parser.specs.Asking.{ParseState, Wrong, Refusal, mention_of, asked_by_words}
-use Rattle.ga_parser.specs.Asking.Wrong.{LongLine, OpenComment, Unknown, Taken, Missing, LabelTwice, RegisterTwice, Unmatched, Unclosed, NoNumberHere, Later}
+use Rattle.ga_parser.specs.Asking.Wrong.{LongLine, OpenComment, Unknown, Taken, Missing, NoNumber, LabelTwice, RegisterTwice, Unmatched, Unclosed, NoNumberHere, Later}
 
 -- what is wrong with words, where a fault is one of words
 abbrev pub wrong_of : SourceCause → Wrong
@@ -15,6 +15,7 @@ wrong_of LeftOpen = OpenComment
 wrong_of (WhatIs name) = Unknown name.now
 wrong_of IsTaken = Taken
 wrong_of IsMissing = Missing
+wrong_of NumberLeftOut = NoNumber
 wrong_of StandsTwice = LabelTwice
 wrong_of GivenTwice = RegisterTwice
 wrong_of NothingOpen = Unmatched

@@ -4,7 +4,7 @@
 use Rattle.std.specs.Prelude.{ℕ, ◌+◌, ◌-◌, ◌^◌, ◌==◌, nat_lt, Bool, true, false, ◌||◌, ◌&&◌, not, if◌then◌else◌, List, [], ◌∷◌, ◌++◌, length, map, min, filter, take, drop, slice_index, codes, bytes_eq}
 use Rattle.ga_text.specs.Lines.{with_byte}
 use Rattle.ga_parser.specs.declared.scan.TokenKind.{TokenKind}
-use Rattle.ga_parser.specs.declared.scan.TokenKind.TheVariants.{Word, LongLine, OpenComment}
+use Rattle.ga_parser.specs.declared.scan.TokenKind.TheVariants.{Word, LongLine, OpenComment, NoNumber, Missing, Taken}
 use Rattle.ga_parser.specs.declared.scan.Token.{Token}
 
 -- ---- lines, and the words of a line
@@ -72,6 +72,9 @@ abbrev pub is_word_kind : TokenKind → Bool
 is_word_kind Word = true
 is_word_kind LongLine = false
 is_word_kind OpenComment = false
+is_word_kind NoNumber = false
+is_word_kind Missing = false
+is_word_kind Taken = false
 
 abbrev pub is_word : TokenContent → Bool
 is_word said = is_word_kind said.kind
@@ -111,14 +114,6 @@ said_from line [] = []
 said_from line (text ∷ texts) =
     if bytes_eq (bare line text) (codes "end") then [] else said_by line (bare line text) ++ said_from (next_line line) texts
 
--- what a source says, up to its end or to a line `end`
-abbrev pub all_in : List ℕ → List TokenContent
-all_in source = said_from 1 (source_lines source)
-
--- what a source says, up to its end, to a line `end` or to the first fault of a line
-unfoldable pub said_in : List ℕ → List TokenContent
-said_in source = up_to_fault (all_in source)
-
 -- ---- what was read
 
 -- what a word that was read says, and what some say
@@ -154,10 +149,22 @@ columns_from line [] = []
 columns_from line (text ∷ texts) =
     if bytes_eq (bare line text) (codes "end") then [] else columns_by (bare line text) ++ columns_from (next_line line) texts
 
--- the columns of all that a source says
-abbrev pub columns_in : List ℕ → List ℕ
-columns_in source = columns_from 1 (source_lines source)
-
 -- the columns of words that were read
 abbrev pub columns_of : List Token → List ℕ
 columns_of tokens = map (λ (token : Token). token.column) tokens
+
+-- ---- tokens with their columns
+
+pub record PlacedToken : Type 0 where
+  pub said : TokenContent
+  pub column : ℕ
+
+-- tokens at these columns
+unfoldable pub at_columns : List TokenContent → List ℕ → List PlacedToken
+at_columns [] columns = []
+at_columns (said ∷ rest) [] = record { said = said; column = 0 } ∷ at_columns rest []
+at_columns (said ∷ rest) (column ∷ columns) = record { said = said; column = column } ∷ at_columns rest columns
+
+-- the tokens of a source as they are written, up to its end or to a line `end`
+abbrev pub scanned_in : List ℕ → List PlacedToken
+scanned_in source = at_columns (said_from 1 (source_lines source)) (columns_from 1 (source_lines source))

@@ -40,6 +40,8 @@ pub enum SourceCause<'s> {
     Taken,
     #[error("a name or a value is missing")]
     Missing,
+    #[error("no number from -131072 to 262143 before constant")]
+    NoNumber,
     #[error("the label stands twice")]
     LabelTwice,
     #[error("the register is given twice")]

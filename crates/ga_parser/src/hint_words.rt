@@ -166,6 +166,10 @@ static OTHER_WORDS: &[OtherWord] = &[
         here: b": NAME",
     },
     OtherWord {
+        word: b"equ",
+        here: b"N constant NAME",
+    },
+    OtherWord {
         word: b",",
         here: b"N ,",
     },
@@ -221,6 +225,7 @@ static KNOWN_WORDS: &[KnownWord] = &[
     KnownWord { name: b"then" },
     KnownWord { name: b"org" },
     KnownWord { name: b"node" },
+    KnownWord { name: b"constant" },
     KnownWord { name: b"right" },
     KnownWord { name: b"down" },
     KnownWord { name: b"left" },

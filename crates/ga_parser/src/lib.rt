@@ -3,9 +3,11 @@
 //! A text is scanned into words, and the words of each node become a list of requests.
 #![tactic(auto)]
 
+mod constants;
 mod controls;
 mod draft;
 mod fault;
+mod groups;
 mod hint;
 mod hint_words;
 mod item;
@@ -25,5 +27,5 @@ pub use labels::Label;
 pub use nearness::is_near;
 pub use number::parse_port;
 pub use recovery::{Recovered, recover_requests};
-pub use scan::{Token, TokenKind, source_words, strip_bom, words_up_to_fault};
+pub use scan::{Token, TokenKind, source_words, strip_bom, up_to_fault, words_once};
 pub use vocabulary::{Directive, Register, parse_directive};

@@ -239,6 +239,9 @@ impl<'s> RequestBuilder<'s> {
         match token.kind {
             TokenKind::LongLine => Some(SourceCause::LongLine),
             TokenKind::OpenComment => Some(SourceCause::OpenComment),
+            TokenKind::NoNumber => Some(SourceCause::NoNumber),
+            TokenKind::Missing => Some(SourceCause::Missing),
+            TokenKind::Taken => Some(SourceCause::Taken),
             TokenKind::Word => match self.expect {
                 Expect::Word => self.word_cause(token.text, next),
                 Expect::Address => address_cause(token.text),

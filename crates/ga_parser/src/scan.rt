@@ -2,11 +2,14 @@
 
 ghost use Rattle.std.specs.Prelude.{◌≡◌, ◌<◌, ◌+◌, ◌-◌, [], ◌∷◌, ◌++◌, length, IsOkAnd, IsErrAnd, IfOk, OnOk};
 ghost use Rattle.std.specs.List.{list_all};
-ghost use Rattle.ga_parser.specs.Saying.{is_blank as is_blank_byte, parted, closes as closes_comment, strip_bom as without_mark, bare as bare_line, without_return as without_end, said_by, is_word, all_in, said_in, token_contents, columns_by, columns_in, columns_of};
-ghost use Rattle.ga_parser.specs.declared.scan.TokenKind.TheVariants.{Word, LongLine, OpenComment};
-ghost use Rattle.ga_parser.specs.declared.fault.SourceCause.TheVariants.{LongLine as TooLong, OpenComment as LeftOpen};
+ghost use Rattle.ga_parser.specs.Saying.{is_blank as is_blank_byte, parted, closes as closes_comment, strip_bom as without_mark, bare as bare_line, without_return as without_end, said_by, is_word, is_word_kind, said_from, source_lines, up_to_fault as up_to_fault_in, token_content, token_contents, columns_by, columns_from, columns_of};
+ghost use Rattle.ga_parser.specs.Words.{all_in, columns_in, once_in};
+ghost use Rattle.ga_parser.specs.declared.scan.TokenKind.TheVariants.{Word, LongLine, OpenComment, NoNumber, Missing, Taken};
+ghost use Rattle.ga_parser.specs.declared.fault.SourceCause.TheVariants.{LongLine as TooLong, OpenComment as LeftOpen, NoNumber as NumberLeftOut, Missing as NameLeftOut, Taken as IsTaken};
 
+use super::constants::resolve;
 use super::fault::{Fault, SourceCause, fault_at};
+use super::groups::grouped;
 use ga_text::first_line;
 use std::alloc::{AllocError, Global};
 
@@ -29,6 +32,12 @@ pub enum TokenKind {
     LongLine,
     /// A comment is left open.
     OpenComment,
+    /// No number in range is before `constant`.
+    NoNumber,
+    /// A name is missing.
+    Missing,
+    /// The name of a constant is taken.
+    Taken,
 }
 
 impl<'s> Token<'s> {
@@ -41,11 +50,17 @@ impl<'s> Token<'s> {
         ensures word { self.entry.kind ≡ Word → IsOkAnd result (λ text. text.now ≡ self.entry.text.now) }
         ensures long { self.entry.kind ≡ LongLine → IsErrAnd result (λ fault. (fault.line ≡ self.entry.line) × (fault.cause ≡ TooLong)) }
         ensures open { self.entry.kind ≡ OpenComment → IsErrAnd result (λ fault. (fault.line ≡ self.entry.line) × (fault.cause ≡ LeftOpen)) }
+        ensures no_number { self.entry.kind ≡ NoNumber → IsErrAnd result (λ fault. (fault.line ≡ self.entry.line) × (fault.cause ≡ NumberLeftOut)) }
+        ensures missing { self.entry.kind ≡ Missing → IsErrAnd result (λ fault. (fault.line ≡ self.entry.line) × (fault.cause ≡ NameLeftOut)) }
+        ensures taken { self.entry.kind ≡ Taken → IsErrAnd result (λ fault. (fault.line ≡ self.entry.line) × (fault.cause ≡ IsTaken)) }
     {
         match self.kind {
             TokenKind::Word => Ok(self.text),
             TokenKind::LongLine => Err(fault_at(self.line, SourceCause::LongLine)),
             TokenKind::OpenComment => Err(fault_at(self.line, SourceCause::OpenComment)),
+            TokenKind::NoNumber => Err(fault_at(self.line, SourceCause::NoNumber)),
+            TokenKind::Missing => Err(fault_at(self.line, SourceCause::Missing)),
+            TokenKind::Taken => Err(fault_at(self.line, SourceCause::Taken)),
         }
     }
 }
@@ -115,6 +130,7 @@ fn scan_line<'s>(tokens: &mut Vec<Token<'s>>, line: u32, text: &'s [u8]) -> Resu
     Ok(true)
 }
 
+/// Adds a word or a fault.
 fn push<'s>(
     tokens: &mut Vec<Token<'s>>,
     line: u32,
@@ -161,13 +177,10 @@ fn bare(line: u32, text: &[u8]) -> &[u8]
     without_return(strip_bom(line, text))
 }
 
-/// The words of a text, up to its end or to a line `end`. What follows a line with a fault is read too.
-///
-/// # Errors
-/// Allocation failed.
-pub fn source_words(alloc: Global, source: &[u8]) -> Result<Vec<Token<'_>>, AllocError>
-    ensures says { IfOk result (λ words. token_contents words.items ≡ all_in source.now) }
-    ensures columns { IfOk result (λ words. columns_of words.items ≡ columns_in source.now) }
+/// The words of a text as they are written, up to its end or to a line `end`. What follows a line with a fault is read too.
+fn scanned_words(alloc: Global, source: &[u8]) -> Result<Vec<Token<'_>>, AllocError>
+    ensures says { IfOk result (λ words. token_contents words.items ≡ said_from 1 (source_lines source.now)) }
+    ensures columns { IfOk result (λ words. columns_of words.items ≡ columns_from 1 (source_lines source.now)) }
 {
     let mut words = Vec::new(alloc);
     let mut rest = source;
@@ -185,24 +198,47 @@ pub fn source_words(alloc: Global, source: &[u8]) -> Result<Vec<Token<'_>>, Allo
     Ok(words)
 }
 
-/// The words of a text, up to its end, to a line `end` or to the first line with a fault.
+/// The words of a text, up to its end or to a line `end`. What follows a line with a fault is read too. The names of constants are read
+/// as their numbers, and each node has a `node` of its own, with the whole program of several nodes.
 ///
 /// # Errors
-/// Memory was refused.
-pub fn words_up_to_fault(alloc: Global, source: &[u8]) -> Result<Vec<Token<'_>>, AllocError>
-    ensures { IfOk result (λ tokens. token_contents tokens.items ≡ said_in source.now) }
+/// Allocation failed.
+pub fn source_words(alloc: Global, source: &[u8]) -> Result<Vec<Token<'_>>, AllocError>
+    ensures says { IfOk result (λ words. token_contents words.items ≡ all_in source.now) }
+    ensures columns { IfOk result (λ words. columns_of words.items ≡ columns_in source.now) }
 {
-    let mut tokens = Vec::new(alloc);
-    let mut rest = source;
-    let mut line = 1u32;
-    while !rest.is_empty() {
-        let (whole, behind) = first_line(rest);
-        let first = bare(line, whole);
-        if first == b"end".as_slice() || !scan_line(&mut tokens, line, first)? {
-            return Ok(tokens);
+    let scanned = scanned_words(alloc, source)?;
+    let resolved = resolve(alloc, scanned.as_slice())?;
+    Ok(grouped(alloc, resolved.as_slice(), true)?)
+}
+
+/// The words of `source_words`, but with the program of several nodes after the last of their names alone: so each fault is found once.
+///
+/// # Errors
+/// Allocation failed.
+pub fn words_once(alloc: Global, source: &[u8]) -> Result<Vec<Token<'_>>, AllocError>
+    ensures { IfOk result (λ words. token_contents words.items ≡ once_in source.now) }
+{
+    let scanned = scanned_words(alloc, source)?;
+    let resolved = resolve(alloc, scanned.as_slice())?;
+    Ok(grouped(alloc, resolved.as_slice(), false)?)
+}
+
+/// Whether the word is no fault.
+fn is_whole(word: &Token<'_>) -> bool
+    ensures { result ≡ is_word (token_content word.now) }
+{
+    word.kind == TokenKind::Word
+}
+
+/// The words up to the first fault of a line or of a constant, with that one.
+pub fn up_to_fault<'a, 's>(words: &'a [Token<'s>]) -> &'a [Token<'s>]
+    ensures { token_contents result.now ≡ up_to_fault_in (token_contents words.now) }
+{
+    for (i, word) in words.iter().enumerate() {
+        if !is_whole(word) {
+            return words.split_at(i + 1).0;
         }
-        rest = behind;
-        line = line.saturating_add(1);
     }
-    Ok(tokens)
+    words
 }

@@ -106,11 +106,12 @@ pub(crate) fn is_number(number: Number) -> bool
     }
 }
 
-/// Whether the word begins a node, a cell of data or a comment, or has an apostrophe in front.
+/// Whether the word begins a node, defines a constant, ends a cell of data, begins a comment, or has an apostrophe in front.
 fn is_sign(text: &[u8]) -> bool
     ensures { result ≡ is_sign_word text.now }
 {
     text == b"node".as_slice()
+        || text == b"constant".as_slice()
         || text == b",".as_slice()
         || text == b"\\".as_slice()
         || text == b"(".as_slice()

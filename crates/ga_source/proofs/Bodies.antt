@@ -4,7 +4,7 @@ use Rattle.std.proofs.lemmas.List.{get_or-map, take-map, drop-map, drop_all}
 use Rattle.ga_source.specs.declared.program.Program.{Program}
 use Rattle.ga_parser.specs.declared.scan.Token.{Token}
 use Rattle.ga_parser.specs.inner.Drafting.{texts_of}
-use Rattle.std.specs.Prelude.{codes, map}
+use Rattle.std.specs.Prelude.{codes}
 use Rattle.std.proofs.lemmas.Bool.{cases_Bool}
 use Rattle.ga_grid.specs.Grid.{node_number}
 use Rattle.ga_parser.specs.Plain.{Plain, is_node, body_in, bodies_in, yxx_in, plain_of, asked_by, texts_in}

@@ -27,7 +27,8 @@ use Rattle.ga_ports.specs.Steps.{◌>>=◌}
 use Rattle.ga_parser.specs.Vocabulary.{number_by_word}
 use Rattle.ga_source.specs.Cells.{is_asked, IsEmptyElsewhere}
 use Rattle.ga_source.specs.Reading.{begin_at, resolved}
-use Rattle.ga_parser.specs.Plain.{Plain, no_request, by_number, only_if, is_cell, may_be, with_two_words, plain_from, plain_of, value_in, asked_by, words_in, bodies_in, yxx_in, texts_in}
+use Rattle.ga_parser.specs.Plain.{Plain, no_request, by_number, only_if, is_cell, may_be, with_two_words, plain_from, plain_of, value_in, asked_by, bodies_in, yxx_in, texts_in}
+use Rattle.ga_parser.specs.Words.{words_in, said_in, all_in}
 use Rattle.ga_source.specs.Made.{with_cell, with_asked, address_behind, with_requests, number_or, plain_node, IsNode, HasPlain, IsChipOfSource, IsSoundSource, HasWords}
 use Rattle.ga_source.specs.inner.{requests_of, ArePlain, IsNumber, AreNumbers, KeepsRest}
 use Rattle.ga_source.proofs.Loaded.{of_each_at_load, assembled_empty}
@@ -37,7 +38,7 @@ use Rattle.ga_parser.specs.declared.fault.Fault.{Fault}
 use Rattle.ga_parser.specs.declared.fault.SourceCause.TheVariants.{Memory}
 use Rattle.ga_source.specs.declared.program.Assembled.{Assembled}
 use Rattle.ga_parser.specs.declared.scan.Token.{Token}
-use Rattle.ga_parser.specs.Saying.{TokenContent, said_in, token_contents, is_word}
+use Rattle.ga_parser.specs.Saying.{TokenContent, token_contents, is_word, up_to_fault}
 
 -- ---- A chip with programs is steady: none of its nodes waits
 
@@ -317,6 +318,10 @@ whole_node chip words n plain has name is sizes =
     found.rest ∙ (ap (λ (list : List ℕ). record made { ram = list; rom = node.rom }) ram ∙ ap (λ (list : List ℕ). record made { ram = made.ram; rom = list }) rom)
 
 -- ---- what is assembled of a source is what is assembled of its words
+
+pub said_to_fault : (source : List ℕ) (words front : List TokenContent) → words ≡ all_in source → front ≡ up_to_fault words → said_in source ≡ front
+unfolding said_in
+said_to_fault source words front is to_fault = sym (to_fault ∙ ap up_to_fault is)
 
 pub asked_of_words : (source : List ℕ) (words : List Token) (result : Result Assembled Fault) → said_in source ≡ token_contents words
     → IfOk result (λ all. AreAskedBy (said_bodies (token_contents words)) all.programs.items) → IfOk result (λ all. AreAsked source all.programs.items)

@@ -1,11 +1,13 @@
 -- The faults of nodes, one node after another.
-use Rattle.std.proofs.Common.{◌≡◌, ◌∙◌, ℕ, ◌+◌, ◌<◌, ◌≤◌, Bool, true, false, true≢false, List, [], ◌∷◌, ◌++◌, length, get_or, take, drop, map, Option, Some, None, arith, refl, sym, ap, ap₂, subst, append_assoc, append-nil, drop-drop, zero, suc}
+use Rattle.std.proofs.Common.{◌≡◌, ◌∙◌, ℕ, ◌+◌, ◌<◌, ◌≤◌, Bool, true, false, true≢false, List, [], ◌∷◌, ◌++◌, length, get_or, take, drop, Option, Some, None, arith, refl, sym, ap, ap₂, subst, append_assoc, append-nil, drop-drop, zero, suc, inl, inr}
 use Rattle.std.proofs.lemmas.List.{length-map, length-take-le, drop_all, map-append}
+use Rattle.std.proofs.lemmas.Bool.{and_parts, cases_Bool, cond-true, cond-false}
 use Rattle.std.specs.Prelude.{if◌then◌else◌, slice_index_or, slice_set}
 use Rattle.ga_parser.specs.declared.fault.Fault.{Fault}
 use Rattle.ga_parser.specs.declared.fault.SourceCause.TheVariants.{NoNode, NoSuchNode, NodeTwice, Missing}
 use Rattle.ga_parser.specs.declared.scan.Token.{Token}
-use Rattle.ga_parser.specs.Saying.{TokenContent, token_content, token_contents}
+use Rattle.ga_parser.specs.Saying.{TokenContent, token_content, token_contents, is_word}
+use Rattle.ga_parser.specs.Plain.{is_node}
 use Rattle.ga_source.specs.Programs.{said_body}
 use Rattle.ga_parser.specs.Recovery.{AreRequestsLeft}
 use Rattle.ga_parser.specs.Requests.{word_refusal}
@@ -14,8 +16,8 @@ use Rattle.ga_parser.specs.declared.item.NodeRequests.{NodeRequests}
 use Rattle.ga_parser.specs.declared.labels.Label.{Label}
 use Rattle.ga_source.specs.Recovery.{is_begin, node_by, misplaced, from_next, no_node, register_refusals, AreFaultsOfRequests, AreFaultsOfNode, AreFaultsOfNodes}
 use Rattle.ga_source.specs.Recovery.AreFaultsOfRequests.{packed, unpacked}
-use Rattle.ga_source.specs.Recovery.AreFaultsOfNodes.{no_words, not_begun, unnamed, misnamed, again, begins}
-use Rattle.ga_source.specs.inner.{Adds, AreAny, AreRefused, head_of, Skips, IsBegun, Recovers}
+use Rattle.ga_source.specs.Recovery.AreFaultsOfNodes.{no_words, faulty, not_begun, unnamed, misnamed, again, begins}
+use Rattle.ga_source.specs.inner.{Adds, AreAny, AreRefused, head_of, left_of, Skips, IsBegun, Recovers}
 
 -- ---- the words with which a node begins
 
@@ -27,17 +29,35 @@ other_by : (b : Bool) (first name : TokenContent) (words : List TokenContent) (P
 other_by false first name words P is held = held
 other_by true first name words P is held = absurd (true≢false is)
 
+-- the words that are left after a word, and after a fault
+whole_left : (begun : List Bool) (first : TokenContent) (words : List TokenContent) (rest : List Fault) → is_word first ≡ true → AreFaultsOfNodes begun (left_of (first ∷ words)) rest
+    → AreFaultsOfNodes begun (from_next (drop (head_of (first ∷ words)) (first ∷ words))) rest
+whole_left begun first words rest is left = subst (λ (l : List TokenContent). AreFaultsOfNodes begun l rest) (cond-true (is_word first) _ _ is) left
+
+begin_whole : (first : TokenContent) → is_begin first ≡ true → is_word first ≡ true
+begin_whole first node = (and_parts (is_word first) (is_node first.text) node).0
+
+faulty_first : (begun : List Bool) (first : TokenContent) (words : List TokenContent) → is_word first ≡ false → Skips begun (first ∷ words) (misplaced first NoNode)
+faulty_first begun first words false_is = λ rest left. faulty first false_is (subst (λ (l : List TokenContent). AreFaultsOfNodes begun l rest) (cond-false (is_word first) _ _ false_is) left)
+
 pub no_begin : (begun : List Bool) (words : List Token) (d : Token) → 0 < length words → is_begin (token_content (get_or words 0 d)) ≡ false → Skips begun (token_contents words) (misplaced (token_content (get_or words 0 d)) NoNode)
 no_begin begun [] d some other = absurd (omega arith)
-no_begin begun (first ∷ []) d some other = λ rest left. not_begun (token_content first) other left
-no_begin begun (first ∷ name ∷ words) d some other = λ rest left.
-    not_begun (token_content first) other
-    (other_by (is_begin (token_content first)) (token_content first) (token_content name) (token_contents words) (λ (l : List TokenContent). AreFaultsOfNodes begun (from_next l) rest) other left)
+no_begin begun (first ∷ []) d some other = elim (cases_Bool (is_word (token_content first))) [
+  | inl is ↦ λ rest left. not_begun (token_content first) is other (whole_left begun (token_content first) [] rest is left)
+  | inr false_is ↦ faulty_first begun (token_content first) [] false_is
+]
+no_begin begun (first ∷ name ∷ words) d some other = elim (cases_Bool (is_word (token_content first))) [
+  | inl is ↦ λ rest left.
+      not_begun (token_content first) is other
+      (other_by (is_begin (token_content first)) (token_content first) (token_content name) (token_contents words) (λ (l : List TokenContent). AreFaultsOfNodes begun (from_next l) rest) other
+      (whole_left begun (token_content first) (token_contents (name ∷ words)) rest is left))
+  | inr false_is ↦ faulty_first begun (token_content first) (token_contents (name ∷ words)) false_is
+]
 
 pub no_name : (begun : List Bool) (words : List Token) (d : Token) → 0 < length words → length words < 2 → is_begin (token_content (get_or words 0 d)) ≡ true → Skips begun (token_contents words) (misplaced (token_content (get_or words 0 d)) Missing)
 unfolding said_body
 no_name begun [] d some few node = absurd (omega arith)
-no_name begun (first ∷ []) d some few node = λ rest left. unnamed (token_content first) node left
+no_name begun (first ∷ []) d some few node = λ rest left. unnamed (token_content first) node (whole_left begun (token_content first) [] rest (begin_whole (token_content first) node) left)
 no_name begun (first ∷ name ∷ words) d some few node = absurd (omega arith)
 
 pub bad_name : (begun : List Bool) (words : List Token) (d e : Token) → 2 ≤ length words → is_begin (token_content (get_or words 0 d)) ≡ true → node_by (token_content (get_or words 1 e)) ≡ None → Skips begun (token_contents words) (misplaced (token_content (get_or words 1 e)) NoSuchNode)
@@ -45,7 +65,8 @@ bad_name begun [] d e many node none = absurd (omega arith)
 bad_name begun (first ∷ []) d e many node none = absurd (omega arith)
 bad_name begun (first ∷ name ∷ words) d e many node none = λ rest left.
     misnamed (token_content first) (token_content name) node none
-    (head_by (is_begin (token_content first)) (token_content first) (token_content name) (token_contents words) (λ (l : List TokenContent). AreFaultsOfNodes begun (from_next l) rest) node left)
+    (head_by (is_begin (token_content first)) (token_content first) (token_content name) (token_contents words) (λ (l : List TokenContent). AreFaultsOfNodes begun (from_next l) rest) node
+    (whole_left begun (token_content first) (token_contents (name ∷ words)) rest (begin_whole (token_content first) node) left))
 
 pub begun_again : (begun : List Bool) (words : List Token) (d e : Token) (n : ℕ) → 2 ≤ length words → is_begin (token_content (get_or words 0 d)) ≡ true → node_by (token_content (get_or words 1 e)) ≡ Some n → slice_index_or begun n false ≡ true
     → Skips begun (token_contents words) (misplaced (token_content (get_or words 1 e)) NodeTwice)
@@ -53,7 +74,8 @@ begun_again begun [] d e n many node named before = absurd (omega arith)
 begun_again begun (first ∷ []) d e n many node named before = absurd (omega arith)
 begun_again begun (first ∷ name ∷ words) d e n many node named before = λ rest left.
     again (token_content first) (token_content name) n node named before
-    (head_by (is_begin (token_content first)) (token_content first) (token_content name) (token_contents words) (λ (l : List TokenContent). AreFaultsOfNodes begun (from_next l) rest) node left)
+    (head_by (is_begin (token_content first)) (token_content first) (token_content name) (token_contents words) (λ (l : List TokenContent). AreFaultsOfNodes begun (from_next l) rest) node
+    (whole_left begun (token_content first) (token_contents (name ∷ words)) rest (begin_whole (token_content first) node) left))
 
 pub is_begun : (begun : List Bool) (words : List Token) (d e : Token) (n : ℕ) → 2 ≤ length words → is_begin (token_content (get_or words 0 d)) ≡ true → node_by (token_content (get_or words 1 e)) ≡ Some n → slice_index_or begun n false ≡ false
     → IsBegun begun (token_contents words) n
@@ -116,6 +138,15 @@ left_from words rest head count all sum is within said =
     ∙ (ap (drop count) (past words head)
     ∙ (ap (λ (n : ℕ). drop n (drop head (token_contents words))) (sym size)
     ∙ ap (λ (l : List TokenContent). drop (length (said_body l)) (drop head (token_contents words))) same)))
+
+pub left_faulty : (words : List Token) (d : Token) → 0 < length words → is_word (token_content (get_or words 0 d)) ≡ false → token_contents (drop 1 words) ≡ left_of (token_contents words)
+left_faulty [] d some false_is = absurd (omega arith)
+left_faulty (first ∷ words) d some false_is = sym (cond-false (is_word (token_content first)) _ _ false_is)
+
+pub left_whole : (words : List Token) (d : Token) (left : List TokenContent) → 0 < length words → is_word (token_content (get_or words 0 d)) ≡ true
+    → left ≡ from_next (drop (head_of (token_contents words)) (token_contents words)) → left ≡ left_of (token_contents words)
+left_whole [] d left some is e = absurd (omega arith)
+left_whole (first ∷ words) d left some is e = e ∙ sym (cond-true (is_word (token_content first)) _ _ is)
 
 -- ---- faults that are added
 
@@ -189,7 +220,7 @@ one_begun begun after (first ∷ second ∷ words) behind body name d n count al
 
 -- no node begins
 pub one_skipped : (begun : List Bool) (words : List Token) (count : ℕ) (fault : Fault) (old new : List Fault) → Skips begun (token_contents words) fault → new ≡ old ++ fault ∷ []
-    → token_contents (drop count words) ≡ from_next (drop (head_of (token_contents words)) (token_contents words)) → Recovers begun (token_contents words) begun (token_contents (drop count words)) old new
+    → token_contents (drop count words) ≡ left_of (token_contents words) → Recovers begun (token_contents words) begun (token_contents (drop count words)) old new
 one_skipped begun words count fault old new skips pushed left =
     record { own = fault ∷ []; all = pushed; are = λ rest held. skips rest (subst (λ (l : List TokenContent). AreFaultsOfNodes begun l rest) left held) }
 

@@ -5,11 +5,12 @@ use Rattle.std.proofs.lemmas.Bool.{cases_Bool, cases_lt, and_parts, both_ways}
 use Rattle.std.proofs.lemmas.List.{get_or-replicate, get_or_past, length-replicate}
 use Rattle.std.proofs.lemmas.List.Elements.{All-nil, All-cons, All-head, All-tail, All-drop, All-take}
 use Rattle.ga_parser.specs.declared.scan.TokenKind.{TokenKind}
-use Rattle.ga_parser.specs.declared.scan.TokenKind.TheVariants.{Word, LongLine, OpenComment}
+use Rattle.ga_parser.specs.declared.scan.TokenKind.TheVariants.{Word, LongLine, OpenComment, NoNumber, Missing, Taken}
 use Rattle.ga_parser.specs.declared.scan.Token.{Token}
-use Rattle.ga_parser.specs.Saying.{TokenContent, is_word, is_word_kind, said_in, all_in, token_contents, up_to_fault, next_line}
+use Rattle.ga_parser.specs.Saying.{TokenContent, is_word, is_word_kind, token_contents, up_to_fault, next_line}
+use Rattle.ga_parser.specs.Words.{said_in, all_in, words_in}
 use Rattle.ga_grid.specs.Grid.{node_number}
-use Rattle.ga_parser.specs.Plain.{Plain, is_node, body_in, bodies_in, yxx_in, words_in, texts_in, plain_of}
+use Rattle.ga_parser.specs.Plain.{Plain, is_node, body_in, bodies_in, yxx_in, texts_in, plain_of}
 use Rattle.std.specs.Prelude.{◌&&◌, if◌then◌else◌}
 use Rattle.ga_parser.proofs.PlainAsked.{map_map}
 use Rattle.ga_source.specs.Made.{cells_from, AreDistinctCells, IsSoundBody, IsSoundSource, HasWords}
@@ -104,6 +105,9 @@ kind_is : (kind : TokenKind) → is_word_kind kind ≡ true → kind ≡ Word
 kind_is Word e = refl
 kind_is LongLine e = absurd (subst (λ b. elim b as (λ _. Type 0) [ true ↦ ⊥ | false ↦ Unit {0} ]) e tt)
 kind_is OpenComment e = absurd (subst (λ b. elim b as (λ _. Type 0) [ true ↦ ⊥ | false ↦ Unit {0} ]) e tt)
+kind_is NoNumber e = absurd (subst (λ b. elim b as (λ _. Type 0) [ true ↦ ⊥ | false ↦ Unit {0} ]) e tt)
+kind_is Missing e = absurd (subst (λ b. elim b as (λ _. Type 0) [ true ↦ ⊥ | false ↦ Unit {0} ]) e tt)
+kind_is Taken e = absurd (subst (λ b. elim b as (λ _. Type 0) [ true ↦ ⊥ | false ↦ Unit {0} ]) e tt)
 
 kinds_are : (tokens : List Token) → list_all is_word (token_contents tokens) ≡ true → All (λ token. token.kind ≡ Word) tokens
 kinds_are [] whole = All-nil (λ token. token.kind ≡ Word)

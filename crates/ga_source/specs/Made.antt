@@ -14,8 +14,9 @@ use Rattle.ga_parser.specs.declared.item.Item.TheVariants.{Cell}
 use Rattle.ga_parser.specs.declared.item.Request.{Request}
 use Rattle.ga_parser.specs.declared.item.Request.TheVariants.{Put, Go}
 use Rattle.ga_source.specs.Programs.{is_item}
-use Rattle.ga_parser.specs.Plain.{Plain, words_in, texts_in, bodies_in, yxx_in, plain_of, body_in}
-use Rattle.ga_parser.specs.Saying.{TokenContent, is_word, said_in}
+use Rattle.ga_parser.specs.Plain.{Plain, texts_in, bodies_in, yxx_in, plain_of, body_in}
+use Rattle.ga_parser.specs.Words.{words_in, said_in}
+use Rattle.ga_parser.specs.Saying.{TokenContent, is_word}
 
 -- ---- cells
 

@@ -2,8 +2,9 @@
 -- project's own).
 use Rattle.std.specs.Prelude.{ℕ, ◌≡◌, if◌then◌else◌, List, [], ◌∷◌, drop, slice_index_or, Some, ◌≢◌, Bool, true, false, Option, None, codes, position, bytes_eq}
 use Rattle.ga_source.specs.declared.program.Program.{Program}
-use Rattle.ga_parser.specs.Saying.{TokenContent, said_in}
-use Rattle.ga_parser.specs.Plain.{Plain, is_node, yxx_in, plain_of, asked_by, words_in, bodies_in}
+use Rattle.ga_parser.specs.Saying.{TokenContent}
+use Rattle.ga_parser.specs.Words.{said_in, words_in}
+use Rattle.ga_parser.specs.Plain.{Plain, is_node, yxx_in, plain_of, asked_by, bodies_in}
 use Rattle.ga_parser.specs.declared.item.NodeRequests.{NodeRequests}
 use Rattle.ga_parser.specs.Requests.{AreRequestsOf}
 use Rattle.std.specs.List.{All, list_any}

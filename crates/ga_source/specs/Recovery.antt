@@ -1,13 +1,13 @@
 -- Words with their numbers in place of their lines, what is assembled of them, and their faults (docs/REFERENCE.md, "Source"; this
 -- project's own).
-use Rattle.std.specs.Prelude.{ℕ, ◌≡◌, ◌-◌, nat_lt, ◌⊎◌, Bool, true, false, ◌&&◌, if◌then◌else◌, List, [], ◌∷◌, ◌++◌, length, map, drop, replicate, slice_get, slice_index_or, slice_set, Option, Some, None}
+use Rattle.std.specs.Prelude.{ℕ, ◌≡◌, ◌-◌, nat_lt, Bool, true, false, ◌&&◌, if◌then◌else◌, List, [], ◌∷◌, ◌++◌, length, map, drop, replicate, slice_get, slice_index_or, slice_set, Option, Some, None}
 use Rattle.std.specs.List.{All, dedup}
 use Rattle.std.specs.List.Sorted.{IsPermutation, IsNonDecreasingBy}
 use Rattle.std.specs.Option.{option_map_or}
 use Rattle.ga_parser.specs.declared.fault.Fault.{Fault}
 use Rattle.ga_parser.specs.contracts.fault.FaultPartialEq.TheImpl.{ghosts as faults_compare}
 use Rattle.ga_parser.specs.declared.fault.SourceCause.{SourceCause}
-use Rattle.ga_parser.specs.declared.fault.SourceCause.TheVariants.{LongLine as TooLong, OpenComment as LeftOpen, NoNode, NoSuchNode, NodeTwice, Missing, CellTwice}
+use Rattle.ga_parser.specs.declared.fault.SourceCause.TheVariants.{LongLine as TooLong, OpenComment as LeftOpen, NoNumber as NumberLeftOut, Missing as NameLeftOut, Taken as IsTaken, NoNode, NoSuchNode, NodeTwice, CellTwice}
 use Rattle.ga_parser.specs.declared.item.NodeRequests.{NodeRequests}
 use Rattle.ga_parser.specs.declared.item.Operand.{Operand}
 use Rattle.ga_parser.specs.declared.item.Operand.TheVariants.{Number, Label as LabelOf}
@@ -15,7 +15,7 @@ use Rattle.ga_parser.specs.declared.item.RegisterValue.{RegisterValue}
 use Rattle.ga_parser.specs.declared.item.Registers.{Registers}
 use Rattle.ga_parser.specs.declared.labels.Label.{Label}
 use Rattle.ga_parser.specs.declared.scan.TokenKind.{TokenKind}
-use Rattle.ga_parser.specs.declared.scan.TokenKind.TheVariants.{Word, LongLine, OpenComment}
+use Rattle.ga_parser.specs.declared.scan.TokenKind.TheVariants.{Word, LongLine, OpenComment, NoNumber, Missing, Taken}
 use Rattle.ga_parser.specs.declared.vocabulary.Register.{Register}
 use Rattle.ga_parser.specs.declared.vocabulary.Register.TheVariants.{P, A, B}
 use Rattle.ga_parser.specs.Asking.{Refusal}
@@ -26,7 +26,8 @@ use Rattle.ga_parser.specs.Requests.{word_refusal}
 use Rattle.ga_parser.specs.Vocabulary.{bound_of, range_of}
 use Rattle.ga_source.specs.declared.program.Assembled.{Assembled}
 use Rattle.ga_parser.specs.declared.scan.Token.{Token}
-use Rattle.ga_parser.specs.Saying.{TokenContent, is_word, next_line, token_contents, all_in}
+use Rattle.ga_parser.specs.Saying.{TokenContent, is_word, next_line, token_contents}
+use Rattle.ga_parser.specs.Words.{once_in}
 use Rattle.ga_source.specs.Programs.{said_body, said_bodies, AreAskedBy, IsAssembled}
 use Rattle.ga_source.specs.Cells.{HasGroups}
 use Rattle.ga_source.specs.Reading.{resolved}
@@ -121,6 +122,9 @@ abbrev pub word_cause : TokenKind → SourceCause → SourceCause
 word_cause Word cause = cause
 word_cause LongLine cause = TooLong
 word_cause OpenComment cause = LeftOpen
+word_cause NoNumber cause = NumberLeftOut
+word_cause Missing cause = NameLeftOut
+word_cause Taken cause = IsTaken
 
 abbrev pub misplaced : TokenContent → SourceCause → Fault
 misplaced said cause = record { line = said.line; cause = word_cause said.kind cause }
@@ -134,13 +138,15 @@ abbrev pub no_node : List Bool
 no_node = replicate 144 false
 
 -- The faults of words in the order of nodes, where some nodes have begun. If no node begins, the words up to the next `node` are skipped,
--- with the name after a `node`.
+-- with the name after a `node`; after a fault of a line or of a constant nothing is.
 pub data AreFaultsOfNodes : List Bool → List TokenContent → List Fault → Type 0 where
   no_words : {begun : List Bool} → AreFaultsOfNodes begun [] []
-  not_begun : {begun : List Bool} {words : List TokenContent} {rest : List Fault} (first : TokenContent) → is_begin first ≡ false
+  faulty : {begun : List Bool} {words : List TokenContent} {rest : List Fault} (first : TokenContent) → is_word first ≡ false
+      → AreFaultsOfNodes begun words rest → AreFaultsOfNodes begun (first ∷ words) (misplaced first NoNode ∷ rest)
+  not_begun : {begun : List Bool} {words : List TokenContent} {rest : List Fault} (first : TokenContent) → is_word first ≡ true → is_begin first ≡ false
       → AreFaultsOfNodes begun (from_next words) rest → AreFaultsOfNodes begun (first ∷ words) (misplaced first NoNode ∷ rest)
   unnamed : {begun : List Bool} {rest : List Fault} (first : TokenContent) → is_begin first ≡ true
-      → AreFaultsOfNodes begun [] rest → AreFaultsOfNodes begun (first ∷ []) (misplaced first Missing ∷ rest)
+      → AreFaultsOfNodes begun [] rest → AreFaultsOfNodes begun (first ∷ []) (misplaced first NameLeftOut ∷ rest)
   misnamed : {begun : List Bool} {words : List TokenContent} {rest : List Fault} (first name : TokenContent) → is_begin first ≡ true → node_by name ≡ None
       → AreFaultsOfNodes begun (from_next words) rest → AreFaultsOfNodes begun (first ∷ name ∷ words) (misplaced name NoSuchNode ∷ rest)
   again : {begun : List Bool} {words : List TokenContent} {rest : List Fault} (first name : TokenContent) (n : ℕ) → is_begin first ≡ true → node_by name ≡ Some n
@@ -165,6 +171,6 @@ or_first (fault ∷ faults) first = fault ∷ faults
 pub record AreFaultsOfSource (source : List ℕ) (first : Fault) (faults : List Fault) : Type 0 where
   pub words : List Token
   pub numbered : List Fault
-  pub said : token_contents words ≡ all_in source
+  pub said : token_contents words ≡ once_in source
   pub found : AreFaultsOfWords (token_contents (with_numbers 1 words)) numbered
   pub lines : faults ≡ or_first (faults_by_line words numbered) first

@@ -23,7 +23,7 @@ use Rattle.ga_parser.specs.declared.item.Operand.{Operand}
 use Rattle.ga_source.specs.Made.{address_behind, cells_from, cell_of, node_number_of_words, IsSoundBody}
 use Rattle.ga_source.specs.declared.program.Program.{Program}
 use Rattle.ga_source.specs.Programs.{IsAssembled, IsOf, IsAsked}
-use Rattle.ga_parser.specs.Saying.{TokenContent}
+use Rattle.ga_parser.specs.Saying.{TokenContent, is_word}
 use Rattle.ga_parser.specs.declared.fault.Fault.{Fault}
 use Rattle.ga_parser.specs.Asking.{Refusal}
 use Rattle.ga_parser.specs.Requests.{word_refusal}
@@ -418,9 +418,14 @@ head_of (first ∷ name ∷ words) = if is_begin first then 2 else 1
 head_of (first ∷ []) = 1
 head_of [] = 1
 
--- no node begins: the fault is added to those of the words from the next `node` on
+-- the words that are left if no node begins: those from the next `node` on, or those after a fault
+abbrev pub left_of : List TokenContent → List TokenContent
+left_of [] = []
+left_of (first ∷ words) = if is_word first then from_next (drop (head_of (first ∷ words)) (first ∷ words)) else words
+
+-- no node begins: the fault is added to those of the words that are left
 abbrev pub Skips : List Bool → List TokenContent → Fault → Type 0
-Skips begun words fault = (rest : List Fault) → AreFaultsOfNodes begun (from_next (drop (head_of words) words)) rest → AreFaultsOfNodes begun words (fault ∷ rest)
+Skips begun words fault = (rest : List Fault) → AreFaultsOfNodes begun (left_of words) rest → AreFaultsOfNodes begun words (fault ∷ rest)
 
 -- a node begins that hadn't begun
 abbrev pub IsBegun : List Bool → List TokenContent → ℕ → Type 0

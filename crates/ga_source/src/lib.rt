@@ -15,7 +15,7 @@ mod stores;
 
 pub use ga_parser::{
     Fault, Hint, Item, Label, LocatedRequest, NumberRange, Operand, RegisterValue, Registers,
-    Request, SourceCause, Token, TokenKind, hint_for, source_words, strip_bom,
+    Request, SourceCause, Token, TokenKind, hint_for, source_words, strip_bom, words_once,
 };
 pub use group::Group;
 pub use program::{Assembled, Program, assemble, assemble_words};

@@ -25,7 +25,7 @@ use ga_grid::{Chip, NODES, NodeId, node_number};
 use ga_node::{Node, Place};
 use ga_parser::{
     Fault, Label, LocatedRequest, NodeRequests, Operand, Register, RegisterValue, Registers,
-    Request, SourceCause, Token, fault_at, read_requests, words_up_to_fault,
+    Request, SourceCause, Token, fault_at, read_requests, source_words, up_to_fault,
 };
 use std::alloc::Global;
 
@@ -349,6 +349,6 @@ pub fn assemble(alloc: Global, source: &[u8]) -> Result<Assembled<'_>, Fault<'_>
     // No node waits, so that the chip has an image.
     ensures steady { IfOk result (λ all. AreSteady (records_of all.chip)) }
 {
-    let tokens = words_up_to_fault(alloc, source)?;
-    assemble_words(alloc, tokens.as_slice())
+    let tokens = source_words(alloc, source)?;
+    assemble_words(alloc, up_to_fault(tokens.as_slice()))
 }

@@ -4,10 +4,11 @@ ghost use Rattle.std.specs.Prelude.{◌≡◌, ◌≤◌, ◌<◌, ◌++◌, ◌
 ghost use Rattle.ga_grid.specs.Grid.{number_where_any};
 ghost use Rattle.ga_parser.specs.declared.fault.SourceCause.TheVariants.{Memory};
 ghost use Rattle.ga_parser.specs.Requests.{word_refusal};
-ghost use Rattle.ga_parser.specs.Saying.{token_content, token_contents, all_in};
+ghost use Rattle.ga_parser.specs.Saying.{token_content, token_contents, is_word};
+ghost use Rattle.ga_parser.specs.Words.{all_in};
 ghost use Rattle.ga_source.specs.Made.{IsSoundSource};
-ghost use Rattle.ga_source.specs.Recovery.{with_line, with_numbers, IsAssembledOf, line_of_number, fault_at_line, faults_by_line, given_refusals, register_refusals, AreFaultsOfRequests, AreFaultsOfNode, is_begin, node_by, misplaced as misplaced_at, from_next, AreFaultsOfWords, AreFaultsOfSource, or_first as or_this};
-ghost use Rattle.ga_source.specs.inner.{Adds, AreRefused, head_of, Skips, IsBegun, Recovers};
+ghost use Rattle.ga_source.specs.Recovery.{with_line, with_numbers, IsAssembledOf, line_of_number, fault_at_line, faults_by_line, given_refusals, register_refusals, AreFaultsOfRequests, AreFaultsOfNode, is_begin, node_by, misplaced as misplaced_at, AreFaultsOfWords, AreFaultsOfSource, or_first as or_this};
+ghost use Rattle.ga_source.specs.inner.{Adds, AreRefused, head_of, left_of, Skips, IsBegun, Recovers};
 
 use super::group::Group;
 use super::loading::load_left;
@@ -19,7 +20,7 @@ use ga_grid::{Chip, NodeId};
 use ga_node::Node;
 use ga_parser::{
     Fault, Label, NodeRequests, Recovered, Register, RegisterValue, Registers, SourceCause, Token,
-    TokenKind, fault_at, recover_requests, source_words,
+    TokenKind, fault_at, recover_requests, words_once,
 };
 use std::alloc::{AllocError, Global};
 
@@ -110,7 +111,11 @@ fn node_of(name: Token<'_>) -> Option<NodeId>
 {
     match name.kind {
         TokenKind::Word => node_named(name.text),
-        TokenKind::LongLine | TokenKind::OpenComment => None,
+        TokenKind::LongLine
+        | TokenKind::OpenComment
+        | TokenKind::NoNumber
+        | TokenKind::Missing
+        | TokenKind::Taken => None,
     }
 }
 
@@ -122,6 +127,9 @@ fn misplaced<'s>(word: Token<'s>, cause: SourceCause<'s>) -> Fault<'s>
         TokenKind::Word => cause,
         TokenKind::LongLine => SourceCause::LongLine,
         TokenKind::OpenComment => SourceCause::OpenComment,
+        TokenKind::NoNumber => SourceCause::NoNumber,
+        TokenKind::Missing => SourceCause::Missing,
+        TokenKind::Taken => SourceCause::Taken,
     };
     Fault {
         line: word.line,
@@ -171,13 +179,24 @@ fn head_length(words: &[Token<'_>]) -> usize
     if begins(&words[0]) { 2 } else { 1 }
 }
 
-/// The number of words up to the next `node`, if no node begins with the first: the name after a `node` is one of them.
+/// Whether the word is no fault.
+fn is_whole(word: &Token<'_>) -> bool
+    ensures { result ≡ is_word (token_content word.now) }
+{
+    word.kind == TokenKind::Word
+}
+
+/// The number of words up to the next `node`, if no node begins with the first: the name after a `node` is one of them. A fault of a line
+/// or of a constant is skipped alone.
 fn skipped_length(words: &[Token<'_>]) -> usize
     requires { 0 < length words.now }
     ensures some { 0 < result }
     ensures in_range { result ≤ length words.now }
-    ensures left { token_contents (drop result words.now) ≡ from_next (drop (head_of (token_contents words.now)) (token_contents words.now)) }
+    ensures left { token_contents (drop result words.now) ≡ left_of (token_contents words.now) }
 {
+    if !is_whole(&words[0]) {
+        return 1;
+    }
     let head = head_length(words);
     let (_, rest) = words.split_at(head);
     body_length(rest) + head
@@ -337,7 +356,7 @@ fn recover_begun<'s>(
 }
 
 /// Adds the program of the node whose words are first, and returns the number of its words. If no node begins, the words up to the next
-/// `node` are skipped, with the name after a `node`.
+/// `node` are skipped, with the name after a `node`; after a fault of a line or of a constant nothing is.
 fn recover_first<'s>(
     alloc: Global,
     chip: &mut Chip,
@@ -365,7 +384,8 @@ fn recover_first<'s>(
 ///
 /// - A faulty word is skipped, with a directive before it that takes it and each `,` after it. What follows is read as if they weren't
 ///   there. So is a word that names a label without a place.
-/// - If no node begins, the words up to the next `node` are skipped, with the name after a `node`.
+/// - If no node begins, the words up to the next `node` are skipped, with the name after a `node`; after a fault of a line or of a constant
+///   nothing is.
 /// - A faulty cell is left out, and the others keep their addresses. Cells that continue after one past the end of memory are left out
 ///   without a fault of their own.
 ///
@@ -481,7 +501,7 @@ pub fn all_faults<'s>(
     if is_memory(first) {
         return Err(first);
     }
-    let words = source_words(alloc, source)?;
+    let words = words_once(alloc, source)?;
     let recovered = recover_words(alloc, words.as_slice())?;
     let faults = faults_on_lines(alloc, words.as_slice(), recovered.faults.as_slice())?;
     Ok(or_first(faults, first)?)

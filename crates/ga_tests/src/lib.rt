@@ -1,4 +1,4 @@
-//! Tests of what no session shows: calls that no session makes, a chip that threads share, each order of small programs, texts
+//! Tests of what no session shows: calls that no session makes, a chip that threads share, texts
 //! that are parsed and refused, and what an editor is shown. What sessions show is in the folder `sessions` at the top.
 #![tactic(auto)]
 
@@ -14,8 +14,6 @@ mod image;
 mod messages;
 #[cfg(test)]
 mod moves;
-#[cfg(test)]
-mod orders;
 #[cfg(test)]
 mod schedules;
 #[cfg(test)]

@@ -4,7 +4,7 @@ use clap::{Arg, ArgAction, Command, value_parser};
 use std::alloc::{AllocError, Global};
 
 /// What `ga144 --version` writes after the name: the version, and the kit that proves it.
-const VERSION: &str = "1.0 (rattle-kit-13f logic dac8208d650f15bf)";
+const VERSION: &str = "1.0 (rattle-kit-13b logic dac8208d650f15bf)";
 
 /// What `ga144 debug --help` writes after the options.
 const COMMANDS: &str = "\
@@ -64,18 +64,19 @@ Reads an image (lines `ga144 1` to `end`) from standard input. Worker w, from 0 
 Exit status: 0 done, 1 image refused, 2 a stream failed, 3 command line refused, 4 race not finished.";
 
 /// What `ga144 check --help` writes after the options.
-const ORDERS: &str = "\
-Reads an image or source as explore does, and nothing after its line `end`. Runs it once in each order of its nodes: orders that differ
-only by swaps of independent steps are one.
+const ENDS: &str = "\
+Reads an image or source as explore does, and nothing after its line `end`. Searches the states that its nodes reach, in whatever order they
+run. The program need not end.
 
-Prints how many orders there are and, for each kind of end, how many orders end so, which nodes stop, wait for words or poll, and which
-order is the first. `at least N orders`: a bound was met, so there may be others.
-With --session K it writes instead the lines `step NNN` that lead to the end of the Kth order.
-The answer is the same for every number of workers.
+An end is a state in which no node has an event, or states that lead to each other and to no other: some nodes go on for ever there, and the
+others make no further step. Prints the number of states and, for each kind of end, what the nodes do there, and which of them are not
+clean: stopped, waiting to write, or waiting to read from a node that isn't clean, that goes on, or that waits for them in turn.
+`at least`: a bound was met, so there may be others. The last line names the bound.
+With --session K it writes instead the lines `step NNN` that lead to the Kth kind of end.
 With --settled the idle nodes wait before the first step, so that a look sees them wait. A session has these steps first.
 
-Exit status: 0 all end on one chip where none stops, or a session is written, 1 image or source refused, 2 a stream failed,
-3 command line refused, 5 they end on several chips or a node stops, 6 there may be other orders.";
+Exit status: 0 each end is clean, or a session is written, 1 image or source refused, or no such kind, 2 a stream failed,
+3 command line refused, 5 an end isn't clean, 6 a bound was met, and what was found is clean.";
 
 /// What `ga144 dap --help` says.
 const EDITOR: &str = "\
@@ -119,15 +120,15 @@ const WORKERS: &str = "How many workers there are, 1 to 16";
 
 const CALLS: &str = "How many calls each worker makes, 1 to 100000";
 
-const RUNS: &str = "How many runs are made at most, 1 to 4294967295 [default: 1000000]";
+const STATES: &str = "How many states are stored at most, 1 to 4294967295 [default: 1000000]";
+
+const SECONDS: &str = "How many seconds the search may take, 1 to 4294967295";
 
 const SETTLED: &str = "Let each node whose first event is to wait for code make it first";
 
-const SESSION: &str = "Write the session of the Kth order, counted from 1";
+const SESSION: &str = "Write the session of the Kth kind of end, counted from 1";
 
-const SHARED_BY: &str = "How many workers share the runs, 1 to 16 [default: 1]";
-
-const PROGRESS: &str = "Print on standard error, each second, how many runs were made";
+const PROGRESS: &str = "Print on standard error, each second, how many states there are";
 
 const CAUSE: &str = "Grey out all but the events on which step K of the node NNN depends";
 
@@ -148,7 +149,8 @@ const FOLD: &str =
 
 const LIMIT: &str = "How many events are kept at most, 1 to 4000000 [default: 1000000]";
 
-const EXPLORED: &str = "How many events the history has at most, 1 to 100000000 [default: 20000000]";
+const EXPLORED: &str =
+    "How many events the history has at most, 1 to 100000000 [default: 20000000]";
 
 const CHIP: &str =
     "Begin on the chip of this file, an image as dump writes it, with the lines of the source";
@@ -198,12 +200,12 @@ fn race_line<'a>(alloc: Global) -> Result<Command<'a>, AllocError> {
 
 fn check_line<'a>(alloc: Global) -> Result<Command<'a>, AllocError> {
     Command::new(alloc, "check")
-        .about("Run every order of the nodes of a program, and show how they end")
-        .after_help(ORDERS)
-        .arg(number_option(alloc, "most", RUNS, u32::MAX).value_name("N"))?
+        .about("Search every order of the nodes of a program, and show its kinds of end")
+        .after_help(ENDS)
+        .arg(number_option(alloc, "most", STATES, u32::MAX).value_name("N"))?
+        .arg(number_option(alloc, "seconds", SECONDS, u32::MAX).value_name("N"))?
         .arg(flag(alloc, "settled", SETTLED))?
         .arg(number_option(alloc, "session", SESSION, u32::MAX).value_name("K"))?
-        .arg(number_option(alloc, "workers", SHARED_BY, MOST_WORKERS).value_name("W"))?
         .arg(flag(alloc, "progress", PROGRESS))?
         .arg(file_argument(alloc, "An image or source"))
 }

@@ -1,5 +1,5 @@
 use Rattle.std.proofs.Common.{◌≡◌}
-use Rattle.ga_parser.specs.Saying.{said_in}
+use Rattle.ga_parser.specs.Words.{said_in}
 use Rattle.ga_asm_text.proofs.Telling.{read_says, made_of_same}
 use Rattle.ga_asm_text.proofs.laws.disassembly_round_trips.Goals as goal
 

@@ -8,8 +8,5 @@ returns-in-Ok c =
     listed_whole c.args.source.now c.in_ok-text-in-Ok.text.items c.as_slice-all.result.now c.in-Ok.assembled
     (ap token_contents c.as_slice-all.ensures.value ∙ c.in_ok-words.ensures.says) c.in-Ok.ensures.assembled
 
-pub faulty_listing-requires-clause-words : goal.faulty_listing-requires-clause-words
-faulty_listing-requires-clause-words c = ap token_contents c.as_slice-all.ensures.value ∙ c.in_ok-words.ensures.says
-
-pub faulty_listing-requires-clause-fault : goal.faulty_listing-requires-clause-fault
-faulty_listing-requires-clause-fault c = c.in-Err.ensures.refused c.args.source.now (ap token_contents c.as_slice-all.ensures.value ∙ c.in_ok-words.ensures.says)
+pub faulty_listing-requires : goal.faulty_listing-requires
+faulty_listing-requires c = c.in-Err.ensures.refused c.args.source.now (ap token_contents c.as_slice-all.ensures.value ∙ c.in_ok-words.ensures.says)

@@ -1,4 +1,4 @@
-use Rattle.std.proofs.Common.{◌≡◌, ◌<◌, length, length-set, set, false, refl, ap, ◌∙◌, arith}
+use Rattle.std.proofs.Common.{◌<◌, length, length-set, set, false, refl, ap, ◌∙◌, arith}
 use Rattle.ga_grid.specs.Chip.{records_of}
 use Rattle.ga_causal.specs.Dependence.{is_marked}
 use Rattle.ga_races.proofs.Freeing.{how_many, one_less}

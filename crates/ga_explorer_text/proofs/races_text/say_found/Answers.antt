@@ -3,7 +3,7 @@ use Rattle.std.specs.Prelude.{flat_map}
 use Rattle.ga_text.proofs.WriteLemmas.{truncated_here, truncated_within}
 use Rattle.ga_race_detector.specs.declared.races.Race.{Race}
 use Rattle.ga_race_detector.specs.declared.readings.LookRace.{LookRace}
-use Rattle.ga_explorer_text.specs.Races.{race_lines_text, reading_text, last_line, listed_text}
+use Rattle.ga_explorer_text.specs.Races.{race_lines_text, reading_text, last_line}
 use Rattle.ga_explorer_text.proofs.Saying.{joined_written}
 use Rattle.ga_explorer_text.proofs.races_text.say_found.Goals as goal
 

@@ -1,4 +1,4 @@
-use Rattle.std.proofs.Common.{rules, ℕ, List, [], ◌++◌, refl, ap, sym, ◌∙◌, arith}
+use Rattle.std.proofs.Common.{rules, ℕ, List, [], ◌++◌, refl, ap, arith}
 use Rattle.std.specs.Prelude.{flat_map}
 use Rattle.ga_text.proofs.WriteLemmas.{truncated_here, truncated_within, written_pending}
 use Rattle.ga_explorer_text.specs.Races.{reading_text}

@@ -1,4 +1,4 @@
-use Rattle.std.proofs.Common.{◌≡◌, ℕ, List, ◌++◌, drop}
+use Rattle.std.proofs.Common.{◌≡◌, ℕ, List, drop}
 use Rattle.std.specs.Prelude.{flat_map}
 use Rattle.ga_text.specs.Output.{IsWritten}
 use Rattle.ga_explorer_text.specs.Races.{reading_text}

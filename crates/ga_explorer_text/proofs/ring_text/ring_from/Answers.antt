@@ -2,8 +2,8 @@ use Rattle.std.proofs.Common.{◌≡◌, ◌-◌, ◌+◌, ◌++◌, ap, ◌∙�
 use Rattle.arrayvec.specs.ArrayVec.{array_vec_len}
 use Rattle.ga_grid.specs.Grid.{number_where_any}
 use Rattle.ga_grid.specs.Chip.{records_of}
-use Rattle.ga_explorer_text.specs.Waiting.{name_text, only_awaited, ring_names, ring_line}
-use Rattle.ga_explorer_text.proofs.Rings.{closed, begun, not_closed, none_left, back, lower, goes_on}
+use Rattle.ga_explorer_text.specs.Waiting.{name_text, only_awaited, ring_names}
+use Rattle.ga_explorer_text.proofs.Rings.{begun, not_closed, none_left, back, lower, goes_on}
 use Rattle.ga_explorer_text.proofs.ring_text.ring_from.Goals as goal
 
 pub ring-init : goal.ring-init

@@ -1,4 +1,4 @@
-use Rattle.std.proofs.Common.{◌≡◌, ◌∙◌, sym}
+use Rattle.std.proofs.Common.{◌∙◌, sym}
 use Rattle.std.proofs.lemmas.List.{drop_all}
 use Rattle.ga_parser.specs.inner.Recovering.{recovery_of}
 use Rattle.ga_parser.proofs.Recovering.{one_taken, none_taken}

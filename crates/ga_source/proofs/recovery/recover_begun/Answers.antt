@@ -1,5 +1,5 @@
-use Rattle.std.proofs.Common.{rules, ℕ, true, ap, refl, set, arith}
-use Rattle.ga_source.proofs.Recovering.{one_begun, two_begun}
+use Rattle.std.proofs.Common.{ℕ, true, ap, refl, set}
+use Rattle.ga_source.proofs.Recovering.{one_begun}
 use Rattle.ga_source.proofs.recovery.recover_begun.Goals as goal
 
 pub returns-clause-faults : goal.returns-clause-faults

@@ -1,4 +1,4 @@
-use Rattle.std.proofs.Common.{◌≡◌, ◌-◌, ℕ, List}
+use Rattle.std.proofs.Common.{◌≡◌, ℕ, List}
 use Rattle.ga_text.specs.Output.{IsWritten}
 use Rattle.ga_lab.specs.Machine.{node_at_step}
 use Rattle.ga_explorer_text.specs.Because.{decisions_text}

@@ -1,0 +1,103 @@
+//! `ga144 check`: the search for the ends of a program, beside a clock that stops it and reports how far it is.
+
+use crate::files::Front;
+use ga_check_report::{CheckBounds, Verdict, check_ends};
+use ga_state_search::SearchWatch;
+use std::sync::atomic::{AtomicBool, Ordering};
+use std::thread::{Threads, join};
+use std::time::{Duration, Instant};
+use std::{io, thread};
+
+/// The maximum number of events of a session.
+const SESSION_LIMIT: u32 = 100_000_000;
+
+/// The number of milliseconds between two looks at the clock.
+const TICK: u64 = 20;
+
+/// The number of looks between two progress lines.
+const TICKS: u64 = 50;
+
+/// How far to search, whether the idle nodes come to rest first, the number of the kind of end whose session is asked for, if it isn't 0, and
+/// whether the progress is reported.
+#[derive(Clone, Copy)]
+pub struct CheckWork {
+    pub bounds: CheckBounds,
+    pub settled: bool,
+    pub asked: u32,
+    pub progress: bool,
+}
+
+/// What comes of a search for the ends of the program that is read. The search is stopped after as many seconds as the bounds have, if it isn't
+/// 0. Without a second thread the clock starts after the search.
+pub fn find_verdict<T: Threads + Sync>(
+    threads: &T,
+    rt: &HostRuntime,
+    work: CheckWork,
+    front: &Front,
+) -> Verdict {
+    let watch = SearchWatch::new();
+    if !work.progress && work.bounds.seconds == 0 {
+        return search(rt, work, front, &watch);
+    }
+    let is_done = AtomicBool::new(false);
+    let (verdict, _told) = join(
+        threads,
+        || {
+            let verdict = search(rt, work, front, &watch);
+            is_done.store(true, Ordering::SeqCst);
+            verdict
+        },
+        || attend(rt, work, &watch, &is_done),
+    );
+    verdict
+}
+
+/// Tells the ends of the program that is read.
+fn search(rt: &HostRuntime, work: CheckWork, front: &Front, watch: &SearchWatch) -> Verdict {
+    let mut reader = front.reader(rt);
+    let (mut writer, mut errors) = (rt.stdout(), rt.stderr());
+    check_ends(
+        rt.alloc(),
+        &mut reader,
+        &mut writer,
+        &mut errors,
+        work.bounds,
+        SESSION_LIMIT,
+        work.settled,
+        work.asked,
+        watch,
+    )
+}
+
+/// Looks at the clock until the search is done: stops it when its time is over, and reports each second how many states there are, if it is to.
+fn attend(rt: &HostRuntime, work: CheckWork, watch: &SearchWatch, is_done: &AtomicBool) {
+    let begun = Instant::now(rt);
+    for tick in 1..u64::MAX {
+        thread::sleep(rt, Duration::from_millis(TICK));
+        if is_done.load(Ordering::SeqCst) {
+            return;
+        }
+        if is_over(rt, work.bounds, &begun, tick) {
+            watch.is_stopped.store(true, Ordering::SeqCst);
+        }
+        let states = watch.states.load(Ordering::SeqCst);
+        if work.progress && tick % TICKS == 0 && states > 0 {
+            let _ = eprintln!(rt; "ga144: {states} states so far");
+        }
+    }
+}
+
+/// Whether the search has taken its time: by the clock, or, if there is none, by the number of looks.
+fn is_over(rt: &HostRuntime, bounds: CheckBounds, begun: &io::Result<Instant>, tick: u64) -> bool {
+    let limit = u64::from(bounds.seconds);
+    if limit == 0 {
+        return false;
+    }
+    match begun {
+        Ok(begun) => match begun.elapsed(rt) {
+            Ok(passed) => passed.as_secs() >= limit,
+            Err(_) => tick / TICKS >= limit,
+        },
+        Err(_) => tick / TICKS >= limit,
+    }
+}

@@ -1,0 +1,107 @@
+-- Events that lead a machine to an end.
+use Rattle.std.proofs.Common.{◌≡◌, ◌⊎◌, inl, inr, ℕ, ◌+◌, ◌-◌, ◌<◌, List, [], ◌∷◌, ◌++◌, Option, Some, None, Ok, Err, Result, length, get_or, take, drop, refl, sym, ap, ◌∙◌, subst, append_assoc, append-nil, arith}
+use Rattle.std.specs.Prelude.{slice_get, unwrap_or, IsSome, IsOk, OnOk}
+use Rattle.std.proofs.lemmas.Option.{slice_get-get_or}
+use Rattle.std.proofs.lemmas.List.{drop_more, take_more}
+use Rattle.ga_node.specs.Record.{NodeRecord}
+use Rattle.ga_grid.specs.declared.node_id.NodeId.{NodeId}
+use Rattle.ga_event.specs.declared.event.Event.{Event}
+use Rattle.ga_event.specs.declared.made.Made.{Made}
+use Rattle.ga_event.specs.Apply.{refusal_of, after, replay}
+use Rattle.ga_event.specs.Next.{next}
+use Rattle.ga_races.proofs.Exact.{replay_into}
+use Rattle.ga_races.proofs.Independence.{replay_more}
+use Rattle.ga_lab.specs.declared.fault.LabFault.{LabFault}
+use Rattle.ga_lab.specs.Machine.{State, chip_of, step_answer, stepped, with_event, unless_refused}
+use Rattle.ga_lab.specs.declared.fault.LabFault.TheVariants.{Memory}
+use Rattle.ga_lab.proofs.Forward.{applied}
+use Rattle.ga_state_ends.specs.Ends.{EndsFound, AreEnds}
+use Rattle.ga_state_ends.specs.declared.end_kind.EndKind.{EndKind}
+use Rattle.ga_check_report.specs.Checking.{HasMade, IsLedTo}
+
+-- ---- one event
+
+pub stepped_is : (s : State) (n : NodeId) (m : Made) (e : Event) → step_answer s n ≡ Ok m → next (chip_of s) n ≡ Ok e → stepped s n ≡ with_event s (Ok e)
+stepped_is s n m e answer is =
+    ap (λ (a : Result Made LabFault). unless_refused s a (with_event s (next (chip_of s) n))) answer ∙ ap (with_event s) is
+
+pub answer_of : (s : State) (n : NodeId) (m : Made) → (Ok m ≡ step_answer s n) ⊎ ((Ok m ≡ Err Memory) × IsOk (step_answer s n)) → step_answer s n ≡ Ok m
+answer_of s n m (inl q) = sym q
+answer_of s n m (inr (q, k)) = absurd (cc)
+
+pub chip_after : (s : State) (e : Event) → replay s.load s.kept ≡ Some (chip_of s) → refusal_of (chip_of s) e ≡ None
+    → chip_of (with_event s (Ok e)) ≡ (after (chip_of s) e).0
+chip_after s e runs can =
+    ap (λ (o : Option (List NodeRecord)). unwrap_or o []) (replay_into s.kept (e ∷ []) s.load (chip_of s) runs ∙ replay_more (chip_of s) e [] can)
+
+-- ---- several events
+
+pub made_none : (s : State) → HasMade s [] s
+made_none s = record { load = refl; limit = refl; kept = sym (append-nil s.kept) }
+
+pub made_more : (s t u : State) (events : List Event) (e : Event) → HasMade s events t → u ≡ with_event t (Ok e) → HasMade s (events ++ e ∷ []) u
+made_more s t u events e p is = record {
+  load = ap (λ (z : State). z.load) is ∙ p.load;
+  limit = ap (λ (z : State). z.limit) is ∙ p.limit;
+  kept = ap (λ (z : State). z.kept) is ∙ ap (λ (z : List Event). z ++ e ∷ []) p.kept ∙ append_assoc s.kept events (e ∷ []);
+}
+
+-- the next event of a list of which the first ones were made can be made
+pub next_can : (s : State) (chip : List NodeRecord) (events : List Event) (place : ℕ) (default : Event) → place < length events
+    → IsSome (replay chip events) → replay (chip_of s) (drop place events) ≡ replay chip events → refusal_of (chip_of s) (get_or events place default) ≡ None
+next_can s chip events place default within some rest =
+    let here : replay chip events ≡ replay (chip_of s) (get_or events place default ∷ drop (place + 1) events) =
+    sym rest ∙ ap (replay (chip_of s)) (drop_more events place default within) in
+    (applied (chip_of s) (get_or events place default) (drop (place + 1) events) (subst (λ (o : Option (List NodeRecord)). IsSome o) here some)).can
+
+pub next_rest : (s t : State) (chip : List NodeRecord) (events : List Event) (place : ℕ) (default : Event) → place < length events
+    → refusal_of (chip_of s) (get_or events place default) ≡ None → chip_of t ≡ (after (chip_of s) (get_or events place default)).0
+    → replay (chip_of s) (drop place events) ≡ replay chip events → replay (chip_of t) (drop (place + 1) events) ≡ replay chip events
+next_rest s t chip events place default within can is rest =
+    ap (λ (c : List NodeRecord). replay c (drop (place + 1) events)) is
+    ∙ sym (replay_more (chip_of s) (get_or events place default) (drop (place + 1) events) can)
+    ∙ sym (ap (replay (chip_of s)) (drop_more events place default within))
+    ∙ rest
+
+pub next_made : (s t u : State) (events : List Event) (place : ℕ) (default : Event) → place < length events → HasMade s (take place events) t
+    → u ≡ with_event t (Ok (get_or events place default)) → HasMade s (take (place + 1) events) u
+next_made s t u events place default within made is =
+    subst (λ (z : List Event). HasMade s z u) (sym (take_more events place default within))
+    (made_more s t u (take place events) (get_or events place default) made is)
+
+-- ---- the state of a kind of end
+
+pub state_within : (load : List NodeRecord) (found : EndsFound) (number : ℕ) (kind : EndKind) → AreEnds load found → slice_get found.kinds number ≡ Some kind
+    → kind.state < length found.searched.chips
+state_within load found number kind ends listed =
+    let first = ends.are_kinds.first number kind listed in
+    let within = (ends.stored first.0 _ first.1).within in
+    let size = ends.is_search.explored_size in omega (arith, within, size)
+
+pub led_to : (s t : State) (found : EndsFound) (asked : ℕ) (kind : EndKind) (events : List Event) → AreEnds (chip_of s) found
+    → slice_get found.kinds (asked - 1) ≡ Some kind
+    → ((load chip : List NodeRecord) → slice_get found.searched.chips 0 ≡ Some load → slice_get found.searched.chips kind.state ≡ Some chip → replay load events ≡ Some chip)
+    → HasMade s events t → replay (chip_of s) events ≡ Some (chip_of t) → IsLedTo found asked s t
+led_to s t found asked kind events ends numbered leads made there =
+    let chip : List NodeRecord = get_or found.searched.chips kind.state [] in
+    let at : slice_get found.searched.chips kind.state ≡ Some chip =
+    slice_get-get_or found.searched.chips kind.state [] (state_within (chip_of s) found (asked - 1) kind ends numbered) in record {
+      kind = kind;
+      numbered = numbered;
+      events = events;
+      made = made;
+      there = at ∙ sym (leads (chip_of s) chip ends.initial at) ∙ there;
+    }
+
+-- the events to the state of a kind of end can be made
+pub path_can : (s : State) (found : EndsFound) (number : ℕ) (kind : EndKind) (events : List Event) → AreEnds (chip_of s) found
+    → slice_get found.kinds number ≡ Some kind
+    → ((load chip : List NodeRecord) → slice_get found.searched.chips 0 ≡ Some load → slice_get found.searched.chips kind.state ≡ Some chip → replay load events ≡ Some chip)
+    → replay (chip_of s) events ≡ Some (get_or found.searched.chips kind.state [])
+path_can s found number kind events ends numbered leads =
+    leads (chip_of s) (get_or found.searched.chips kind.state []) ends.initial
+    (slice_get-get_or found.searched.chips kind.state [] (state_within (chip_of s) found number kind ends numbered))
+
+pub on_both : {T E A B C : Type 0} (r : Result T E) → (A → B → C) → OnOk r A → OnOk r B → OnOk r C
+on_both (Ok x) f a b = f a b
+on_both (Err e) f a b = tt

@@ -1,0 +1,4 @@
+pub mod EndsOut
+pub mod Leading
+pub mod Resting
+pub mod Telling

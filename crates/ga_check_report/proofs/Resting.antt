@@ -1,0 +1,72 @@
+-- A machine that has come to rest keeps some events more.
+use Rattle.std.proofs.Common.{◌≡◌, ◌∙◌, ℕ, zero, suc, Bool, true, false, cond, List, [], ◌∷◌, ◌++◌, Option, Some, None, Result, Ok, Err, refl, sym, ap, ap₂, append_assoc, append-nil}
+use Rattle.std.specs.Prelude.{unwrap_or}
+use Rattle.ga_node.specs.Record.{NodeRecord}
+use Rattle.ga_node.specs.declared.kind.NotReady.{NotReady}
+use Rattle.ga_grid.specs.declared.node_id.NodeId.{NodeId}
+use Rattle.ga_grid.specs.Grid.{node_id}
+use Rattle.ga_grid.specs.Chip.{record_at}
+use Rattle.ga_event.specs.declared.event.Event.{Event}
+use Rattle.ga_event.specs.declared.made.Made.{Made}
+use Rattle.ga_event.specs.Apply.{refusal_of, after, replay}
+use Rattle.ga_event.specs.Next.{next}
+use Rattle.ga_event.proofs.Nexts.{next_can}
+use Rattle.ga_races.proofs.Exact.{replay_into}
+use Rattle.ga_races.proofs.Independence.{replay_more}
+use Rattle.ga_lab.specs.declared.fault.LabFault.{LabFault}
+use Rattle.ga_lab.specs.Machine.{State, chip_of, step_answer, stepped, with_event, unless_refused}
+use Rattle.ga_check_report.specs.Checking.{HasMade}
+use Rattle.ga_check_report.specs.Settled.{fetches_from_ports, settled_at, settled_below, settled}
+
+record IsLater (s t : State) : Type 0 where
+  events : List Event
+  made : HasMade s events t
+  runs : replay t.load t.kept ≡ Some (chip_of t)
+
+itself : (s : State) → replay s.load s.kept ≡ Some (chip_of s) → IsLater s s
+itself s runs = record { events = []; made = record { load = refl; limit = refl; kept = sym (append-nil s.kept) }; runs = runs }
+
+after_event : (s t : State) (e : Event) → IsLater s t → refusal_of (chip_of t) e ≡ None → IsLater s (with_event t (Ok e))
+after_event s t e l can =
+    let more : replay t.load (t.kept ++ e ∷ []) ≡ Some (after (chip_of t) e).0 =
+    replay_into t.kept (e ∷ []) t.load (chip_of t) l.runs ∙ replay_more (chip_of t) e [] can in
+    record {
+      events = l.events ++ e ∷ [];
+      made = record {
+        load = l.made.load;
+        limit = l.made.limit;
+        kept = ap (λ (es : List Event). es ++ e ∷ []) l.made.kept ∙ append_assoc s.kept l.events (e ∷ []);
+      };
+      runs = more ∙ ap Some (sym (ap (λ (o : Option (List NodeRecord)). unwrap_or o []) more));
+    }
+
+after_step : (s t : State) (n : NodeId) → IsLater s t → IsLater s (stepped t n)
+after_step s t n l = go (next (chip_of t) n) refl (step_answer t n)
+  where
+    go : (x : Result Event NotReady) → next (chip_of t) n ≡ x → (a : Result Made LabFault) → IsLater s (unless_refused t a (with_event t x))
+    go x is (Err why) = l
+    go (Err why) is (Ok m) = l
+    go (Ok e) is (Ok m) = after_event s t e l (next_can (chip_of t) n e is)
+
+after_settling : (s t : State) (n : NodeId) → IsLater s t → IsLater s (settled_at t n)
+after_settling s t n l = go (fetches_from_ports (record_at (chip_of t) n.number))
+  where
+    go : (b : Bool) → IsLater s (cond b (stepped t n) t)
+    go true = after_step s t n l
+    go false = l
+
+after_all_below : (s : State) (n : ℕ) → replay s.load s.kept ≡ Some (chip_of s) → IsLater s (settled_below s n)
+after_all_below s zero runs = itself s runs
+after_all_below s (suc n) runs = after_settling s (settled_below s n) (node_id n) (after_all_below s n runs)
+
+later : (s : State) → replay s.load s.kept ≡ Some (chip_of s) → IsLater s (settled s)
+unfolding settled
+later s runs = after_all_below s 144 runs
+
+pub behind_waits : (s : State) → replay s.load s.kept ≡ Some (chip_of s) → (waits : List Event) × HasMade s waits (settled s)
+    × ((events : List Event) → replay (chip_of (settled s)) events ≡ replay (chip_of s) (waits ++ events))
+behind_waits s runs =
+    let l = later s runs in
+    let led : replay (chip_of s) l.events ≡ Some (chip_of (settled s)) =
+    sym (replay_into s.kept l.events s.load (chip_of s) runs) ∙ ap₂ replay (sym l.made.load) (sym l.made.kept) ∙ l.runs in
+    (l.events, l.made, λ events. sym (replay_into l.events events (chip_of s) (chip_of (settled s)) led))

@@ -1,0 +1,86 @@
+-- What a verdict says of what was found.
+use Rattle.std.proofs.Common.{◌≡◌, inl, inr, ℕ, Bool, true, false, cond, List, Option, Some, None, refl}
+use Rattle.std.specs.List.{list_any}
+use Rattle.ga_lab.specs.Machine.{State, chip_of}
+use Rattle.ga_explorer_text.specs.Saved.{saved_text}
+use Rattle.ga_console.specs.declared.run.Status.TheVariants.{ImageRefused}
+use Rattle.ga_state_search.specs.declared.fault.SearchFault.{SearchFault}
+use Rattle.ga_state_ends.specs.Ends.{EndsFound, AreEnds}
+use Rattle.ga_check_report.specs.EndTexts.{ends_text, is_whole}
+use Rattle.ga_check_report.specs.Checking.{is_unclean, IsLedTo, TellsEnds}
+use Rattle.ga_check_report.specs.Checking.TellsEnds.{all, none, led, no_memory, too_long}
+use Rattle.ga_check_report.specs.declared.ends_text.CheckBounds.{CheckBounds}
+use Rattle.ga_check_report.specs.declared.report.Verdict.TheVariants.{Clean, Unclean, Unknown, Saved, Ended}
+
+clean_by : (unclean whole : Bool) → Clean ≡ cond unclean Unclean (cond whole Clean Unknown) → (unclean ≡ false) × (whole ≡ true)
+clean_by true whole is = absurd (cc)
+clean_by false true is = (refl, refl)
+clean_by false false is = absurd (cc)
+
+unclean_by : (unclean whole : Bool) → Unclean ≡ cond unclean Unclean (cond whole Clean Unknown) → unclean ≡ true
+unclean_by true whole is = refl
+unclean_by false true is = absurd (cc)
+unclean_by false false is = absurd (cc)
+
+saved_by : (unclean whole : Bool) → Saved ≡ cond unclean Unclean (cond whole Clean Unknown) → ⊥
+saved_by true whole is = cc
+saved_by false true is = cc
+saved_by false false is = cc
+
+whole_is : (fault : Option SearchFault) → is_whole fault ≡ true → fault ≡ None
+whole_is None h = refl
+whole_is (Some fault) h = absurd (cc)
+
+clean_not_none : (whole : Bool) → Clean ≡ cond whole (Ended ImageRefused) Unknown → ⊥
+clean_not_none true is = cc
+clean_not_none false is = cc
+
+unclean_not_none : (whole : Bool) → Unclean ≡ cond whole (Ended ImageRefused) Unknown → ⊥
+unclean_not_none true is = cc
+unclean_not_none false is = cc
+
+saved_not_none : (whole : Bool) → Saved ≡ cond whole (Ended ImageRefused) Unknown → ⊥
+saved_not_none true is = cc
+saved_not_none false is = cc
+
+pub clean_told : (bounds : CheckBounds) (asked : ℕ) (s : State) (text : List ℕ) → TellsEnds bounds asked s text Clean
+    → (found : EndsFound) × AreEnds (chip_of s) found × (found.fault ≡ None) × (list_any is_unclean found.kinds ≡ false) × (text ≡ ends_text bounds found)
+clean_told bounds asked s text (all found ends zero (inl out)) =
+    let parts = clean_by (list_any is_unclean found.kinds) (is_whole found.fault) out.1 in
+    (found, ends, whole_is found.fault parts.1, parts.0, out.0)
+clean_told bounds asked s text (all found ends zero (inr out)) = absurd (let q = out.1 in cc)
+clean_told bounds asked s text (none found ends past (inl out)) = absurd (clean_not_none (is_whole found.fault) out.1)
+clean_told bounds asked s text (none found ends past (inr out)) = absurd (let q = out.1 in cc)
+clean_told bounds asked s text (led found last ends there (inl out)) = absurd (let q = out.1 in cc)
+clean_told bounds asked s text (led found last ends there (inr out)) = absurd (let q = out.1 in cc)
+clean_told bounds asked s text (no_memory (inl out)) = absurd (let q = out.1 in cc)
+clean_told bounds asked s text (no_memory (inr out)) = absurd (let q = out.1 in cc)
+clean_told bounds asked s text (too_long some (inl out)) = absurd (let q = out.1 in cc)
+clean_told bounds asked s text (too_long some (inr out)) = absurd (let q = out.1 in cc)
+
+pub unclean_told : (bounds : CheckBounds) (asked : ℕ) (s : State) (text : List ℕ) → TellsEnds bounds asked s text Unclean
+    → (found : EndsFound) × AreEnds (chip_of s) found × (list_any is_unclean found.kinds ≡ true) × (text ≡ ends_text bounds found)
+unclean_told bounds asked s text (all found ends zero (inl out)) =
+    (found, ends, unclean_by (list_any is_unclean found.kinds) (is_whole found.fault) out.1, out.0)
+unclean_told bounds asked s text (all found ends zero (inr out)) = absurd (let q = out.1 in cc)
+unclean_told bounds asked s text (none found ends past (inl out)) = absurd (unclean_not_none (is_whole found.fault) out.1)
+unclean_told bounds asked s text (none found ends past (inr out)) = absurd (let q = out.1 in cc)
+unclean_told bounds asked s text (led found last ends there (inl out)) = absurd (let q = out.1 in cc)
+unclean_told bounds asked s text (led found last ends there (inr out)) = absurd (let q = out.1 in cc)
+unclean_told bounds asked s text (no_memory (inl out)) = absurd (let q = out.1 in cc)
+unclean_told bounds asked s text (no_memory (inr out)) = absurd (let q = out.1 in cc)
+unclean_told bounds asked s text (too_long some (inl out)) = absurd (let q = out.1 in cc)
+unclean_told bounds asked s text (too_long some (inr out)) = absurd (let q = out.1 in cc)
+
+pub session_told : (bounds : CheckBounds) (asked : ℕ) (s : State) (text : List ℕ) → TellsEnds bounds asked s text Saved
+    → (found : EndsFound) × (last : State) × AreEnds (chip_of s) found × IsLedTo found asked s last × (text ≡ saved_text last)
+session_told bounds asked s text (all found ends zero (inl out)) = absurd (saved_by (list_any is_unclean found.kinds) (is_whole found.fault) out.1)
+session_told bounds asked s text (all found ends zero (inr out)) = absurd (let q = out.1 in cc)
+session_told bounds asked s text (none found ends past (inl out)) = absurd (saved_not_none (is_whole found.fault) out.1)
+session_told bounds asked s text (none found ends past (inr out)) = absurd (let q = out.1 in cc)
+session_told bounds asked s text (led found last ends there (inl out)) = (found, last, ends, there, out.0)
+session_told bounds asked s text (led found last ends there (inr out)) = absurd (let q = out.1 in cc)
+session_told bounds asked s text (no_memory (inl out)) = absurd (let q = out.1 in cc)
+session_told bounds asked s text (no_memory (inr out)) = absurd (let q = out.1 in cc)
+session_told bounds asked s text (too_long some (inl out)) = absurd (let q = out.1 in cc)
+session_told bounds asked s text (too_long some (inr out)) = absurd (let q = out.1 in cc)

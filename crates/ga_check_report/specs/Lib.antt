@@ -1,0 +1,3 @@
+pub mod EndTexts
+pub mod Settled
+pub mod Checking

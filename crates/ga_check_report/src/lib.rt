@@ -1,0 +1,13 @@
+//! The ends of a program, whatever the order in which its nodes run: their kinds as text, the session that leads to each, and what a reader
+//! may rely on.
+#![tactic(auto)]
+
+mod end_nodes;
+mod ends_text;
+pub mod laws;
+mod making;
+mod report;
+mod settling;
+
+pub use ends_text::CheckBounds;
+pub use report::{Verdict, check_ends};

@@ -1,0 +1,53 @@
+//! Events of a list, made on a lab.
+
+ghost use Rattle.std.specs.Prelude.{◌≡◌, ◌⊎◌, None, Some, Ok, IsSome, OnOk, IfErr};
+ghost use Rattle.ga_event.specs.Apply.{refusal_of, after, replay};
+ghost use Rattle.ga_lab.specs.Machine.{chip_of, with_event, actor_of};
+ghost use Rattle.ga_lab.specs.declared.fault.LabFault.TheVariants.{Memory, Full};
+ghost use Rattle.ga_check_report.specs.Checking.{HasMade};
+
+use ga_event::Event;
+use ga_grid::NodeId;
+use ga_lab::{Lab, LabFault};
+
+/// Makes the events one after another.
+///
+/// # Errors
+/// [`LabFault::Full`] or [`LabFault::Memory`]; some of the events may be kept then.
+pub(crate) fn make_all(lab: &mut Lab, events: &[Event]) -> Result<(), LabFault>
+    requires { IsSome (replay (chip_of lab.old) events.now) }
+    ensures made { OnOk result (HasMade lab.old events.now lab.new) }
+    ensures there { OnOk result (replay (chip_of lab.old) events.now ≡ Some (chip_of lab.new)) }
+    ensures faults { IfErr result (λ why. (why ≡ Full) ⊎ (why ≡ Memory)) }
+{
+    'events: for place in 0..events.len() {
+        make(lab, events[place])?;
+    }
+    Ok(())
+}
+
+/// Makes an enabled event. A lab that can count no further event is out of memory.
+fn make(lab: &mut Lab, event: Event) -> Result<(), LabFault>
+    requires { refusal_of (chip_of lab.old) event ≡ None }
+    ensures made { OnOk result (lab.new ≡ with_event lab.old (Ok event)) }
+    ensures chip { OnOk result (chip_of lab.new ≡ (after (chip_of lab.old) event).0) }
+    ensures faults { IfErr result (λ why. (why ≡ Full) ⊎ (why ≡ Memory)) }
+{
+    // So the kept events can be replayed.
+    let _chip = lab.chip();
+    match lab.step(actor_of(event)) {
+        Ok(_) => Ok(()),
+        Err(LabFault::Full) => Err(LabFault::Full),
+        Err(_) => Err(LabFault::Memory),
+    }
+}
+
+/// The node whose step makes the event: of a pass the writer.
+fn actor_of(event: Event) -> NodeId
+    ensures { result ≡ actor_of event }
+{
+    match event {
+        Event::Own(node) => node,
+        Event::Pass { writer, .. } => writer,
+    }
+}

@@ -1,0 +1,282 @@
+//! The ends of a program, and what is told of them.
+
+ghost use Rattle.std.specs.Prelude.{◌≡◌, ◌≤◌, ◌<◌, ◌⊎◌, ◌++◌, true, false, Some, length, OnOk, IfErr};
+ghost use Rattle.std.specs.List.{list_any};
+ghost use Rattle.ga_text.specs.Lines.{Bytes};
+ghost use Rattle.ga_text.specs.Output.{IsWrittenOrTruncated, IsSameStream, WritesText, ReadsAndWrites};
+ghost use Rattle.ga_lab.specs.Machine.{chip_of};
+ghost use Rattle.ga_display.specs.Texts.{refusal_text};
+ghost use Rattle.ga_explorer_text.specs.Saved.{saved_text};
+ghost use Rattle.ga_console.specs.declared.run.Status.TheVariants.{ImageRefused};
+ghost use Rattle.ga_state_ends.specs.Ends.{AreEnds};
+ghost use Rattle.ga_lab.specs.declared.fault.LabFault.TheVariants.{Memory, Full};
+ghost use Rattle.ga_check_report.specs.declared.ends_text.CheckBounds.{CheckBounds};
+ghost use Rattle.ga_check_report.specs.Settled.{begun_from};
+ghost use Rattle.ga_check_report.specs.EndTexts.{ends_text, no_kind_text};
+ghost use Rattle.ga_check_report.specs.Checking.{TellsEnds, ChecksEnds, IsTextOut, IsLedTo, is_set, is_unclean, verdict_of, no_kind_verdict};
+ghost use Rattle.ga_check_report.specs.declared.report.Verdict.TheVariants.{Saved, Ended};
+
+use crate::ends_text::{CheckBounds, is_whole, write_ends, write_no_kind};
+use crate::making::make_all;
+use crate::settling::settle;
+use ga_console::Status;
+use ga_display::refusal_text;
+use ga_explorer::open_lab;
+use ga_explorer_text::write_save;
+use ga_lab::{Lab, LabFault};
+use ga_state_ends::{EndKind, FoundEnds, find_ends};
+use ga_state_search::SearchWatch;
+use ga_text::{Input, WriteResult, Writer};
+use std::alloc::Global;
+use std::io::{Read, Write};
+
+/// What came of the search for the ends of a program.
+#[derive(Clone, Copy, PartialEq, Eq, Debug)]
+pub enum Verdict {
+    /// At each end each node goes on or rests cleanly.
+    Clean,
+    /// At some end a node makes no further step and doesn't rest cleanly.
+    Unclean,
+    /// A bound was met, and each end that was found is clean, or the kind that was asked for wasn't found.
+    Unknown,
+    /// The session of a kind of end was written.
+    Saved,
+    /// No ends were told, or a write failed.
+    Ended(Status),
+}
+
+/// Reads an image or source, as `explore` does, and nothing after its line `end`. Writes the kinds of its ends, whatever the order in which its
+/// nodes run; or, if a kind is asked for by its number, from 1 on, the lines `step NNN` that lead to the first of its ends. Stores at most
+/// `bounds.most` states; a session has at most `limit` events. With `settles` each node whose first event is to wait for code makes it
+/// before all else, in the order of their numbers, as on a real chip; a session has these steps first. The fault of a source is written to
+/// `errors`, a refused image and want of memory to `writer`. While it searches, `watch` has the number of states, and stops it.
+pub fn check_ends<R: Read, W: Write, E: Write>(
+    alloc: Global,
+    reader: &mut R,
+    writer: &mut W,
+    errors: &mut E,
+    bounds: CheckBounds,
+    limit: u32,
+    settles: bool,
+    asked: u32,
+    watch: &SearchWatch,
+) -> Verdict
+    // Where the streams tell their bytes: what was read, and what was written for it by the verdict.
+    ensures { ReadsAndWrites (λ read rest text. ChecksEnds bounds limit settles asked read rest text result)
+        (R.remaining reader.old) (R.remaining reader.new) (W.contents writer.old) (W.contents writer.new) }
+{
+    let mut input = Input::new();
+    match open_lab(alloc, &mut input, reader, writer, errors, None, limit) {
+        Ok(begun) => tell_settled(
+            alloc,
+            &mut begun.into_lab(),
+            bounds,
+            settles,
+            asked,
+            watch,
+            writer,
+        ),
+        Err(status) => Verdict::Ended(status),
+    }
+}
+
+/// Tells the ends of a lab's chip, or the session of one, once it has come to rest if it is to.
+fn tell_settled<W: Write>(
+    alloc: Global,
+    lab: &mut Lab,
+    bounds: CheckBounds,
+    settles: bool,
+    asked: u32,
+    watch: &SearchWatch,
+    writer: &mut W,
+) -> Verdict
+    ensures { WritesText (λ text. TellsEnds bounds asked (begun_from settles lab.old) text result)
+        (W.contents writer.old) (W.contents writer.new) }
+{
+    match settle(lab, settles) {
+        Ok(()) => tell_ends(alloc, lab, bounds, asked, watch, writer),
+        Err(_) => tell_refused(LabFault::Memory, writer),
+    }
+}
+
+/// Tells the ends of a lab's chip, or the session of one.
+fn tell_ends<W: Write>(
+    alloc: Global,
+    lab: &mut Lab,
+    bounds: CheckBounds,
+    asked: u32,
+    watch: &SearchWatch,
+    writer: &mut W,
+) -> Verdict
+    ensures { WritesText (λ text. TellsEnds bounds asked lab.old text result) (W.contents writer.old) (W.contents writer.new) }
+{
+    match find_ends(alloc, lab.chip(), bounds.most, watch) {
+        Ok(found) => tell_found(alloc, lab, &found, bounds, asked, writer),
+        Err(_) => tell_refused(LabFault::Memory, writer),
+    }
+}
+
+/// Tells the ends that were found, or the session of one.
+fn tell_found<W: Write>(
+    alloc: Global,
+    lab: &mut Lab,
+    found: &FoundEnds,
+    bounds: CheckBounds,
+    asked: u32,
+    writer: &mut W,
+) -> Verdict
+    requires { AreEnds (chip_of lab.old) found.now }
+    ensures { WritesText (λ text. TellsEnds bounds asked lab.old text result) (W.contents writer.old) (W.contents writer.new) }
+{
+    if asked == 0 {
+        tell_all(bounds, found, writer)
+    } else if has_kind(found, asked) {
+        tell_session(alloc, lab, found, asked, writer)
+    } else {
+        tell_none(asked, found, writer)
+    }
+}
+
+/// Whether a kind of end has this number.
+fn has_kind(found: &FoundEnds, asked: u32) -> bool
+    ensures there { result ≡ true → asked ≤ length found.now.kinds }
+    ensures missing { result ≡ false → length found.now.kinds < asked }
+{
+    asked as usize <= found.kinds().len()
+}
+
+/// Tells the session of the kind of end that has this number.
+fn tell_session<W: Write>(
+    alloc: Global,
+    lab: &mut Lab,
+    found: &FoundEnds,
+    asked: u32,
+    writer: &mut W,
+) -> Verdict
+    requires asked { 1 ≤ asked }
+    requires within { asked ≤ length found.now.kinds }
+    requires ends { AreEnds (chip_of lab.old) found.now }
+    ensures { WritesText (λ text. (bounds : CheckBounds) → TellsEnds bounds asked lab.old text result)
+        (W.contents writer.old) (W.contents writer.new) }
+{
+    match lead_to(alloc, lab, found, asked) {
+        Ok(()) => tell_saved(lab, writer),
+        Err(LabFault::Full) => tell_refused(LabFault::Full, writer),
+        Err(_) => tell_refused(LabFault::Memory, writer),
+    }
+}
+
+/// Makes the events that lead to the first end of the kind that has this number.
+///
+/// # Errors
+/// [`LabFault::Full`] or [`LabFault::Memory`]; some of the events may be kept then.
+fn lead_to(alloc: Global, lab: &mut Lab, found: &FoundEnds, asked: u32) -> Result<(), LabFault>
+    requires asked { 1 ≤ asked }
+    requires within { asked ≤ length found.now.kinds }
+    requires ends { AreEnds (chip_of lab.old) found.now }
+    ensures led { OnOk result (IsLedTo found.now asked lab.old lab.new) }
+    ensures faults { IfErr result (λ why. (why ≡ Full) ⊎ (why ≡ Memory)) }
+{
+    match found.path_to(alloc, found.kinds()[asked as usize - 1].state) {
+        Ok(events) => make_all(lab, events.as_slice()),
+        Err(_) => Err(LabFault::Memory),
+    }
+}
+
+/// Tells the kinds of end.
+fn tell_all<W: Write>(bounds: CheckBounds, found: &FoundEnds, writer: &mut W) -> Verdict
+    ensures { WritesText (λ text. IsTextOut (ends_text bounds found.now) (verdict_of found.now) text result)
+        (W.contents writer.old) (W.contents writer.new) }
+{
+    let mut out = Writer::new(writer);
+    let said = write_ends(bounds, found, &mut out);
+    sent(said, verdict_of(found), &mut out)
+}
+
+/// Tells that there is no kind of end of this number.
+fn tell_none<W: Write>(asked: u32, found: &FoundEnds, writer: &mut W) -> Verdict
+    ensures { WritesText (λ text. IsTextOut (no_kind_text asked found.now) (no_kind_verdict found.now) text result)
+        (W.contents writer.old) (W.contents writer.new) }
+{
+    let mut out = Writer::new(writer);
+    let said = write_no_kind(asked, found, &mut out);
+    sent(said, no_kind_verdict(found), &mut out)
+}
+
+/// Tells the session that leads to the present state of a lab.
+fn tell_saved<W: Write>(lab: &Lab, writer: &mut W) -> Verdict
+    ensures { WritesText (λ text. IsTextOut (saved_text lab.now) Saved text result) (W.contents writer.old) (W.contents writer.new) }
+{
+    let mut out = Writer::new(writer);
+    let said = write_save(lab, &mut out);
+    sent(said, Verdict::Saved, &mut out)
+}
+
+/// Tells why nothing else is told.
+fn tell_refused<W: Write>(fault: LabFault, writer: &mut W) -> Verdict
+    ensures { WritesText (λ text. IsTextOut (refusal_text fault) (Ended ImageRefused) text result)
+        (W.contents writer.old) (W.contents writer.new) }
+{
+    let mut out = Writer::new(writer);
+    let said = out.write_text(refusal_text(fault));
+    sent(said, Verdict::Ended(Status::ImageRefused), &mut out)
+}
+
+/// Writes what is pending, and answers a verdict, or that a write failed.
+fn sent<W: Write>(said: WriteResult, verdict: Verdict, writer: &mut Writer<'_, W>) -> Verdict
+    ensures same { IsSameStream writer.old writer.new }
+    ensures written { (before whole : Bytes) → IsWrittenOrTruncated said (W.contents writer.old.stream.now) before whole writer.old.pending.items →
+        (text : Bytes) × (W.contents writer.new.stream.now ≡ Some (before ++ text)) × IsTextOut whole verdict text result }
+{
+    match said {
+        Ok(()) => match writer.flush() {
+            Ok(()) => verdict,
+            Err(_) => Verdict::Ended(Status::StreamFault),
+        },
+        Err(_) => Verdict::Ended(Status::StreamFault),
+    }
+}
+
+/// Whether an end that isn't clean was found, or there is none, or there may be others.
+fn verdict_of(found: &FoundEnds) -> Verdict
+    ensures { result ≡ verdict_of found.now }
+{
+    if has_unclean(found.kinds()) {
+        Verdict::Unclean
+    } else if is_whole(found) {
+        Verdict::Clean
+    } else {
+        Verdict::Unknown
+    }
+}
+
+/// Whether one of these kinds isn't clean.
+fn has_unclean(kinds: &[EndKind]) -> bool
+    ensures { result ≡ list_any is_unclean kinds.now }
+{
+    kinds.iter().any(|kind| is_unclean(kind))
+}
+
+/// Whether some node doesn't rest cleanly at an end of this kind.
+fn is_unclean(kind: &EndKind) -> bool
+    ensures { result ≡ is_unclean kind.now }
+{
+    kind.unclean.iter().any(|mark| is_set(*mark))
+}
+
+fn is_set(mark: bool) -> bool
+    ensures { result ≡ is_set mark }
+{
+    mark
+}
+
+/// The verdict where no kind of end has the number that is asked for.
+fn no_kind_verdict(found: &FoundEnds) -> Verdict
+    ensures { result ≡ no_kind_verdict found.now }
+{
+    if is_whole(found) {
+        Verdict::Ended(Status::ImageRefused)
+    } else {
+        Verdict::Unknown
+    }
+}

@@ -1,0 +1,100 @@
+//! A chip that comes to rest before its orders are run.
+
+ghost use Rattle.std.specs.Prelude.{◌≡◌, ◌==◌, OnOk, is_none};
+ghost use Rattle.ga_ports.specs.Address.{classified};
+ghost use Rattle.ga_node.specs.Record.{record_of};
+ghost use Rattle.ga_node.specs.Table.{refusal};
+ghost use Rattle.ga_lab.specs.Machine.{stepped};
+ghost use Rattle.ga_check_report.specs.Settled.{are_ports, fetches_from_ports, settled_at, settled, begun_from};
+
+use ga_grid::NodeId;
+use ga_lab::{Lab, LabFault};
+use ga_node::{Node, Place};
+use ga_ports::{Target, classify};
+use std::alloc::AllocError;
+
+/// Where `settles` is set, makes the event of each node by which it comes to wait for code, where that is its next, in the order of
+/// their numbers. Where the lab's limit is reached it makes no more.
+///
+/// # Errors
+/// Out of memory; some of the events may be kept then.
+pub fn settle(lab: &mut Lab, settles: bool) -> Result<(), AllocError>
+    ensures ok { OnOk result (lab.new ≡ begun_from settles lab.old) }
+{
+    if settles { settle_all(lab) } else { Ok(()) }
+}
+
+fn settle_all(lab: &mut Lab) -> Result<(), AllocError>
+    ensures ok { OnOk result (lab.new ≡ settled lab.old) }
+{
+    'nodes: for number in 0..144u8 {
+        settle_node(lab, NodeId::new(number))?;
+    }
+    Ok(())
+}
+
+fn settle_node(lab: &mut Lab, node: NodeId) -> Result<(), AllocError>
+    ensures ok { OnOk result (lab.new ≡ settled_at lab.old node) }
+{
+    if fetches_from_ports(lab.node(node)) {
+        step(lab, node)
+    } else {
+        Ok(())
+    }
+}
+
+/// A step of a node, where it is not refused.
+fn step(lab: &mut Lab, node: NodeId) -> Result<(), AllocError>
+    ensures ok { OnOk result (lab.new ≡ stepped lab.old node) }
+{
+    match lab.step(node) {
+        Ok(_) => Ok(()),
+        Err(why) => {
+            if why == LabFault::Memory {
+                Err(AllocError)
+            } else {
+                Ok(())
+            }
+        }
+    }
+}
+
+/// Whether a node's next event is to wait for code.
+fn fetches_from_ports(at: &Node) -> bool
+    ensures { result ≡ fetches_from_ports (record_of at.now) }
+{
+    runs(at) && is_fetch_due(at) && are_ports(target_of_p(at))
+}
+
+fn runs(at: &Node) -> bool
+    ensures { result ≡ is_none (refusal (record_of at.now)) }
+{
+    at.not_ready().is_none()
+}
+
+#[tactic(auto, unfolding(ga_node::specs::Record::record_of))]
+fn is_fetch_due(at: &Node) -> bool
+    ensures { result ≡ (record_of at.now).slot == 4 }
+{
+    at.get(Place::Slot) == 4
+}
+
+/// What a node's P names.
+#[tactic(auto, unfolding(ga_node::specs::Record::record_of))]
+fn target_of_p(at: &Node) -> Target
+    ensures { result ≡ classified (record_of at.now).p }
+{
+    classify(at.get(Place::P))
+}
+
+fn are_ports(target: Target) -> bool
+    ensures { result ≡ are_ports target }
+{
+    match target {
+        Target::Ports(_) => true,
+        Target::Ram(_) => false,
+        Target::Rom(_) => false,
+        Target::Io => false,
+        Target::Bad => false,
+    }
+}

@@ -1,4 +1,0 @@
-pub mod OrdersOut
-pub mod Verdicts
-pub mod GoodEnds
-pub mod Resting

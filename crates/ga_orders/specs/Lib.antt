@@ -1,4 +1,0 @@
-pub mod OrderTexts
-pub mod Settled
-pub mod EveryOrder
-pub mod inner

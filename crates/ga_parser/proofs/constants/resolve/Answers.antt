@@ -1,0 +1,16 @@
+use Rattle.std.proofs.Common.{◌∙◌, sym, ap}
+use Rattle.std.proofs.lemmas.List.{drop_all}
+use Rattle.ga_parser.specs.Constants.{Resolution, past_last}
+use Rattle.ga_parser.specs.inner.Resolving.{resolving_of}
+use Rattle.ga_parser.proofs.Resolving.{one_resolved, none_resolved}
+use Rattle.ga_parser.proofs.constants.resolve.Goals as goal
+
+pub loop-i-preserved : goal.loop-i-preserved
+loop-i-preserved c =
+    sym (one_resolved (resolving_of c.loop-i.all) (resolving_of c.take.new.self) c.args.words.now c.loop-i.i _ c.text_at.result.now c.loop-i-test.true c.text_at.ensures c.in_ok-take.ensures)
+    ∙ c.loop-i.invariant
+
+pub returns : goal.returns
+returns c =
+    ap (λ (r : Resolution). r.words) (c.in_ok-end.ensures
+    ∙ ap past_last (sym (none_resolved (resolving_of c.loop-i.all) _ (drop_all c.loop-i.i c.args.words.now c.loop-i-test.false)) ∙ c.loop-i.invariant))

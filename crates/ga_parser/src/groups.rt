@@ -1,0 +1,122 @@
+//! Words in which each node has a `node` of its own.
+
+ghost use Rattle.std.specs.Prelude.{◌≡◌, ◌++◌, IfOk, OnOk};
+ghost use Rattle.ga_parser.specs.Groups.{grouped as grouped_by, begins_node as begins_by, is_further as is_further_by, begun_after as begun_by, behind_names as behind_names_in, body as body_in, words_before};
+ghost use Rattle.ga_parser.specs.Groups.Beginning.{Nothing};
+ghost use Rattle.ga_parser.specs.inner.Placing.{placed, placed_all};
+ghost use Rattle.ga_parser.specs.inner.Grouping.{begun_of};
+
+use super::scan::{Token, TokenKind};
+use ga_grid::node_number;
+use std::alloc::{AllocError, Global};
+
+/// What comes before a word.
+#[derive(Clone, Copy)]
+pub(crate) enum Naming<'s> {
+    /// Neither `node` nor a name.
+    Nothing,
+    /// This `node`.
+    Node(Token<'s>),
+    /// A name on the line of this `node`.
+    Name(Token<'s>),
+}
+
+/// Whether the word is `node`.
+fn begins(word: &Token<'_>) -> bool
+    ensures { result ≡ begins_by (placed word.now) }
+{
+    word.text == b"node".as_slice()
+}
+
+/// Whether a word after a name is a name too: three digits on the line of `node`.
+fn is_further(node: Token<'_>, word: &Token<'_>) -> bool
+    ensures { result ≡ is_further_by (placed node.entry) (placed word.now) }
+{
+    word.kind == TokenKind::Word && word.line == node.line && node_number(word.text).is_some()
+}
+
+/// What comes before the next word.
+fn begun_after<'s>(begun: Naming<'s>, word: Token<'s>) -> Naming<'s>
+    ensures { begun_of result ≡ begun_by (begun_of begun.entry) (placed word.entry) }
+{
+    if begins(&word) {
+        return Naming::Node(word);
+    }
+    match begun {
+        Naming::Nothing => Naming::Nothing,
+        Naming::Node(node) => Naming::Name(node),
+        Naming::Name(node) => {
+            if is_further(node, &word) {
+                Naming::Name(node)
+            } else {
+                Naming::Nothing
+            }
+        }
+    }
+}
+
+/// The words after further names.
+fn behind_names<'a, 's>(node: Token<'s>, words: &'a [Token<'s>]) -> &'a [Token<'s>]
+    ensures { placed_all result.now ≡ behind_names_in (placed node.entry) (placed_all words.now) }
+{
+    for (i, word) in words.iter().enumerate() {
+        if !is_further(node, word) {
+            return words.split_at(i).1;
+        }
+    }
+    &[]
+}
+
+/// The words before the next `node`.
+fn body<'a, 's>(words: &'a [Token<'s>]) -> &'a [Token<'s>]
+    ensures { placed_all result.now ≡ body_in (placed_all words.now) }
+{
+    for (i, word) in words.iter().enumerate() {
+        if begins(word) {
+            return words.split_at(i).0;
+        }
+    }
+    words
+}
+
+/// Adds what comes before a further name: the program, if the words are to be whole, and `node`.
+fn push_before<'s>(
+    all: &mut Vec<Token<'s>>,
+    is_whole: bool,
+    begun: Naming<'s>,
+    word: &Token<'s>,
+    rest: &[Token<'s>],
+) -> Result<(), AllocError>
+    ensures { OnOk result (placed_all all.new.items ≡ placed_all all.old.items ++ words_before is_whole (begun_of begun.entry) (placed word.now) (placed_all rest.now)) }
+{
+    let Naming::Name(node) = begun else {
+        return Ok(());
+    };
+    if !is_further(node, word) {
+        return Ok(());
+    }
+    if is_whole {
+        all.extend_from_slice(body(behind_names(node, rest)))?;
+    }
+    all.push(node)?;
+    Ok(())
+}
+
+/// The words with a `node` before each name of a node. If they are to be whole, the program of several nodes comes after each name,
+/// otherwise after the last alone.
+pub(crate) fn grouped<'s>(
+    alloc: Global,
+    words: &[Token<'s>],
+    is_whole: bool,
+) -> Result<Vec<Token<'s>>, AllocError>
+    ensures { IfOk result (λ all. placed_all all.items ≡ grouped_by is_whole Nothing (placed_all words.now)) }
+{
+    let mut all = Vec::new(alloc);
+    let mut begun = Naming::Nothing;
+    for (i, word) in words.iter().enumerate() {
+        push_before(&mut all, is_whole, begun, word, words.split_at(i + 1).1)?;
+        all.push(*word)?;
+        begun = begun_after(begun, *word);
+    }
+    Ok(all)
+}

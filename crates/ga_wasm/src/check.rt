@@ -1,0 +1,44 @@
+//! How a program can end, as one call.
+
+ghost use Rattle.std.specs.Prelude.{◌≡◌, ◌++◌, length, take, false};
+ghost use Rattle.ga_text.specs.Lines.{Bytes};
+ghost use Rattle.ga_check_report.specs.Checking.{ChecksEnds};
+ghost use Rattle.ga_check_report.specs.declared.report.Verdict.{Verdict as Found};
+
+use crate::buffer::{put_front, streams};
+use ga_check_report::{CheckBounds, check_ends};
+use ga_state_search::SearchWatch;
+use std::alloc::Global;
+
+/// The kinds of ends of a program, an image or source, in whatever order its nodes run, of at most `most` stored states. If `asked` isn't
+/// 0, the lines `step NNN` that lead to the first end of the kind of this number, of at most `limit` events. As far as there is room for
+/// them; returns how many bytes they have.
+#[unsafe(no_mangle)]
+pub extern "C" fn ga_check(
+    alloc: Global,
+    input: &[u8],
+    output: &mut [u8],
+    most: u32,
+    limit: u32,
+    asked: u32,
+) -> usize
+    ensures { (read rest text : Bytes) × (found : Found) × (input.now ≡ read ++ rest)
+        × ChecksEnds (record { most = most; seconds = 0 }) limit false asked read rest text found
+        × (result ≡ length text) × (take result output.new ≡ take (length output.old) text) }
+{
+    let (mut reader, mut answer, mut errors) = streams(alloc, input);
+    let bounds = CheckBounds { most, seconds: 0 };
+    let watch = SearchWatch::new();
+    let _verdict = check_ends(
+        alloc,
+        &mut reader,
+        &mut answer,
+        &mut errors,
+        bounds,
+        limit,
+        false,
+        asked,
+        &watch,
+    );
+    put_front(output, answer.as_slice())
+}
