@@ -84,7 +84,8 @@ return [x, y, it === at || it.contains(at)]""")
         if not inside:
             raise RuntimeError(f"nothing to click at: {element}")
         self.call("Input.dispatchMouseEvent", type="mouseMoved", x=left, y=top)
-        self.run("window.clicked = performance.now()")
+        # a person needs some time between pointing and pressing, in which the page is idle
+        self.run("await new Promise(it => setTimeout(it, 100)); window.clicked = performance.now()")
         for kind in ("mousePressed", "mouseReleased"):
             self.call("Input.dispatchMouseEvent", type=kind, x=left, y=top, button="left", clickCount=1)
         return self.run("await new Promise(requestAnimationFrame); return performance.now() - window.clicked")

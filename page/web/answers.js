@@ -3,6 +3,7 @@ const NAMES = [];
 for (let y = 0; y < 8; y++) for (let x = 0; x < 18; x++) NAMES.push(`${y}${String(x).padStart(2, "0")}`);
 const NUMBER = Object.fromEntries(NAMES.map((name, i) => [name, i]));
 const NODES = NAMES.map(n => "node " + n);
+const STEPS = NAMES.map(n => `step ${n}\n`);
 
 const NO_MEMORY = "no 4 memory";
 const EVENT = /^(?:(\d{3}) (\d+) (fetch|run ([0-9a-f]{2})|wait|stop (\d+))|pass (\d{3}) (\d+) (\d{3}) (\d+) ([0-9a-f]{6}))$/;

@@ -166,9 +166,18 @@ class Page {
     this.draw();
   }
 
+  // The node whose program has a word; null where that names no node.
+  node_of_word(key) { const { text } = this.source, name = text.node_at(text.row_of(key), +key.split(":")[1] || 0); return NAMES.includes(name) ? name : null; }
+
+  // Walks the steps of a word's node once the page is idle, so that a click on the word needn't wait for that.
+  prepare_word(key) {
+    const { places } = this.session, name = this.node_of_word(key);
+    if (name && !places.whole[name]) when_idle(() => { if (places === this.session.places) places.all_of(name); });
+  }
+
   // Chooses the first step of a word, or the next one after the chosen step.
   choose_word(key) {
-    const { text } = this.source, name = text.node_at(text.row_of(key), +key.split(":")[1] || 0), steps = NAMES.includes(name) ? this.session.places.steps_of(name, key, text) : [];
+    const { text } = this.source, name = this.node_of_word(key), steps = name ? this.session.places.steps_of(name, key, text) : [];
     const now = this.chosen && this.chosen[0] === name ? this.chosen[1] : 0, at = Math.max(0, steps.includes(now) ? steps.findIndex(it => it > now) : 0);
     if (steps.length) this.show([name, steps[at]]);
     find("wordnote").textContent = steps.length ? `${text.word(key)}: ${at + 1} of ${steps.length} step${steps.length > 1 ? "s" : ""}` : `${text.word(key)}: no step`;
@@ -199,11 +208,10 @@ class Page {
   }
 
   mark(marks) {
+    const { first, second } = this.session.numbers, touched = [0, 1, 2].map(() => new Uint8Array(NODES.length + 1));
+    marks.forEach((mark, at) => { touched[mark][first[at]] = touched[mark][second[at]] = 1; if (mark === GOES) this.goes++; });
+    this.touched = touched.map(it => new Set(NAMES.filter((_, n) => it[n])));
     this.marks = marks;
-    for (const { place, ends } of this.session.events) {
-      for (const [n] of ends) this.touched[marks[place]].add(n);
-      if (marks[place] === GOES) this.goes++;
-    }
   }
 
   // Takes the chosen step back, or makes the other outcome of a race; either can be undone by `redo`.

@@ -5,6 +5,7 @@ class SourcePane {
   constructor(page) {
     this.page = page; this.list = new List(find("source"), row => this.row(row)); this.text = null;
     find("source").onclick = event => { const key = event.target.dataset.key; if (key) page.choose_word(key); };
+    find("source").onpointerover = event => { const key = event.target.dataset.key; if (key) page.prepare_word(key); };
   }
   // The program of a session: source as it is, of an image the cells of the nodes that it names.
   set(session, names) {

@@ -45,8 +45,9 @@ class Places {
   fetched(name, from, upto) {
     const { session } = this, trace = session.traces[name] || [], start = Math.max(1, from - 40), end = Math.min(upto, trace.length), asked = [], texts = [];
     const is_asked = (k, { label }) => k === start || label === "fetch" || label === "wait" || label.startsWith("stop") || trace[k - 2].label === "unext";
-    const steps = end < start ? "" : lines_of(saved(session.events.slice(0, trace[end - 1].place))), wide = "step 000\n".length;
-    let made = 0;
+    const wide = STEPS[0].length;
+    let steps = "", made = 0;
+    if (end >= start) for (const n of session.numbers.first.subarray(0, trace[end - 1].place)) steps += STEPS[n];
     for (let k = start; k <= end; k++) if (is_asked(k, trace[k - 1])) {
       const { place } = trace[k - 1];
       texts.push(steps.slice(made * wide, place * wide), `node ${name}\n`);
@@ -86,13 +87,18 @@ class Places {
     return keys;
   }
 
-  // The steps of a node that came from a word, without fetches and filled slots.
-  steps_of(name, key, text) {
+  // The cell, the slot and the word of each step of a node. All its steps are walked once, until the history changes.
+  all_of(name) {
     if (!this.whole[name]) {
       const found = this.fetched(name, 1, this.steps(name));
       this.whole[name] = { ...found, keys: this.keys(name, found) };
     }
-    const { cells, slots, keys } = this.whole[name], trace = this.session.traces[name] || [], steps = [];
+    return this.whole[name];
+  }
+
+  // The steps of a node that came from a word, without fetches and filled slots.
+  steps_of(name, key, text) {
+    const { cells, slots, keys } = this.all_of(name), trace = this.session.traces[name] || [], steps = [];
     for (let k = 1; k < cells.length; k++) if (slots[k] >= 0 && cells[k] >= 0 && keys[cells[k] * 8 + slots[k]] === key && !text.is_filler(key, trace[k - 1].label)) steps.push(k);
     return steps;
   }

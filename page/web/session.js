@@ -29,7 +29,7 @@ class Session {
     const said = this.core.answer(image, this.limit);
     if (said !== READY) return said === null ? NO_MEMORY : said.trim() || "no image";
     const long = source && load.length < MOST_NAMED ? lengthened(load) : load, named = long !== load && this.core.assemble(long).image === image ? long : load;
-    Object.assign(this, { load, named, image, told: told.trim(), listing, is_source: source, commands: "", is_plain: true, said, events: [], steps: {}, traces: {}, loaded: {}, made_again: [] });
+    Object.assign(this, { load, named, image, told: told.trim(), listing, is_source: source, commands: "", is_plain: true, said, events: [], steps: {}, traces: {}, numbered: null, loaded: {} });
     this.places = new Places(this);
     return null;
   }
@@ -118,14 +118,26 @@ class Session {
   keep(event) {
     event.place = this.events.length;
     this.events.push(event);
+    this.numbered = null;
     for (const [n, k] of event.ends) { this.steps[n] = k; (this.traces[n] = this.traces[n] || []).push(event); }
   }
-  keep_all(events) { Object.assign(this, { events: [], steps: {}, traces: {} }); for (const it of events) this.keep(it); }
-  drop() { for (const [n, k] of this.events.pop().ends) { this.steps[n] = k - 1; this.traces[n].pop(); } }
+  keep_all(events) { Object.assign(this, { events: [], steps: {}, traces: {}, numbered: null }); for (const it of events) this.keep(it); }
+  drop() { this.numbered = null; for (const [n, k] of this.events.pop().ends) { this.steps[n] = k - 1; this.traces[n].pop(); } }
 
   // The session as it is now, and back to that: its text is what it was, so its history and its chip are too.
   now() { const { commands, said, is_plain, events } = this; return { commands, said, is_plain, events: events.slice() }; }
   restore({ events, ...texts }) { Object.assign(this, texts); this.places.forget(); this.keep_all(events); }
+
+  // The numbers of the nodes of each kept event: the first one, which makes it, and the second one of a pass, else NODES.length. They
+  // are kept until the history changes.
+  get numbers() {
+    if (!this.numbered) {
+      const { length } = this.events, first = new Uint8Array(length), second = new Uint8Array(length).fill(NODES.length);
+      this.events.forEach(({ ends: [[one], other] }, at) => { first[at] = NUMBER[one]; if (other) second[at] = NUMBER[other[0]]; });
+      this.numbered = { first, second };
+    }
+    return this.numbered;
+  }
 
   event_at([name, step]) { return (this.traces[name] || [])[step - 1]; }
   // Whether a node did more than come to wait.
@@ -133,8 +145,7 @@ class Session {
 
   // Of each kept event, how it relates to that of a step: 2 would go with it, 1 leads to it, 0 neither. Null for want of memory.
   marks(step) {
-    const nodes = Uint8Array.from(this.events, it => NUMBER[it.ends[0][0]]);
-    return this.core.shades(this.image, nodes, this.event_at(step).place);
+    return this.core.shades(this.image, this.numbers.first, this.event_at(step).place);
   }
 
   // What is drawn: all nodes, one node's cells, the counts; and with a step what its rollback would take, and the chip after that.

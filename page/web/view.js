@@ -2,6 +2,8 @@
 const find = id => document.getElementById(id);
 const safe = text => text.replace(/&/g, "&amp;").replace(/</g, "&lt;");
 const hex = (number, digits) => number.toString(16).padStart(digits, "0");
+// Calls a function as soon as the page has nothing else to do.
+const when_idle = window.requestIdleCallback ? it => requestIdleCallback(it) : it => setTimeout(it, 50);
 function element(tag, kind, text) { const it = document.createElement(tag); if (kind) it.className = kind; if (text !== undefined) it.textContent = text; return it; }
 
 // Which way a side of a node leads: its row and column say.
@@ -12,7 +14,7 @@ function compass(name, side) {
   return (side === "d") === (y % 2 === 1) ? "S" : "N";
 }
 
-// The opcodes of an instruction word, and how many literals stand behind it.
+// The opcodes of an instruction word, and the number of literals after it.
 function decode(word) {
   const x = word ^ 0x15555, names = [];
   let literals = 0;
