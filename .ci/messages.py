@@ -17,8 +17,8 @@ with open(f"{ROOT}/crates/ga_dap_protocol/src/framing.rt", encoding="utf-8") as 
 LONG = {"letters": (b'"', b"a", b'"'), "numbers": (b"[", b"1,", b"1]"), "texts": (b"[", b'"a",', b"1]"), "lists": (b"[", b"[1],", b"1]"), "maps": (b"[", b'{"":1},', b"1]"), "deep lists": (b"[", b"[[[[1]]]],", b"1]")}
 # What is refused within a run.
 STANDING = ("continue", "next", "stepIn", "stepOut", "stepBack", "reverseContinue", "evaluate")
-# Requests at their bounds, over sources/fault.f18; a number past 2^64 is none.
-PROGRAM, LINES = "sources/fault.f18", {"source": {"path": "sources/fault.f18"}}
+# Requests at their bounds, over examples/fault.f18; a number past 2^64 is none.
+PROGRAM, LINES = "examples/fault.f18", {"source": {"path": "examples/fault.f18"}}
 AT_BOUNDS = [
     ("initialize", {"adapterID": "ga144", "linesStartAt1": False}), ("initialize", {"adapterID": "ga144", "columnsStartAt1": False}), ("initialize", {"adapterID": "ga144", "pathFormat": "uri"}), ("initialize", {"adapterID": "ga144"}),
     ("threads", None), ("launch", {"program": PROGRAM, "limit": 100000001}), *(("launch", {"program": PROGRAM, "order": "random", "seed": it}) for it in (2**32, 2**70, -1)), ("launch", {"program": PROGRAM, "limit": 100000000}), ("launch", {"program": PROGRAM}),
@@ -64,7 +64,7 @@ def wrong_inputs(room):
     """Wrong input by its name: the bytes, the status, and in a few words the messages that come of it; behind a status the last is what
     standard error says."""
     start, end = request(1, "initialize", adapterID="ga144"), request(9, "disconnect")
-    stands = start + request(2, "launch", program=f"{ROOT}/sources/fault.f18") + request(3, "configurationDone")
+    stands = start + request(2, "launch", program=f"{ROOT}/examples/fault.f18") + request(3, "configurationDone")
     begun = ["initialize", "launch", "initialized", "configurationDone", "thread", "thread", "thread", "stopped"]
     field, header_end = "the header does not begin with `Content-Length: `", "the header does not end behind `Content-Length`"
     no_number, long, cut = "`Content-Length` is no number", f"`Content-Length` is more than {LONGEST}", "the input ends within a message"

@@ -461,7 +461,7 @@ def compared(row):
 
 def main():
     if sys.argv[1:] == ["--compare"]:
-        rows = [it for it in open(".ci/files", encoding="utf-8") if re.match(r"\w+ (?:examples|sessions)/", it)]
+        rows = [it for it in open(".ci/files", encoding="utf-8") if re.match(r"\w+ examples/", it)]
         wrong = [f"docs/pictures: {it.split()[0]}: {what}" for it in rows if (what := compared(it))]
         if wrong or not rows:
             sys.exit("\n".join(wrong or ["no rows"]))

@@ -4,7 +4,7 @@ import json, os
 from looks import EIGHTEEN
 
 TOP = os.path.dirname(os.path.dirname(os.path.dirname(os.path.abspath(__file__))))
-with open(f"{TOP}/sources/fault.f18") as it:
+with open(f"{TOP}/examples/fault.f18") as it:
     FAULT = it.read()
 MOST_MS, MOST_RUNS = 400, 12
 

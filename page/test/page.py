@@ -1,7 +1,7 @@
 #!/usr/bin/env python3
 """Tests page/out/ga144.html in a headless browser: page.py [SHOTS]. With SHOTS, a folder, it also takes screenshots and measures times.
 
-1. The page's core answers the sessions of examples/, sessions/ and sessions/explore/ and generated ones as expected, and assembles and lists
+1. The page's core answers the sessions of examples/debug/ and examples/explore/ and generated ones as expected, and assembles and lists
    generated sources like the reference model in model/, byte for byte.
 2. Random clicks. A rollback must remove the events that the page announces, the chip must be that of the preview, and the causes those of
    `why`. At the end, the session's text must give the same chip again: in the page, and in the program if `rt ci` built one.
@@ -50,7 +50,7 @@ def ready(browser, address):
 def cases(room):
     subprocess.run([sys.executable, "-B", f"{TOP}/model/sessions.py", "--write", room, "0", str(SESSIONS)], check=True, stdout=subprocess.DEVNULL)
     # each with the default limit of its command
-    limits = {f"{TOP}/examples": 1000000, f"{TOP}/sessions": 1000000, f"{TOP}/sessions/explore": 20000000, room: 1000000}
+    limits = {f"{TOP}/examples/debug/programs": 1000000, f"{TOP}/examples/debug": 1000000, f"{TOP}/examples/explore": 20000000, room: 1000000}
     for folder, limit in limits.items():
         for name in sorted(os.listdir(folder)):
             if name.endswith(".stdout"):
@@ -91,9 +91,9 @@ def conformance(browser):
 
 def sources(browser):
     texts = [read for seed in range(SOURCES) for read in (Generator(seed).source(), changed(seed))]
-    for name in sorted(os.listdir(f"{TOP}/sources")):
+    for name in sorted(os.listdir(f"{TOP}/examples")):
         if name.endswith(".f18"):
-            with open(f"{TOP}/sources/{name}", encoding="latin1") as it:
+            with open(f"{TOP}/examples/{name}", encoding="latin1") as it:
                 texts.append(it.read())
     for at, text in enumerate(texts):
         image, messages, _ = asm(text)

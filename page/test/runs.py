@@ -2,9 +2,9 @@
 import json, os
 
 TOP = os.path.dirname(os.path.dirname(os.path.dirname(os.path.abspath(__file__))))
-with open(f"{TOP}/sources/first_come.f18") as it:
+with open(f"{TOP}/examples/first_come.f18") as it:
     FIRST_COME = json.dumps(it.read())
-with open(f"{TOP}/examples/fault") as it:
+with open(f"{TOP}/examples/debug/programs/fault") as it:
     FAULT = json.dumps(it.read().split("end\n")[0] + "end\n")
 
 # Functions of the tests: the answer after the last `>` of the log, a key press, and the answer of the core to a line. The tests begin with the
@@ -79,7 +79,7 @@ return { reached, answer, before, now: logged(), hidden: find("whence").hidden }
 
 def ends(browser, check):
     """The ends of a program; the session of a kind by a click, and back by `redo`."""
-    path = f"{TOP}/sessions/check/status-5/a_key_for_who_asked_second"
+    path = f"{TOP}/examples/check/status-5/a_key_for_who_asked_second"
     with open(path) as typed, open(f"{path}.stdout") as wanted:
         text, lines = typed.read(), wanted.read().split("\n")[:-1]
     result = browser.run(USED + """

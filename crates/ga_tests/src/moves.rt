@@ -200,7 +200,7 @@ fn found(word: Option<SlotWord>) -> Option<(u8, usize, usize, u32, u32)> {
     Some((word.cell, word.first, word.last, word.line, word.column))
 }
 
-// The answers for these words are in the folder `sessions/explore` at the top.
+// The answers for these words are in the folder `examples/explore` at the top.
 #[test]
 fn lines_have_words(rt: HostRuntime) -> Result<(), Fail> {
     let (_, notes) = begun(&rt, rt.alloc(), LONG_LINE, 0)?;
